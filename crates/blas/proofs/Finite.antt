@@ -1,0 +1,46 @@
+-- Which columns are finite: by their rows, so that an exchange of rows changes nothing. Assumes nothing.
+use Prim.Native.Nat.{ℕ, zero, suc, _<_}
+use native.Mathlib.Nat.{not-suc-le-zero, le-of-suc-le-suc}
+use native.Mathlib.Omega.{arith}
+use mathlib.Core.Path.{_≡_, refl, sym, ap, _∙_}
+use mathlib.Core.Bool.{Bool, true, _&&_, and-assoc}
+use mathlib.Core.List.{[], _∷_, _++_}
+use lib.ListN.{length}
+use lib.Ieee.{nan, ofBits}
+use lib.Ieee.Scale.{finite}
+use Rattle.blas.specs.Column.{Column, entry, swapRows, allFinite, zeros}
+use Rattle.blas.proofs.Choice.{and-first, and-second, and-both, same-test}
+use Rattle.blas.proofs.Exchange.{other, other-range, exchanged-cases, length-exchanged, getD-exchanged, exchanged-twice}
+
+pub finite-entry : (c : Column) (k : ℕ) → allFinite c ≡ true → k < length c → finite (entry c k) ≡ true
+unfolding allFinite
+finite-entry [] k e h = absurd (not-suc-le-zero h)
+finite-entry (x ∷ c) zero e h = and-first (finite x) (allFinite c) e
+finite-entry (x ∷ c) (suc k) e h = finite-entry c k (and-second (finite x) (allFinite c) e) (le-of-suc-le-suc h)
+
+pub entries-finite : (c : Column) → ((k : ℕ) → k < length c → finite (entry c k) ≡ true) → allFinite c ≡ true
+unfolding allFinite
+entries-finite [] f = refl
+entries-finite (x ∷ c) f = and-both (finite x) (allFinite c) (f 0 (omega arith)) (entries-finite c (λ k h. f (suc k) (omega arith)))
+
+pub finite-zeros : (n : ℕ) → allFinite (zeros n) ≡ true
+unfolding allFinite ofBits
+finite-zeros zero = refl
+finite-zeros (suc n) = finite-zeros n
+
+pub finite-append : (c d : Column) → allFinite (c ++ d) ≡ (allFinite c && allFinite d)
+unfolding allFinite
+finite-append [] d = refl
+finite-append (x ∷ c) d = ap (λ (t : Bool). finite x && t) (finite-append c d) ∙ sym (and-assoc (finite x) (allFinite c) (allFinite d))
+
+swap-finite : (a b : ℕ) (c : Column) → allFinite c ≡ true → allFinite (swapRows a b c) ≡ true
+swap-finite a b c e =
+    exchanged-cases nan a b (length c)
+    (λ ha hb. entries-finite (swapRows a b c) λ k h.
+    let hk : k < length c = rw length-exchanged at h in
+    rw (getD-exchanged nan a b c k ha hb) (finite-entry c (other a b k) e (other-range a b k (length c) ha hb hk)))
+    (λ out. rw (out c refl) e)
+
+pub finite-swap : (a b : ℕ) (c : Column) → allFinite (swapRows a b c) ≡ allFinite c
+finite-swap a b c =
+    same-test _ _ (λ e. rw (exchanged-twice nan a b c) at (swap-finite a b (swapRows a b c) e)) (swap-finite a b c)

@@ -1,0 +1,10 @@
+pub mod Choice
+pub mod Each
+pub mod Exchange
+pub mod Finite
+pub mod FiniteTest
+pub mod One
+pub mod Pivot
+pub mod Rows
+pub mod Sum
+pub mod Walk

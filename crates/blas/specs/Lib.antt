@@ -1,0 +1,4 @@
+pub mod Numbers
+pub mod Each
+pub mod Column
+pub mod Dot

@@ -1,0 +1,41 @@
+// Document 01, "Refusal numbers": what the calls share of testing their input and of answering.
+ghost use mathlib.Core.Path.{_≡_};
+ghost use Rattle.refusals.specs.Refusals.{outside, answerOf, seventh};
+
+// What a call answers whose results are lent slices.
+pub enum Answer {
+    Done,
+    Refused(usize),
+}
+
+// Whether a size lies outside `least` to 64.
+pub fn outside(least: usize, size: usize) -> bool
+    ensures { λ r. ⌜ r ≡ outside least size ⌝ }
+{
+    if size < least {
+        return true;
+    }
+    64 < size
+}
+
+// The answer for a refusal number, 0 being none.
+pub fn answer_for(number: usize) -> Answer
+    ensures { λ r. ⌜ r ≡ answerOf number ⌝ }
+{
+    if number == 0 {
+        return Answer::Done;
+    }
+    Answer::Refused(number)
+}
+
+// Refusal 7: where some result is not finite, all results become +0.0. Answers 7 then, else 0.
+pub fn settle(result: &mut [f64]) -> usize
+    ensures { λ r. ⌜ r ≡ seventh (now (result .entry)) .number ⌝ }
+    ensures { λ _. ⌜ now (result .exit) ≡ seventh (now (result .entry)) .result ⌝ }
+{
+    if blas::all_finite(result) {
+        return 0;
+    }
+    blas::fill_zero(result);
+    7
+}
