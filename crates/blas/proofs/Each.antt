@@ -7,7 +7,7 @@ use native.Mathlib.Nat.{le-of-suc-le-suc, not-suc-le-zero, sub-zero}
 use native.Mathlib.Numerals.{add-one}
 use native.Mathlib.Omega.{arith}
 use lib.ListN.{length, getD, set, replicate}
-use Rattle.blas.specs.Each.{eachFrom, turnsFrom}
+use Rattle.blas.specs.Each.{eachFrom, turnsFrom, listOf}
 
 module _ {A : Type 0} where
   pub length-each : (f : ℕ → A → A) (k : ℕ) (l : List A) → length (eachFrom f k l) ≡ length l
@@ -91,6 +91,23 @@ module _ {A : Type 0} where
   each-over [] (y ∷ l) d e = absurd (omega (arith, e))
   each-over (x ∷ xs) [] d e = absurd (omega (arith, e))
   each-over (x ∷ xs) (y ∷ l) d e = ap (λ (t : List A). x ∷ t) (each-over xs l d (omega (arith, e)))
+
+  -- each entry written anew
+  pub each-list : (f : ℕ → A) (l : List A) → eachFrom (λ i v. f i) 0 l ≡ listOf (length l) f
+  unfolding eachFrom listOf
+  each-list f [] = refl
+  each-list f (y ∷ l) = ap (λ (t : List A). f 0 ∷ t) (each-list (λ i. f (suc i)) l)
+
+  pub length-list : (n : ℕ) (f : ℕ → A) → length (listOf n f) ≡ n
+  unfolding listOf
+  length-list zero f = refl
+  length-list (suc n) f = ap suc (length-list n (λ i. f (suc i)))
+
+  pub list-at : (n : ℕ) (f : ℕ → A) (i : ℕ) (d : A) → i < n → getD (listOf n f) i d ≡ f i
+  unfolding listOf
+  list-at zero f i d h = absurd (not-suc-le-zero h)
+  list-at (suc n) f zero d h = refl
+  list-at (suc n) f (suc i) d h = list-at n (λ j. f (suc j)) i d (le-of-suc-le-suc h)
 
   pub each-fill : (x : A) (l : List A) → eachFrom (λ i v. x) 0 l ≡ replicate (length l) x
   unfolding eachFrom

@@ -71,6 +71,11 @@ module _ {A : Type 0} (d : A) (a b : ℕ) where
       (λ n e. getD-set-other s b k (getD l a d) d n ∙ rw e (getD-set-same l a (getD l b d) d ha))
       (λ n m. getD-set-other s b k (getD l a d) d n ∙ getD-set-other l a k (getD l b d) d m))
 
+  -- what stands above both places stays
+  pub exchanged-above : (l : List A) (k : ℕ) → k < a → k < b → getD (exchanged d a b l) k d ≡ getD l k d
+  exchanged-above l k ka kb =
+      exchanged-cases (length l) (λ ha hb. getD-exchanged l k ha hb ∙ ap (λ (j : ℕ). getD l j d) (other-same a b k ka kb)) (λ out. ap (λ (x : List A). getD x k d) (out l refl))
+
   pub exchanged-twice : (l : List A) → exchanged d a b (exchanged d a b l) ≡ l
   exchanged-twice l =
       let x = exchanged d a b l in

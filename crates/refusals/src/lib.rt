@@ -1,5 +1,6 @@
 // Document 01, "Refusal numbers": what the calls share of testing their input and of answering.
 ghost use mathlib.Core.Path.{_≡_};
+ghost use mathlib.Core.Bool.{cond};
 ghost use Rattle.refusals.specs.Refusals.{outside, answerOf, seventh};
 
 // What a call answers whose results are lent slices.
@@ -16,6 +17,13 @@ pub fn outside(least: usize, size: usize) -> bool
         return true;
     }
     64 < size
+}
+
+// One test of a refusal: its number where it holds, else what the later tests gave. All tests are made; the first that holds counts.
+pub fn first(number: usize, holds: bool, later: usize) -> usize
+    ensures { λ r. ⌜ r ≡ cond holds number later ⌝ }
+{
+    if holds { number } else { later }
 }
 
 // The answer for a refusal number, 0 being none.

@@ -1,0 +1,106 @@
+-- Work on the columns of a slice, one piece after another: where each piece keeps the shape of the matrix, the slice keeps its length and the pieces
+-- join. By the test for a matrix. Assumes nothing.
+use mathlib.Core.Path.{_≡_, refl, sym, ap, _∙_}
+use mathlib.Core.Bool.{Bool, true, false}
+use mathlib.Core.List.{List, [], _∷_}
+use Prim.Native.Nat.{ℕ, _*_, _≤_, _<_}
+use native.Mathlib.Omega.{arith}
+use lib.ListN.{length, getD, drop}
+use lib.Ieee.{Float}
+use Rattle.blas.specs.Column.{Column}
+use Rattle.blas.proofs.Choice.{test-cases}
+use Rattle.blas.proofs.Exchange.{other, other-range, exchanged-cases, length-exchanged, getD-exchanged}
+use Rattle.store.specs.Columns.{columns, flat, HasRows, isMatrix, onColumns}
+use Rattle.store.specs.Steps.{Matrix, swapInAll, rowsSwapped}
+use Rattle.store.proofs.Columns.{sized, same-matrix, length-columns, columns-rows, flat-columns, length-flat, on-none, on-flat, on-same, on-columns}
+use Rattle.store.proofs.Steps.{range-all, length-swapInAll, rows-swapInAll}
+use Rattle.permutation_sequence.specs.SwapList.{Swaps, pairsOf, held}
+use Rattle.permutation_sequence.specs.Permute.{permutedBy, exchangeOf, inOrder}
+use Rattle.permutation_sequence.proofs.SwapList.{held-all, held-none}
+use Rattle.permutation_sequence.proofs.Permute.{permuted-nothing, permuted-end}
+
+-- n columns of m entries each
+abbrev pub Shape : {A : Type 0} → ℕ → ℕ → List (List A) → Type 0
+Shape m n cs = (length cs ≡ n) × HasRows m cs
+
+module _ {A : Type 0} (m n : ℕ) where
+  shaped : (s : List A) → isMatrix m n s ≡ true → Shape m n (columns m n s)
+  shaped s h = (length-columns m n s, columns-rows m n s (sized m n s h .size))
+
+  -- no work
+  pub on-nothing : (f : List (List A) → List (List A)) (s : List A) → ((cs : List (List A)) → Shape m n cs → f cs ≡ cs) → onColumns m n f s ≡ s
+  on-nothing f s none =
+      test-cases (isMatrix m n s)
+      (λ h. on-flat m n f s h ∙ ap flat (none (columns m n s) (shaped s h)) ∙ flat-columns m n s (sized m n s h .size))
+      (λ h. sym (on-none m n f s h))
+
+  module _ (g : List (List A) → List (List A)) (keeps : (cs : List (List A)) → Shape m n cs → Shape m n (g cs)) where
+    pub length-on : (s : List A) → length (onColumns m n g s) ≡ length s
+    length-on s =
+        test-cases (isMatrix m n s)
+        (λ h. let made = keeps (columns m n s) (shaped s h) in
+        ap length (on-flat m n g s h) ∙ length-flat m (g (columns m n s)) (made .1) ∙ ap (λ (k : ℕ). k * m) (made .0) ∙ sym (sized m n s h .size))
+        (λ h. ap length (sym (on-none m n g s h)))
+
+    -- one piece of work behind another
+    pub on-on : (f : List (List A) → List (List A)) (s : List A) → onColumns m n f (onColumns m n g s) ≡ onColumns m n (λ cs. f (g cs)) s
+    on-on f s =
+        let t = onColumns m n g s in
+        test-cases (isMatrix m n s)
+        (λ h. let made = keeps (columns m n s) (shaped s h) in
+        on-flat m n f t (same-matrix m n s t (length-on s) ∙ h)
+        ∙ ap (λ (cs : List (List A)). flat (f cs)) (on-columns m n g s h (made .0) (made .1))
+        ∙ sym (on-flat m n (λ cs. f (g cs)) s h))
+        (λ h. sym (on-none m n f t (same-matrix m n s t (length-on s) ∙ h)) ∙ sym (on-none m n g s h) ∙ on-none m n (λ cs. f (g cs)) s h)
+
+-- rows exchanged in all columns up to the last
+pub on-all : (m n i p : ℕ) (s : List Float) → onColumns m n (rowsSwapped i p 0 n) s ≡ onColumns m n (swapInAll i p) s
+on-all m n i p s =
+    on-same m n (rowsSwapped i p 0 n) s (swapInAll i p) (range-all i p n (columns m n s) (omega (arith, length-columns m n s)))
+
+-- ---- exchanges
+
+-- an exchange keeps the shape
+abbrev pub Keeps : ℕ → ℕ → (ℕ → ℕ → Matrix → Matrix) → Type 0
+Keeps m n exchange = (i j : ℕ) (cs : Matrix) → Shape m n cs → Shape m n (exchange i j cs)
+
+pub exchange-keeps : (columns : Bool) (m n : ℕ) → Keeps m n (exchangeOf columns)
+exchange-keeps true m n i j cs shape =
+    let same = length-exchanged [] i j cs in (
+      same ∙ shape .0,
+      λ k h.
+          let hk : k < length cs = rw same at h in
+          exchanged-cases [] i j (length cs)
+          (λ hi hj. ap length (getD-exchanged [] i j cs k hi hj) ∙ shape .1 (other i j k) (other-range i j k (length cs) hi hj hk))
+          (λ stays. ap (λ (ds : Matrix). length (getD ds k [])) (stays cs refl) ∙ shape .1 k hk),
+    )
+exchange-keeps false m n i j cs shape = (length-swapInAll i j cs ∙ shape .0, rows-swapInAll i m j cs (shape .1))
+
+-- an exchange of the columns of a slice
+abbrev pub onSlice : (ℕ → ℕ → Matrix → Matrix) → ℕ → ℕ → ℕ → ℕ → Column → Column
+onSlice exchange m n i j s = onColumns m n (exchange i j) s
+
+-- exchanges one after the other on a slice are the exchanges on its columns
+module _ (m n : ℕ) (exchange : ℕ → ℕ → Matrix → Matrix) (keeps : Keeps m n exchange) where
+  permuted-on : (swaps : Swaps) (s : Column) → permutedBy (onSlice exchange m n) swaps s ≡ onColumns m n (permutedBy exchange swaps) s
+  unfolding permutedBy
+  permuted-on [] s = sym (on-nothing m n (permutedBy exchange []) s (λ cs g. refl))
+  permuted-on (p ∷ swaps) s =
+      permuted-on swaps (onColumns m n (exchange (p .0) (p .1)) s) ∙ on-on m n (exchange (p .0) (p .1)) (keeps (p .0) (p .1)) (permutedBy exchange swaps) s
+
+  -- what the loop over the pairs of a store leaves: nothing is done where the store does not hold them, and all is done at its end
+  module _ (backwards : Bool) (pairs : ℕ) (store : List ℕ) (s : Column) where
+    pub applied-none : length store < 2 * pairs → s ≡ onColumns m n (permutedBy exchange (inOrder backwards (held pairs store))) s
+    applied-none h =
+        sym (on-nothing m n (permutedBy exchange (inOrder backwards (held pairs store))) s
+        (λ cs g. ap (λ (swaps : Swaps). permutedBy exchange (inOrder backwards swaps) cs) (held-none pairs store h) ∙ permuted-nothing exchange backwards cs))
+
+    pub applied : (k : ℕ) (t : Column) → 2 * pairs ≤ length store → pairs ≤ k
+        → permutedBy (onSlice exchange m n) (drop k (inOrder backwards (pairsOf pairs store))) t
+        ≡ permutedBy (onSlice exchange m n) (inOrder backwards (pairsOf pairs store)) s
+        → t ≡ onColumns m n (permutedBy exchange (inOrder backwards (held pairs store))) s
+    applied k t h g e =
+        sym (permuted-end backwards pairs store (onSlice exchange m n) k t g)
+        ∙ e
+        ∙ permuted-on (inOrder backwards (pairsOf pairs store)) s
+        ∙ ap (λ (swaps : Swaps). onColumns m n (permutedBy exchange (inOrder backwards swaps)) s) (sym (held-all pairs store h))

@@ -1,0 +1,24 @@
+-- The tests one within the other, as the definition has them. Assumes nothing.
+use mathlib.Core.Path.{_≡_}
+use borrow.Author.Needs.{needs}
+use Rattle.refusals.specs.Refusals.{firstOf}
+use Rattle.permutation_sequence.specs.Calls.{appendingRefusal}
+use Rattle.permutation_sequence.proofs.append_refusal.Statement.{statement}
+use Rattle.permutation_sequence.proofs.append_refusal.Tie as tie
+
+returns : tie.Need-returns
+unfolding appendingRefusal firstOf
+returns c = cc
+
+pub append-refusal-spec : {M : Type 1} → statement M
+append-refusal-spec =
+    tie.close
+    (tie.spec
+    (λ c κs. search needs)
+    (λ c κs. search needs)
+    (λ c κs. search needs)
+    (λ c κs. search needs)
+    (λ c κs. search needs)
+    (λ c κs. search needs)
+    (λ c κs. search needs)
+    returns)

@@ -1,0 +1,24 @@
+-- By the refusal. Assumes nothing.
+use mathlib.Core.Path.{sym, _∙_}
+use borrow.Author.Needs.{needs}
+use Rattle.permutation_sequence.specs.Permute.{exchangeOf}
+use Rattle.permutation_sequence.proofs.Permuting.{permuting-refused, permuting-done}
+use Rattle.permutation_sequence.proofs.permute_or_refuse.Statement.{statement}
+use Rattle.permutation_sequence.proofs.permute_or_refuse.Tie as tie
+
+returns : tie.Need-returns
+returns c = permuting-refused (exchangeOf (c .before .before .before .before .before .args .columns)) _ _ _ _ _ _ _ _ (c .before .permuting-refusal .ensures) (c .if1 .taken)
+
+returns-2 : tie.Need-returns-2
+returns-2 c = permuting-done (exchangeOf (c .before .before .before .before .before .before .before .before .before .args .columns)) _ _ _ _ _ _ _ _ (sym (c .before .before .before .before .before .permuting-refusal .ensures) ∙ (c .before .before .before .before .if1 .left)) (c .before .before .apply .ensures)
+
+pub permute-or-refuse-spec : {M : Type 1} → statement M
+permute-or-refuse-spec =
+    tie.close
+    (tie.spec
+    (λ c κs. search needs)
+    (λ c. search needs)
+    returns
+    (λ c κs. search needs)
+    (λ c. search needs)
+    returns-2)

@@ -1,0 +1,3 @@
+pub mod SwapList
+pub mod Permute
+pub mod Calls

@@ -1,0 +1,39 @@
+-- Permuting by a swap list: document 01, "Solving" ("first pair first"), forwards and in reverse, and the sign.
+use mathlib.Core.Bool.{Bool, true, false, cond}
+use mathlib.Core.List.{[], _∷_, reverse}
+use Prim.Native.Nat.{ℕ, _-_, _%_}
+use lib.Dec.{eqb}
+use lib.Ieee.{Float, neg}
+use Rattle.blas.specs.Numbers.{one64}
+use Rattle.blas.specs.Column.{Column, swapRows}
+use Rattle.store.specs.Steps.{Matrix, swapInAll, columnsSwapped}
+use Rattle.permutation_sequence.specs.SwapList.{Swaps}
+
+-- the exchange of each pair in turn, first pair first
+unfoldable pub permutedBy : {X : Type 0} → (ℕ → ℕ → X → X) → Swaps → X → X
+permutedBy exchange [] x = x
+permutedBy exchange (p ∷ swaps) x = permutedBy exchange swaps (exchange (p .0) (p .1) x)
+
+-- the entries of one column, and the rows of a matrix
+abbrev pub permute : Swaps → Column → Column
+permute swaps c = permutedBy swapRows swaps c
+
+abbrev pub rowsPermuted : Swaps → Matrix → Matrix
+rowsPermuted swaps cs = permutedBy swapInAll swaps cs
+
+-- what an exchange of i and j is: of columns, or of rows
+abbrev pub exchangeOf : Bool → ℕ → ℕ → Matrix → Matrix
+exchangeOf true i j cs = columnsSwapped i j cs
+exchangeOf false i j cs = swapInAll i j cs
+
+-- the pairs as they come: in reverse the last pair is first
+unfoldable pub inOrder : Bool → Swaps → Swaps
+inOrder backwards swaps = cond backwards (reverse swaps) swaps
+
+-- the number of the pair that comes at turn k
+unfoldable pub pairOfTurn : Bool → ℕ → ℕ → ℕ
+pairOfTurn backwards pairs k = cond backwards (pairs - 1 - k) k
+
+-- 1.0 for an even number of pairs, -1.0 for an odd one
+unfoldable pub signOf : ℕ → Float
+signOf pairs = cond (eqb (pairs % 2) 0) one64 (neg one64)

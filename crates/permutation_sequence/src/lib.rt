@@ -1,0 +1,241 @@
+// Swap lists: linalg/permutation_sequence.rs of nalgebra 0.35.0, for f64 matrices that lie column after column in a slice.
+// A list is a store of whole numbers, two a pair, and a count of pairs.
+use refusals::Answer;
+ghost use mathlib.Core.Path.{_≡_};
+ghost use mathlib.Core.Bool.{true, false};
+ghost use Prim.Native.Nat.{_<_};
+ghost use Rattle.refusals.specs.Refusals.{answerOf as answerFor};
+ghost use Rattle.store.specs.Columns.{onColumns};
+ghost use Rattle.permutation_sequence.specs.SwapList.{goodPair, goodList, held};
+ghost use Rattle.permutation_sequence.specs.Permute.{permutedBy, rowsPermuted, exchangeOf, inOrder, pairOfTurn, signOf};
+ghost use Rattle.permutation_sequence.specs.Calls.{permutingRefusal, permuting, permutingRows, permutingColumns, appendingRefusal, appending, answerOf};
+
+// What appending answers: the new count, or a refusal's number and the old count.
+pub enum Appended {
+    Pairs(usize),
+    Refused { number: usize, pairs: usize },
+}
+
+// Whether i and j are two different numbers below the bound.
+fn is_good_pair(i: usize, j: usize, bound: usize) -> bool
+    ensures { λ r. ⌜ r ≡ goodPair bound (i, j) ⌝ }
+{
+    if i == j {
+        return false;
+    }
+    if bound <= i {
+        return false;
+    }
+    j < bound
+}
+
+// Whether the list has at most `most` pairs, the store holds them, and each is of two different numbers below the bound.
+pub fn is_good_list(swaps: &[usize], pairs: usize, bound: usize, most: usize) -> bool
+    ensures { λ r. ⌜ r ≡ goodList bound most pairs (now (swaps .entry)) ⌝ }
+{
+    if most < pairs {
+        return false;
+    }
+    if swaps.len() / 2 < pairs {
+        return false;
+    }
+    let mut k = 0;
+    while k < pairs {
+        let i = swaps[2 * k];
+        let j = swaps[2 * k + 1];
+        if is_good_pair(i, j, bound) {
+            k += 1;
+        } else {
+            return false;
+        }
+    }
+    true
+}
+
+// The number of the refusal that appending (i, i2) to a list for dimension d meets, 0 for none.
+fn append_refusal(swaps: &[usize], pairs: usize, d: usize, i: usize, i2: usize) -> usize
+    ensures { λ r. ⌜ r ≡ appendingRefusal d i i2 pairs (now (swaps .entry)) ⌝ }
+{
+    let list = is_good_list(swaps, pairs, 64, d);
+    let numbers = (64 <= i) | (64 <= i2);
+    let full = !(i == i2) & (pairs == d);
+    let from4 = refusals::first(
+        4,
+        !list,
+        refusals::first(4, numbers, refusals::first(4, full, 0)),
+    );
+    refusals::first(
+        1,
+        refusals::outside(1, d),
+        refusals::first(3, !(swaps.len() == 128), from4),
+    )
+}
+
+// Appends the pair (i, i2) to a list for dimension d; two equal numbers add nothing.
+pub fn append_permutation(
+    swaps: &mut [usize],
+    pairs: usize,
+    d: usize,
+    i: usize,
+    i2: usize,
+) -> Appended
+    ensures { λ r. ⌜ r ≡ answerOf (appending d i i2 pairs (now (swaps .entry)) .number) (appending d i i2 pairs (now (swaps .entry)) .pairs) ⌝ }
+    ensures { λ _. ⌜ now (swaps .exit) ≡ appending d i i2 pairs (now (swaps .entry)) .store ⌝ }
+{
+    let number = append_refusal(swaps, pairs, d, i, i2);
+    if number != 0 {
+        return Appended::Refused { number, pairs };
+    }
+    if i != i2 {
+        let a = 2 * pairs;
+        let b = a + 1;
+        swaps[a] = i;
+        swaps[b] = i2;
+        return Appended::Pairs(pairs + 1);
+    }
+    Appended::Pairs(pairs)
+}
+
+// The determinant of the permutation, which is its sign.
+pub fn determinant(pairs: usize) -> f64
+    ensures { λ r. ⌜ r ≡ signOf pairs ⌝ }
+{
+    if pairs % 2 == 0 { 1.0 } else { -1.0 }
+}
+
+// The number of the pair that comes at turn k.
+fn pair_of_turn(k: usize, pairs: usize, reverse: bool) -> usize
+    requires { ⌜ k < pairs ⌝ }
+    ensures { λ r. ⌜ (r ≡ pairOfTurn reverse pairs k) × (r < pairs) ⌝ }
+{
+    if reverse { pairs - 1 - k } else { k }
+}
+
+// The number of the refusal that permuting meets, 0 for none; the bound is the row count, for columns the column count.
+pub fn permuting_refusal(
+    s: &[f64],
+    m: usize,
+    n: usize,
+    swaps: &[usize],
+    pairs: usize,
+    bound: usize,
+) -> usize
+    ensures { λ r. ⌜ r ≡ permutingRefusal bound m n pairs (now (swaps .entry)) (now (s .entry)) ⌝ }
+{
+    let sizes = refusals::outside(1, m) | refusals::outside(0, n);
+    let lengths = store::is_matrix(s, m, n) & (swaps.len() == 128);
+    let list = is_good_list(swaps, pairs, bound, 64);
+    let numbers = blas::all_finite(s);
+    let from4 = refusals::first(4, !list, refusals::first(5, !numbers, 0));
+    refusals::first(1, sizes, refusals::first(3, !lengths, from4))
+}
+
+// Exchanges the columns i and j, or the rows.
+fn exchange(s: &mut [f64], m: usize, n: usize, i: usize, j: usize, columns: bool)
+    ensures { λ _. ⌜ now (s .exit) ≡ onColumns m n (exchangeOf columns i j) (now (s .entry)) ⌝ }
+{
+    if columns {
+        store::swap_columns(s, m, n, i, j);
+        return;
+    }
+    store::swap_rows(s, m, n, i, j, 0, n);
+}
+
+// Exchanges each pair of the list in turn, first pair first, or in reverse last pair first. Where the store does not hold the list, nothing is done.
+fn apply(
+    s: &mut [f64],
+    m: usize,
+    n: usize,
+    swaps: &[usize],
+    pairs: usize,
+    columns: bool,
+    reverse: bool,
+)
+    ensures { λ _. ⌜ now (s .exit) ≡ onColumns m n (permutedBy (exchangeOf columns) (inOrder reverse (held pairs (now (swaps .entry))))) (now (s .entry)) ⌝ }
+{
+    if swaps.len() / 2 < pairs {
+        return;
+    }
+    let mut k = 0;
+    while k < pairs {
+        let p = pair_of_turn(k, pairs, reverse);
+        let i = swaps[2 * p];
+        let j = swaps[2 * p + 1];
+        exchange(s, m, n, i, j, columns);
+        k += 1;
+    }
+}
+
+// The list applied to the rows of s with no refusal but the store's: for calls that have tested their list.
+pub fn apply_to_rows(
+    s: &mut [f64],
+    m: usize,
+    n: usize,
+    swaps: &[usize],
+    pairs: usize,
+    reverse: bool,
+)
+    ensures { λ _. ⌜ now (s .exit) ≡ onColumns m n (rowsPermuted (inOrder reverse (held pairs (now (swaps .entry))))) (now (s .entry)) ⌝ }
+{
+    apply(s, m, n, swaps, pairs, false, reverse)
+}
+
+// Permutes, or refuses; the bound is the row count, for columns the column count.
+fn permute_or_refuse(
+    s: &mut [f64],
+    m: usize,
+    n: usize,
+    swaps: &[usize],
+    pairs: usize,
+    bound: usize,
+    columns: bool,
+    reverse: bool,
+) -> Answer
+    ensures { λ r. ⌜ r ≡ answerFor (permuting (exchangeOf columns) bound reverse m n pairs (now (swaps .entry)) (now (s .entry)) .number) ⌝ }
+    ensures { λ _. ⌜ now (s .exit) ≡ permuting (exchangeOf columns) bound reverse m n pairs (now (swaps .entry)) (now (s .entry)) .result ⌝ }
+{
+    let number = permuting_refusal(s, m, n, swaps, pairs, bound);
+    if number != 0 {
+        return Answer::Refused(number);
+    }
+    apply(s, m, n, swaps, pairs, columns, reverse);
+    Answer::Done
+}
+
+// Applies the list to the rows of s, first pair first.
+pub fn permute_rows(s: &mut [f64], m: usize, n: usize, swaps: &[usize], pairs: usize) -> Answer
+    ensures { λ r. ⌜ r ≡ answerFor (permutingRows false m n pairs (now (swaps .entry)) (now (s .entry)) .number) ⌝ }
+    ensures { λ _. ⌜ now (s .exit) ≡ permutingRows false m n pairs (now (swaps .entry)) (now (s .entry)) .result ⌝ }
+{
+    permute_or_refuse(s, m, n, swaps, pairs, m, false, false)
+}
+
+// Applies the list in reverse to the rows of s, last pair first.
+pub fn inv_permute_rows(s: &mut [f64], m: usize, n: usize, swaps: &[usize], pairs: usize) -> Answer
+    ensures { λ r. ⌜ r ≡ answerFor (permutingRows true m n pairs (now (swaps .entry)) (now (s .entry)) .number) ⌝ }
+    ensures { λ _. ⌜ now (s .exit) ≡ permutingRows true m n pairs (now (swaps .entry)) (now (s .entry)) .result ⌝ }
+{
+    permute_or_refuse(s, m, n, swaps, pairs, m, false, true)
+}
+
+// Applies the list to the columns of s, first pair first.
+pub fn permute_columns(s: &mut [f64], m: usize, n: usize, swaps: &[usize], pairs: usize) -> Answer
+    ensures { λ r. ⌜ r ≡ answerFor (permutingColumns false m n pairs (now (swaps .entry)) (now (s .entry)) .number) ⌝ }
+    ensures { λ _. ⌜ now (s .exit) ≡ permutingColumns false m n pairs (now (swaps .entry)) (now (s .entry)) .result ⌝ }
+{
+    permute_or_refuse(s, m, n, swaps, pairs, n, true, false)
+}
+
+// Applies the list in reverse to the columns of s, last pair first.
+pub fn inv_permute_columns(
+    s: &mut [f64],
+    m: usize,
+    n: usize,
+    swaps: &[usize],
+    pairs: usize,
+) -> Answer
+    ensures { λ r. ⌜ r ≡ answerFor (permutingColumns true m n pairs (now (swaps .entry)) (now (s .entry)) .number) ⌝ }
+    ensures { λ _. ⌜ now (s .exit) ≡ permutingColumns true m n pairs (now (swaps .entry)) (now (s .entry)) .result ⌝ }
+{
+    permute_or_refuse(s, m, n, swaps, pairs, n, true, true)
+}

@@ -1,0 +1,39 @@
+-- What a call knows where no test of its refusals holds: by the tests in their order. Assumes nothing.
+use mathlib.Core.Path.{_≡_, refl, sym, ap, _∙_}
+use mathlib.Core.Bool.{Bool, true, false, cond, _||_, false≢true}
+use mathlib.Core.List.{List, [], _∷_, _++_}
+use Prim.Native.Nat.{ℕ, suc, _≤_}
+use native.Mathlib.Omega.{arith}
+use borrow.Author.Tests.{ltb-false, le-ltb}
+use lib.Dec.{ltb}
+use Rattle.refusals.specs.Refusals.{firstOf, outside}
+
+-- where the first refusal is none, the first test does not hold, and the first of the others is none
+pub first-none : (k : ℕ) (t : Bool) (ts : List (ℕ × Bool)) → firstOf ((suc k, t) ∷ ts) ≡ 0 → (t ≡ false) × (firstOf ts ≡ 0)
+unfolding firstOf
+first-none k true ts e = absurd (omega (arith, e))
+first-none k false ts e = (refl, e)
+
+-- a test that does not hold is passed over
+pub first-passed : (k : ℕ) (t : Bool) (ts : List (ℕ × Bool)) → t ≡ false → firstOf ((k, t) ∷ ts) ≡ firstOf ts
+unfolding firstOf
+first-passed k t ts e = rw e
+
+pub neither : (t u : Bool) → (t || u) ≡ false → (t ≡ false) × (u ≡ false)
+neither true u e = absurd (false≢true (sym e))
+neither false u e = (refl, e)
+
+-- a size that is not outside its limits
+pub record Inside (least size : ℕ) : Type 0 where
+  pub at-least : least ≤ size
+  pub at-most : size ≤ 64
+
+pub inside : (least size : ℕ) → outside least size ≡ false → Inside least size
+unfolding outside
+inside least size e =
+    let both = neither (ltb size least) (ltb 64 size) e in
+    record { at-least = ltb-false size least (both .0); at-most = ltb-false 64 size (both .1) }
+
+pub not-outside : (least size : ℕ) → least ≤ size → size ≤ 64 → outside least size ≡ false
+unfolding outside
+not-outside least size lo hi = rw (le-ltb size least lo, le-ltb 64 size hi)

@@ -1,0 +1,22 @@
+-- The given diagonal where there is one, else the matrix's own. Assumes nothing.
+use mathlib.Core.Path.{refl}
+use borrow.Author.Needs.{needs}
+use Rattle.solve.proofs.Given.{own-stands}
+use Rattle.solve.proofs.divisor.Statement.{statement}
+use Rattle.solve.proofs.divisor.Tie as tie
+
+returns : tie.Need-returns
+returns c = rw (c .before .pass .given .1)
+
+returns-2 : tie.Need-returns-2
+returns-2 c = own-stands (c .before .before .args .pass) _ _ (c .match .keys2)
+
+pub divisor-spec : {M : Type 1} → statement M
+divisor-spec =
+    tie.close
+    (tie.spec
+    (λ c. search needs)
+    (λ c. search needs)
+    (λ c. search needs)
+    returns
+    returns-2)

@@ -1,0 +1,46 @@
+-- Each kind's own work, by the divisor. Assumes nothing.
+use borrow.Author.Needs.{needs}
+use Rattle.solve.proofs.Turns.{row-done}
+use Rattle.solve.proofs.solve_row.Statement.{statement}
+use Rattle.solve.proofs.solve_row.Tie as tie
+
+returns : tie.Need-returns
+returns c = row-done _ _ _ _ _ _ _ (c .before .before .before .before .enum-told .given .1) (c .before .before .before .before .before .before .divisor .ensures) (c .before .before .lower-row .ensures)
+
+returns-2 : tie.Need-returns-2
+returns-2 c = row-done _ _ _ _ _ _ _ (c .before .before .before .before .enum-told2 .given .1) (c .before .before .before .before .before .before .divisor .ensures) (c .before .before .upper-row .ensures)
+
+returns-3 : tie.Need-returns-3
+returns-3 c = row-done _ _ _ _ _ _ _ (c .before .before .before .before .enum-told3 .given .1) (c .before .before .before .before .before .before .divisor .ensures) (c .before .before .kept-row .ensures)
+
+returns-4 : tie.Need-returns-4
+returns-4 c = row-done _ _ _ _ _ _ _ (c .before .before .before .before .enum-told4 .given .1) (c .before .before .before .before .before .before .divisor .ensures) (c .before .before .transposed-lower-row .ensures)
+
+returns-5 : tie.Need-returns-5
+returns-5 c = row-done _ _ _ _ _ _ _ (c .before .before .before .before .enum-told5 .given .1) (c .before .before .before .before .before .before .divisor .ensures) (c .before .before .transposed-upper-row .ensures)
+
+pub solve-row-spec : {M : Type 1} → statement M
+solve-row-spec =
+    tie.close
+    (tie.spec
+    (λ c κs. search needs)
+    (λ c. search needs)
+    (λ c κs. search needs)
+    (λ c. search needs)
+    (λ c κs. search needs)
+    (λ c. search needs)
+    (λ c κs. search needs)
+    (λ c. search needs)
+    (λ c κs. search needs)
+    (λ c. search needs)
+    (λ c κs. search needs)
+    (λ c. search needs)
+    returns
+    (λ c. search needs)
+    returns-2
+    (λ c. search needs)
+    returns-3
+    (λ c. search needs)
+    returns-4
+    (λ c. search needs)
+    returns-5)

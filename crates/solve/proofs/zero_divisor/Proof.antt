@@ -1,0 +1,22 @@
+-- The given diagonal where there is one, else the matrix's own. Assumes nothing.
+use mathlib.Core.Path.{_∙_}
+use borrow.Author.Needs.{needs}
+use Rattle.solve.proofs.Given.{own-stands}
+use Rattle.solve.proofs.zero_divisor.Statement.{statement}
+use Rattle.solve.proofs.zero_divisor.Tie as tie
+
+returns : tie.Need-returns
+returns c = rw (c .before .before .pass .given .1) (c .is-zero .ensures)
+
+returns-2 : tie.Need-returns-2
+returns-2 c = (c .zero-on-diagonal .ensures) ∙ own-stands (c .before .before .before .args .pass) _ _ (c .before .match .keys2)
+
+pub zero-divisor-spec : {M : Type 1} → statement M
+zero-divisor-spec =
+    tie.close
+    (tie.spec
+    (λ c. search needs)
+    (λ c κs. search needs)
+    (λ c κs. search needs)
+    returns
+    returns-2)

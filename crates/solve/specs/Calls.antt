@@ -1,0 +1,59 @@
+-- Document 01, "Refusal numbers", for the triangular solves: what each call answers and leaves, on every input.
+use mathlib.Core.Bool.{Bool, true, false, not, _&&_, _||_}
+use mathlib.Core.List.{[], _∷_}
+use Prim.Native.Nat.{ℕ, suc}
+use lib.Ieee.Scale.{finite}
+use Rattle.blas.specs.Numbers.{isZero}
+use Rattle.blas.specs.Column.{Column, entry, allFinite}
+use Rattle.store.specs.Columns.{columns, isMatrix}
+use Rattle.store.specs.Steps.{Matrix}
+use Rattle.refusals.specs.Refusals.{firstOf, outside, Outcome, seventh, tested}
+use Rattle.solve.specs.declared.Pass.{Pass}
+use Rattle.solve.specs.Triangular.{given, solvedInPlace}
+
+-- ---- the tests
+
+-- refusal 1: the size of the matrix, or the number of right-hand columns, outside 1 to 64
+unfoldable pub sizesOutside : ℕ → ℕ → Bool
+sizesOutside n k = outside 1 n || outside 1 k
+
+-- refusal 3: the n by n matrix t, the k right-hand columns b and the result's slice x have exactly their lengths
+unfoldable pub lengthsFit : ℕ → ℕ → Column → Column → Column → Bool
+lengthsFit n k t b x = isMatrix n n t && isMatrix n k b && isMatrix n k x
+
+-- refusal 5: every number of the matrix and of the right-hand sides is finite, used or not, and the given diagonal, where there is one
+abbrev pub givenFinite : Pass → Bool
+givenFinite pass = given pass finite true
+
+unfoldable pub numbersFinite : Pass → Column → Column → Bool
+numbersFinite pass t b = allFinite t && allFinite b && givenFinite pass
+
+-- some diagonal entry from row i on is a zero of either sign, cs being the columns from column i on
+unfoldable pub zeroFrom : ℕ → Matrix → Bool
+zeroFrom i [] = false
+zeroFrom i (c ∷ cs) = isZero (entry c i) || zeroFrom (suc i) cs
+
+-- refusal 6: a zero on the diagonal of the n by n matrix that t holds
+unfoldable pub zeroOnDiagonal : ℕ → Column → Bool
+zeroOnDiagonal n t = isMatrix n n t && zeroFrom 0 (columns n n t)
+
+-- "where a diagonal is given, that one alone counts"
+abbrev pub zeroDivisor : Pass → ℕ → Column → Bool
+zeroDivisor pass n t = given pass isZero (zeroOnDiagonal n t)
+
+-- ---- the outcome
+
+-- the refusal before the work, 0 for none
+unfoldable pub refusalOf : Pass → ℕ → ℕ → Column → Column → Column → ℕ
+refusalOf pass n k t b x =
+    firstOf
+    ((1, sizesOutside n k)
+    ∷ (3, not (lengthsFit n k t b x))
+    ∷ (5, not (numbersFinite pass t b))
+    ∷ (6, zeroDivisor pass n t)
+    ∷ [])
+
+-- A call's number, and what the result's slice, which held x, then holds: x where the tests refuse; else the solved columns, or +0.0
+-- throughout where some number of them is not finite.
+unfoldable pub solving : Pass → ℕ → ℕ → Column → Column → Column → Outcome
+solving pass n k t b x = tested (refusalOf pass n k t b x) x (seventh (solvedInPlace pass n k t b))

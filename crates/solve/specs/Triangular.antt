@@ -1,0 +1,96 @@
+-- Document 01, "Solving": the five triangular solves, row by row and column by column. Each right-hand column is solved by itself.
+use mathlib.Core.Bool.{cond}
+use mathlib.Core.List.{_++_}
+use Prim.Native.Nat.{ℕ, _+_, _-_}
+use lib.ListN.{set, take, drop}
+use lib.Ieee.{Float, binary64, neg, sub, div}
+use Rattle.blas.specs.Each.{eachFrom, turnsFrom}
+use Rattle.blas.specs.Column.{Column, entry, axpyFrom}
+use Rattle.blas.specs.Dot.{dotOf}
+use Rattle.store.specs.Columns.{columns, isMatrix, onColumns}
+use Rattle.store.specs.Steps.{Matrix, column}
+use Rattle.solve.specs.declared.Pass.{Pass}
+use Rattle.solve.specs.declared.Pass.the-variants.{Lower, Upper, GivenDiagonal, TransposedLower, TransposedUpper}
+
+-- what f makes of the given diagonal; `own` where none is given
+abbrev pub given : {A : Type 0} → Pass → (Float → A) → A → A
+given Lower f own = own
+given Upper f own = own
+given (GivenDiagonal d) f own = f d
+given TransposedLower f own = own
+given TransposedUpper f own = own
+
+-- the number that row i is divided by, l being column i of the matrix
+abbrev pub divisor : Pass → Column → ℕ → Float
+divisor pass l i = given pass (λ d. d) (entry l i)
+
+-- ---- one row
+
+-- "lower runs downward, upper upward; each divides, then updates the rest by the rule of step 5"
+unfoldable pub lowerRow : Float → Column → ℕ → Column → Column
+lowerRow d l i b = let x = div binary64 (entry b i) d in axpyFrom (i + 1) (neg x) l (set b i x)
+
+unfoldable pub upperRow : Float → Column → ℕ → Column → Column
+upperRow d l i b =
+    let x = div binary64 (entry b i) d in
+    let c = set b i x in
+    axpyFrom 0 (neg x) (take i l) (take i c) ++ drop i c
+
+-- "the entry divided by d drives the updates below; the entries themselves are not divided"
+unfoldable pub keptRow : Float → Column → ℕ → Column → Column
+keptRow d l i b = axpyFrom (i + 1) (neg (div binary64 (entry b i) d)) l b
+
+-- "each unknown is (b minus the dot product) divided by the diagonal": of the rows below it, or of those above
+unfoldable pub transposedLowerRow : Float → Column → ℕ → Column → Column
+transposedLowerRow d l i b = set b i (div binary64 (sub binary64 (entry b i) (dotOf (drop (i + 1) l) (drop (i + 1) b))) d)
+
+unfoldable pub transposedUpperRow : Float → Column → ℕ → Column → Column
+transposedUpperRow d l i b = set b i (div binary64 (sub binary64 (entry b i) (dotOf (take i l) (take i b))) d)
+
+-- what each solve does in row i, d being the number to divide by
+abbrev pub rowBy : Pass → Float → Column → ℕ → Column → Column
+rowBy Lower d l i b = lowerRow d l i b
+rowBy Upper d l i b = upperRow d l i b
+rowBy (GivenDiagonal _) d l i b = keptRow d l i b
+rowBy TransposedLower d l i b = transposedLowerRow d l i b
+rowBy TransposedUpper d l i b = transposedUpperRow d l i b
+
+-- row i of a solve, l being column i of the matrix
+unfoldable pub solvedRow : Pass → Column → ℕ → Column → Column
+solvedRow pass l i b = rowBy pass (divisor pass l i) l i b
+
+-- ---- one column
+
+-- the row of turn k of n: lower and transposed upper run downward, upper and transposed lower upward
+abbrev pub rowAt : Pass → ℕ → ℕ → ℕ
+rowAt Lower n k = k
+rowAt Upper n k = n - 1 - k
+rowAt (GivenDiagonal d) n k = k
+rowAt TransposedLower n k = n - 1 - k
+rowAt TransposedUpper n k = k
+
+-- every row has its turn; given a diagonal, all but the last, whose quotient is never formed
+abbrev pub turnsOf : Pass → ℕ → ℕ
+turnsOf pass n = given pass (λ d. n - 1) n
+
+-- turn k on a right-hand column, cs being the columns of the matrix
+unfoldable pub turn : Pass → ℕ → Matrix → ℕ → Column → Column
+turn pass n cs k b = let i = rowAt pass n k in solvedRow pass (column cs i) i b
+
+-- a right-hand column, solved
+unfoldable pub solvedColumn : Pass → ℕ → Matrix → Column → Column
+solvedColumn pass n cs b = turnsFrom (turn pass n cs) 0 (turnsOf pass n) b
+
+-- ---- all columns
+
+-- the right-hand columns from column j on, each solved by itself
+unfoldable pub solvedFrom : Pass → ℕ → Matrix → ℕ → Matrix → Matrix
+solvedFrom pass n cs j bs = eachFrom (λ _ b. solvedColumn pass n cs b) j bs
+
+abbrev pub solvedColumns : Pass → ℕ → Matrix → Matrix → Matrix
+solvedColumns pass n cs bs = solvedFrom pass n cs 0 bs
+
+-- A pass without the tests: the k right-hand columns of n rows that b holds, solved by the n by n matrix that t holds. Where a slice holds
+-- no such matrix, b stays as it was.
+unfoldable pub solvedInPlace : Pass → ℕ → ℕ → Column → Column → Column
+solvedInPlace pass n k t b = cond (isMatrix n n t) (onColumns n k (solvedColumns pass n (columns n n t)) b) b

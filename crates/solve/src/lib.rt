@@ -1,0 +1,304 @@
+// The triangular solves: linalg/solve.rs of nalgebra 0.35.0, for f64. The matrix and the right-hand sides lie column after column.
+ghost use mathlib.Core.Path.{_≡_};
+ghost use mathlib.Core.Bool.{true};
+ghost use Prim.Native.Nat.{_<_};
+ghost use lib.ListN.{length};
+ghost use Rattle.store.specs.Columns.{columns, isMatrix};
+ghost use Rattle.refusals.specs.Refusals.{answerOf};
+ghost use Rattle.solve.specs.Triangular.{divisor, lowerRow, upperRow, keptRow, transposedLowerRow, transposedUpperRow, solvedRow, rowAt, turnsOf, solvedColumn, solvedInPlace};
+ghost use Rattle.solve.specs.Calls.{zeroOnDiagonal, sizesOutside, lengthsFit, givenFinite, numbersFinite, zeroDivisor, refusalOf, solving};
+use refusals::Answer;
+
+// Which solve it is: the triangle read, the diagonal divided by, and whether the matrix is transposed.
+pub enum Pass {
+    Lower,
+    Upper,
+    GivenDiagonal(f64),
+    TransposedLower,
+    TransposedUpper,
+}
+
+// The number that row i is divided by: the given diagonal, or else the matrix's own.
+fn divisor(pass: Pass, col: &[f64], i: usize) -> f64
+    requires { ⌜ i < length (now col) ⌝ }
+    ensures { λ r. ⌜ r ≡ divisor pass (now (col .entry)) i ⌝ }
+{
+    let own = col[i];
+    match pass {
+        Pass::GivenDiagonal(d) => d,
+        _ => own,
+    }
+}
+
+// Row i is divided by d, and the rows below it are updated.
+fn lower_row(d: f64, col: &[f64], b: &mut [f64], i: usize)
+    requires { ⌜ i < length (now b) ⌝ }
+    ensures { λ _. ⌜ now (b .exit) ≡ lowerRow d (now (col .entry)) i (now (b .entry)) ⌝ }
+{
+    let u = b[i];
+    let x = u / d;
+    b[i] = x;
+    blas::axpy(b, -x, col, i + 1);
+}
+
+// Row i is divided by d, and the rows above it are updated.
+fn upper_row(d: f64, col: &[f64], b: &mut [f64], i: usize)
+    requires { ⌜ (i < length (now col)) × (i < length (now b)) ⌝ }
+    ensures { λ _. ⌜ now (b .exit) ≡ upperRow d (now (col .entry)) i (now (b .entry)) ⌝ }
+{
+    let u = b[i];
+    let x = u / d;
+    b[i] = x;
+    blas::axpy(&mut b[..i], -x, &col[..i], 0);
+}
+
+// The rows below row i are updated by row i divided by d; row i itself stays.
+fn kept_row(d: f64, col: &[f64], b: &mut [f64], i: usize)
+    requires { ⌜ i < length (now b) ⌝ }
+    ensures { λ _. ⌜ now (b .exit) ≡ keptRow d (now (col .entry)) i (now (b .entry)) ⌝ }
+{
+    let q = b[i] / d;
+    blas::axpy(b, -q, col, i + 1);
+}
+
+// Row i less the dot product of the rows below it, divided by d.
+fn transposed_lower_row(d: f64, col: &[f64], b: &mut [f64], i: usize)
+    requires { ⌜ (i < length (now col)) × (i < length (now b)) ⌝ }
+    ensures { λ _. ⌜ now (b .exit) ≡ transposedLowerRow d (now (col .entry)) i (now (b .entry)) ⌝ }
+{
+    let a = i + 1;
+    let sum = blas::dot(&col[a..], &b[a..]);
+    b[i] = (b[i] - sum) / d;
+}
+
+// Row i less the dot product of the rows above it, divided by d.
+fn transposed_upper_row(d: f64, col: &[f64], b: &mut [f64], i: usize)
+    requires { ⌜ (i < length (now col)) × (i < length (now b)) ⌝ }
+    ensures { λ _. ⌜ now (b .exit) ≡ transposedUpperRow d (now (col .entry)) i (now (b .entry)) ⌝ }
+{
+    let sum = blas::dot(&col[..i], &b[..i]);
+    b[i] = (b[i] - sum) / d;
+}
+
+// One row of a solve, col being column i of the matrix.
+fn solve_row(pass: Pass, col: &[f64], b: &mut [f64], i: usize)
+    requires { ⌜ (i < length (now col)) × (i < length (now b)) ⌝ }
+    ensures { λ _. ⌜ now (b .exit) ≡ solvedRow pass (now (col .entry)) i (now (b .entry)) ⌝ }
+{
+    let d = divisor(pass, col, i);
+    match pass {
+        Pass::Lower => lower_row(d, col, b, i),
+        Pass::Upper => upper_row(d, col, b, i),
+        Pass::GivenDiagonal(_) => kept_row(d, col, b, i),
+        Pass::TransposedLower => transposed_lower_row(d, col, b, i),
+        Pass::TransposedUpper => transposed_upper_row(d, col, b, i),
+    }
+}
+
+// The row of turn k: downward from the first, or upward from the last.
+fn row_at(pass: Pass, n: usize, k: usize) -> usize
+    requires { ⌜ k < n ⌝ }
+    ensures { λ r. ⌜ r ≡ rowAt pass n k ⌝ }
+{
+    let up = n - 1 - k;
+    match pass {
+        Pass::Lower => k,
+        Pass::Upper => up,
+        Pass::GivenDiagonal(_) => k,
+        Pass::TransposedLower => up,
+        Pass::TransposedUpper => k,
+    }
+}
+
+// How many rows are worked on: all, but where each entry is kept the last has nothing below it.
+fn turns_of(pass: Pass, n: usize) -> usize
+    ensures { λ r. ⌜ r ≡ turnsOf pass n ⌝ }
+{
+    let last = n - store::min(n, 1);
+    match pass {
+        Pass::GivenDiagonal(_) => last,
+        _ => n,
+    }
+}
+
+// Solves one right-hand column in place.
+fn solve_column(pass: Pass, t: &[f64], n: usize, b: &mut [f64])
+    requires { ⌜ (isMatrix n n (now t) ≡ true) × (length (now b) ≡ n) ⌝ }
+    ensures { λ _. ⌜ now (b .exit) ≡ solvedColumn pass n (columns n n (now (t .entry))) (now (b .entry)) ⌝ }
+{
+    let turns = turns_of(pass, n);
+    let mut k = 0;
+    while k < turns {
+        let i = row_at(pass, n, k);
+        let a = i * n;
+        let e = a + n;
+        solve_row(pass, &t[a..e], b, i);
+        k += 1;
+    }
+}
+
+// A pass without the tests: solves the k right-hand columns in b in place by the n by n matrix t. Where a slice holds no such matrix,
+// b stays as it was.
+pub fn solve_in_place(pass: Pass, t: &[f64], n: usize, b: &mut [f64], k: usize)
+    ensures { λ _. ⌜ now (b .exit) ≡ solvedInPlace pass n k (now (t .entry)) (now (b .entry)) ⌝ }
+{
+    if !store::is_matrix(t, n, n) {
+        return;
+    }
+    if !store::is_matrix(b, n, k) {
+        return;
+    }
+    let mut j = 0;
+    while j < k {
+        let a = j * n;
+        let e = a + n;
+        solve_column(pass, t, n, &mut b[a..e]);
+        j += 1;
+    }
+}
+
+// Whether the n by n matrix t has a zero of either sign on its diagonal; false where t is no such matrix.
+pub fn zero_on_diagonal(t: &[f64], n: usize) -> bool
+    ensures { λ r. ⌜ r ≡ zeroOnDiagonal n (now (t .entry)) ⌝ }
+{
+    if !store::is_matrix(t, n, n) {
+        return false;
+    }
+    let mut i = 0;
+    while i < n {
+        let a = i * n;
+        let p = a + i;
+        if blas::is_zero(t[p]) {
+            return true;
+        }
+        i += 1;
+    }
+    false
+}
+
+// Whether the given diagonal is finite, where there is one.
+fn given_finite(pass: Pass) -> bool
+    ensures { λ r. ⌜ r ≡ givenFinite pass ⌝ }
+{
+    match pass {
+        Pass::GivenDiagonal(d) => blas::is_finite(d),
+        _ => true,
+    }
+}
+
+// Refusal 6: whether some row would be divided by a zero.
+fn zero_divisor(pass: Pass, t: &[f64], n: usize) -> bool
+    ensures { λ r. ⌜ r ≡ zeroDivisor pass n (now (t .entry)) ⌝ }
+{
+    match pass {
+        Pass::GivenDiagonal(d) => blas::is_zero(d),
+        _ => zero_on_diagonal(t, n),
+    }
+}
+
+// Refusal 1: whether a size lies outside its limits.
+fn sizes_outside(n: usize, k: usize) -> bool
+    ensures { λ r. ⌜ r ≡ sizesOutside n k ⌝ }
+{
+    if refusals::outside(1, n) {
+        return true;
+    }
+    refusals::outside(1, k)
+}
+
+// Refusal 3: whether the three slices have the lengths that the sizes ask for.
+fn lengths_fit(t: &[f64], n: usize, b: &[f64], k: usize, x: &[f64]) -> bool
+    ensures { λ r. ⌜ r ≡ lengthsFit n k (now (t .entry)) (now (b .entry)) (now (x .entry)) ⌝ }
+{
+    if !store::is_matrix(t, n, n) {
+        return false;
+    }
+    if !store::is_matrix(b, n, k) {
+        return false;
+    }
+    store::is_matrix(x, n, k)
+}
+
+// Refusal 5: whether every number given is finite.
+fn numbers_finite(pass: Pass, t: &[f64], b: &[f64]) -> bool
+    ensures { λ r. ⌜ r ≡ numbersFinite pass (now (t .entry)) (now (b .entry)) ⌝ }
+{
+    if !blas::all_finite(t) {
+        return false;
+    }
+    if !blas::all_finite(b) {
+        return false;
+    }
+    given_finite(pass)
+}
+
+// The refusal before the work, 0 for none.
+fn refusal(pass: Pass, t: &[f64], n: usize, b: &[f64], k: usize, x: &[f64]) -> usize
+    ensures { λ r. ⌜ r ≡ refusalOf pass n k (now (t .entry)) (now (b .entry)) (now (x .entry)) ⌝ }
+{
+    let six = refusals::first(6, zero_divisor(pass, t, n), 0);
+    let five = refusals::first(5, !numbers_finite(pass, t, b), six);
+    let three = refusals::first(3, !lengths_fit(t, n, b, k, x), five);
+    refusals::first(1, sizes_outside(n, k), three)
+}
+
+// Solves by the n by n matrix t for the k right-hand columns b, into x.
+fn solve_by(pass: Pass, t: &[f64], n: usize, b: &[f64], k: usize, x: &mut [f64]) -> Answer
+    ensures { λ r. ⌜ r ≡ answerOf (solving pass n k (now (t .entry)) (now (b .entry)) (now (x .entry)) .number) ⌝ }
+    ensures { λ _. ⌜ now (x .exit) ≡ solving pass n k (now (t .entry)) (now (b .entry)) (now (x .entry)) .result ⌝ }
+{
+    let number = refusal(pass, t, n, b, k, x);
+    if number != 0 {
+        return refusals::answer_for(number);
+    }
+    blas::copy(x, b);
+    solve_in_place(pass, t, n, x, k);
+    refusals::answer_for(refusals::settle(x))
+}
+
+// The lower triangle of t, by its own diagonal.
+pub fn solve_lower_triangular(t: &[f64], n: usize, b: &[f64], k: usize, x: &mut [f64]) -> Answer
+    ensures { λ r. ⌜ r ≡ answerOf (solving Pass.Lower n k (now (t .entry)) (now (b .entry)) (now (x .entry)) .number) ⌝ }
+    ensures { λ _. ⌜ now (x .exit) ≡ solving Pass.Lower n k (now (t .entry)) (now (b .entry)) (now (x .entry)) .result ⌝ }
+{
+    solve_by(Pass::Lower, t, n, b, k, x)
+}
+
+// The upper triangle of t, by its own diagonal.
+pub fn solve_upper_triangular(t: &[f64], n: usize, b: &[f64], k: usize, x: &mut [f64]) -> Answer
+    ensures { λ r. ⌜ r ≡ answerOf (solving Pass.Upper n k (now (t .entry)) (now (b .entry)) (now (x .entry)) .number) ⌝ }
+    ensures { λ _. ⌜ now (x .exit) ≡ solving Pass.Upper n k (now (t .entry)) (now (b .entry)) (now (x .entry)) .result ⌝ }
+{
+    solve_by(Pass::Upper, t, n, b, k, x)
+}
+
+// The lower triangle of t, by the diagonal `diag`: its quotients drive the updates, and no entry is divided.
+pub fn solve_lower_triangular_with_diag(
+    t: &[f64],
+    n: usize,
+    b: &[f64],
+    k: usize,
+    x: &mut [f64],
+    diag: f64,
+) -> Answer
+    ensures { λ r. ⌜ r ≡ answerOf (solving (Pass.GivenDiagonal diag) n k (now (t .entry)) (now (b .entry)) (now (x .entry)) .number) ⌝ }
+    ensures { λ _. ⌜ now (x .exit) ≡ solving (Pass.GivenDiagonal diag) n k (now (t .entry)) (now (b .entry)) (now (x .entry)) .result ⌝ }
+{
+    solve_by(Pass::GivenDiagonal(diag), t, n, b, k, x)
+}
+
+// The lower triangle of t, transposed.
+pub fn tr_solve_lower_triangular(t: &[f64], n: usize, b: &[f64], k: usize, x: &mut [f64]) -> Answer
+    ensures { λ r. ⌜ r ≡ answerOf (solving Pass.TransposedLower n k (now (t .entry)) (now (b .entry)) (now (x .entry)) .number) ⌝ }
+    ensures { λ _. ⌜ now (x .exit) ≡ solving Pass.TransposedLower n k (now (t .entry)) (now (b .entry)) (now (x .entry)) .result ⌝ }
+{
+    solve_by(Pass::TransposedLower, t, n, b, k, x)
+}
+
+// The upper triangle of t, transposed.
+pub fn tr_solve_upper_triangular(t: &[f64], n: usize, b: &[f64], k: usize, x: &mut [f64]) -> Answer
+    ensures { λ r. ⌜ r ≡ answerOf (solving Pass.TransposedUpper n k (now (t .entry)) (now (b .entry)) (now (x .entry)) .number) ⌝ }
+    ensures { λ _. ⌜ now (x .exit) ≡ solving Pass.TransposedUpper n k (now (t .entry)) (now (b .entry)) (now (x .entry)) .result ⌝ }
+{
+    solve_by(Pass::TransposedUpper, t, n, b, k, x)
+}
