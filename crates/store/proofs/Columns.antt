@@ -1,16 +1,17 @@
 -- A column-major slice and the list of its columns: what lending one column as a part and taking it back does to that list, and how what is
 -- shown of the columns becomes what is shown of the slice. By induction on the number of columns. Assumes nothing.
-use mathlib.Core.Path.{_≡_, refl, sym, ap, _∙_}
+use mathlib.Core.Path.{_≡_, refl, sym, ap, ap₂, _∙_}
 use mathlib.Core.Bool.{true, false, cond, _&&_}
-use mathlib.Core.List.{List, [], _∷_, _++_, append-assoc}
+use mathlib.Core.List.{List, [], _∷_, _++_, append-assoc, append-nil}
 use Prim.Native.Nat.{ℕ, zero, suc, _+_, _-_, _*_, _≤_, _<_}
 use native.Mathlib.Nat.{suc-mul, zero-mul, add-comm, mul-le-mul-right, le-of-suc-le-suc, add-sub-cancel-left, not-suc-le-zero, sub-zero}
+use native.Mathlib.Numerals.{add-one}
 use native.Mathlib.Omega.{arith}
 use borrow.Author.Tests.{leb-true, eqb-true, le-leb, eq-eqb}
 use borrow.Rule.Slice.PartMut.{midOf, putMid, mid-len}
 use lib.Dec.{leb, eqb}
 use lib.ListN.{length, getD, set, take, drop, length-drop, length-append, take-append-drop}
-use lib.Seq.{take-add, drop-drop, take-at, drop-at, length-take-le, getD-take, getD-drop}
+use lib.Seq.{take-all, take-append-le, drop-append-le, take-add, drop-drop, take-at, drop-at, length-take-le, getD-take, getD-drop}
 use Rattle.blas.specs.Each.{eachFrom}
 use Rattle.blas.proofs.Choice.{and-first, and-second}
 use Rattle.blas.proofs.Each.{each-step, each-stop}
@@ -156,6 +157,36 @@ module _ {A : Type 0} where
 
   pub column-stop : (f : ℕ → List A → List A) (m n j : ℕ) (s : List A) → n ≤ j → eachFrom f j (columns m n s) ≡ columns m n s
   column-stop f m n j s h = each-stop f j (columns m n s) (omega (arith, length-columns m n s))
+
+-- ---- one column more
+module _ {A : Type 0} where
+  -- the columns of the front of a store
+  pub columns-front : (m n : ℕ) (s z : List A) → length s ≡ n * m → columns m n (s ++ z) ≡ columns m n s
+  unfolding columns
+  columns-front m zero s z len = refl
+  columns-front m (suc n) s z len =
+      let rest = rest-length m n s len in
+      ap₂ (λ (c : List A) (cs : List (List A)). c ∷ cs) (take-append-le m s z (rest .0))
+      (ap (columns m n) (drop-append-le m s z (rest .0)) ∙ columns-front m n (drop m s) z (rest .1))
+
+  -- and with the column behind it
+  pub columns-snoc : (m n : ℕ) (s c : List A) → length s ≡ n * m → length c ≡ m → columns m (n + 1) (s ++ c) ≡ columns m n s ++ c ∷ []
+  unfolding columns
+  columns-snoc m n s c len lc = ap (λ (k : ℕ). columns m k (s ++ c)) (add-one n) ∙ snoc-suc n s len
+    where
+      snoc-suc : (n : ℕ) (s : List A) → length s ≡ n * m → columns m (suc n) (s ++ c) ≡ columns m n s ++ c ∷ []
+      snoc-suc zero s e =
+          let none : s ≡ [] = nothing s (e ∙ zero-mul m) in
+          ap (λ (l : List A). take m (l ++ c) ∷ []) none ∙ ap (λ (l : List A). l ∷ []) (take-all m c (omega arith))
+      snoc-suc (suc n) s e =
+          let rest = rest-length m n s e in
+          ap₂ (λ (x : List A) (cs : List (List A)). x ∷ cs) (take-append-le m s c (rest .0))
+          (ap (columns m (suc n)) (drop-append-le m s c (rest .0)) ∙ snoc-suc n (drop m s) (rest .1))
+
+  pub flat-snoc : (cs : List (List A)) (c : List A) → flat (cs ++ c ∷ []) ≡ flat cs ++ c
+  unfolding flat
+  flat-snoc [] c = append-nil c
+  flat-snoc (d ∷ cs) c = ap (λ (t : List A). d ++ t) (flat-snoc cs c) ∙ sym (append-assoc d (flat cs) c)
 
 -- ---- a call that works on columns
 module _ {A : Type 0} (m n : ℕ) (f : List (List A) → List (List A)) (s : List A) where

@@ -1,0 +1,17 @@
+pub mod Accepted
+pub mod Alone
+pub mod Answers
+pub mod Diagonal
+pub mod Figures
+pub mod Recorded
+pub mod Signed
+pub mod Slices
+pub mod Solved
+pub mod Step
+pub mod Swaps
+pub mod Taken
+pub mod Told
+pub mod Triangles
+pub mod Widen
+pub mod WrongPrograms
+pub mod Written

@@ -1,0 +1,120 @@
+-- The steps of the code on the slices, and the steps of the elimination on the columns: from what each call gives. Assumes nothing.
+use mathlib.Core.Path.{_≡_, refl, sym, ap, ap₂, _∙_}
+use mathlib.Core.Bool.{true, false, cond}
+use mathlib.Core.List.{List, []}
+use Prim.Native.Nat.{ℕ, _+_, _-_, _*_, _≤_, _<_, min}
+use native.Mathlib.Nat.{add-sub-cancel-left}
+use native.Mathlib.Omega.{arith}
+use borrow.Rule.Slice.PartMut.{midOf, putMid, same-len-mid}
+use lib.Dec.{eqb}
+use lib.ListN.{length, getD, set}
+use lib.Ieee.{Float, nan, binary64, div}
+use Rattle.blas.specs.Each.{turnsFrom}
+use Rattle.blas.specs.Numbers.{one64, isZero}
+use Rattle.blas.specs.Column.{Column, entry, pivotRow, scaleFrom}
+use Rattle.blas.proofs.Choice.{cond-cases}
+use Rattle.blas.proofs.Pivot.{pivot-from, pivot-to}
+use Rattle.store.specs.Columns.{columns, isMatrix, onColumns}
+use Rattle.store.specs.Steps.{column, swapInAll, rowsSwapped, eliminated}
+use Rattle.store.proofs.Columns.{sized, same-matrix, length-columns, columns-rows, part-column, column-length, entry-at, column-lent, on-columns}
+use Rattle.store.proofs.Steps.{range-all, length-rowsSwapped, rows-rowsSwapped, length-eliminated, rows-eliminated}
+use Rattle.permutation_sequence.specs.SwapList.{withPair}
+use Rattle.lu.specs.Elimination.{Factors, multipliers, scaled, pivotStep, step, unfactored, eliminate}
+use Rattle.lu.specs.Factoring.{storeOf}
+use Rattle.lu.specs.Held.{Held, Recorded}
+use Rattle.lu.proofs.Step.{pivotAt, skipped}
+use Rattle.lu.proofs.Swaps.{store-record, count-record}
+
+module _ (m n i p : ℕ) (s : Column) (fits : isMatrix m n s ≡ true) (hm : i < m) (hn : i < n) where
+  size-of : length s ≡ n * m
+  size-of = sized m n s fits .size
+
+  swapped-columns : (t : Column) → t ≡ onColumns m n (rowsSwapped i p 0 n) s → columns m n t ≡ swapInAll i p (columns m n s)
+  swapped-columns t e =
+      let cs = columns m n s in
+      ap (columns m n) e
+      ∙ on-columns m n (rowsSwapped i p 0 n) s fits (length-rowsSwapped i p 0 n cs ∙ length-columns m n s) (rows-rowsSwapped i m p 0 n cs (columns-rows m n s size-of))
+      ∙ range-all i p n cs (omega (arith, length-columns m n s))
+
+  -- t is s with its rows swapped, c column i of t with its multipliers, and u the store with the columns to the right updated
+  pub gauss-done : (t c u : Column) → length t ≡ length s → t ≡ onColumns m n (rowsSwapped i p 0 n) s
+      → length c ≡ length (midOf (i * m) (i * m + m - i * m) t)
+      → c ≡ scaleFrom (i + 1) (div binary64 one64 (getD t (i * m + i) nan)) (midOf (i * m) (i * m + m - i * m) t)
+      → u ≡ onColumns m n (eliminated i) (putMid (i * m) (i * m + m - i * m) t c)
+      → columns m n u ≡ eliminated i (scaled i (swapInAll i p (columns m n s)))
+  unfolding scaled multipliers
+  gauss-done t c u lt swapped kept made stepped =
+      let size : length t ≡ n * m = lt ∙ size-of in
+      let v = putMid (i * m) (i * m + m - i * m) t c in
+      let lv : length v ≡ length s = same-len-mid (i * m) (i * m + m - i * m) t c kept ∙ lt in
+      let fv : isMatrix m n v ≡ true = same-matrix m n s v lv ∙ fits in
+      let d = getD t (i * m + i) nan in
+      let pivot : d ≡ entry (column (columns m n t) i) i = entry-at m n i i t nan hn hm in
+      let cv : columns m n v ≡ scaled i (columns m n t) =
+      column-lent (scaleFrom (i + 1) (div binary64 one64 d)) m n i t c hn size kept made
+      ∙ ap (λ (x : Float). set (columns m n t) i (scaleFrom (i + 1) (div binary64 one64 x) (column (columns m n t) i))) pivot in
+      let cs = columns m n v in
+      ap (columns m n) stepped
+      ∙ on-columns m n (eliminated i) v fv (length-eliminated i cs ∙ length-columns m n v) (rows-eliminated i m cs (columns-rows m n v (lv ∙ size-of)))
+      ∙ ap (eliminated i) (cv ∙ ap (scaled i) (swapped-columns t swapped))
+
+  -- the pivot row that was found in the part that is column i, and the number there
+  module _ (row : p ≡ pivotRow i (midOf (i * m) (i * m + m - i * m) s)) where
+    pub found : p ≡ pivotRow i (column (columns m n s) i)
+    found = row ∙ ap (pivotRow i) (part-column m n i s hn)
+
+    pub pivot-within : (i ≤ p) × (p < m)
+    pivot-within =
+        let part = midOf (i * m) (i * m + m - i * m) s in
+        let len : length part ≡ m = column-length m n i s hn size-of in
+        let to : pivotRow i part < length part = pivot-to i part (rw len hm) in
+        (rw row (pivot-from i part), rw row (rw len at to))
+
+    pub pivot-number : getD s (i * m + p) nan ≡ entry (column (columns m n s) i) p
+    pivot-number = entry-at m n i p s nan hn (pivot-within .1)
+
+-- ---- one step on the slices
+module _ (m n i : ℕ) (f : Factors) (s : Column) (store : List ℕ) (pairs p : ℕ) (d : Float) (h : Held m n f s store pairs)
+    (row : p ≡ pivotRow i (column (columns m n s) i)) (number : d ≡ entry (column (columns m n s) i) p) where
+  row-is : p ≡ pivotAt i f
+  row-is = row ∙ ap (λ cs. pivotRow i (column cs i)) (h .is-columns)
+
+  number-is : d ≡ entry (column (f .columns) i) (pivotAt i f)
+  number-is = number ∙ (λ t. entry (column (h .is-columns t) i) (row-is t))
+
+  pub step-skipped : isZero d ≡ true → Held m n (step i f) s store pairs
+  unfolding step
+  step-skipped z = let e : skipped i f ≡ true = ap isZero (sym number-is) ∙ z in rw e h
+
+  pub step-done : (t : Column) (store' : List ℕ) (pairs' : ℕ) → isZero d ≡ false → pairs < 64 → length t ≡ length s
+      → columns m n t ≡ eliminated i (scaled i (swapInAll i p (columns m n s))) → Recorded i p pairs pairs' store store'
+      → Held m n (step i f) t store' pairs'
+  unfolding step pivotStep
+  step-done t store' pairs' z room len made rec =
+      let e : skipped i f ≡ false = ap isZero (sym number-is) ∙ z in
+      let few : length (f .swaps) < 64 = rw (h .is-pairs) at room in
+      rw e
+      (record {
+        size = len ∙ h .size;
+        is-columns = made ∙ (λ x. eliminated i (scaled i (swapInAll i (row-is x) (h .is-columns x))));
+        is-store =
+            rec .store ∙ (λ x. cond (eqb (row-is x) i) (h .is-store x) (withPair (h .is-pairs x) i (row-is x) (h .is-store x)))
+            ∙ store-record (f .swaps) i (pivotAt i f) few;
+        is-pairs = rec .count ∙ (λ x. cond (eqb (row-is x) i) (h .is-pairs x) (h .is-pairs x + 1)) ∙ count-record (f .swaps) i (pivotAt i f) few;
+      })
+
+-- at most one pair more
+pub few-recorded : (i p pairs pairs' : ℕ) (was is : List ℕ) → Recorded i p pairs pairs' was is → pairs ≤ i → pairs' ≤ i + 1
+few-recorded i p pairs pairs' was is rec h =
+    rw (rec .count) (cond-cases (λ (k : ℕ). k ≤ i + 1) (eqb p i) (λ t. omega arith) (λ t. omega arith))
+
+-- ---- before the first step
+module _ (m n : ℕ) (s : Column) where
+  pub held-unfactored : (store : List ℕ) → length s ≡ n * m → store ≡ storeOf [] → Held m n (unfactored (columns m n s)) s store 0
+  held-unfactored store size empty = record { size = size; is-columns = refl; is-store = empty; is-pairs = refl }
+
+  pub steps-begin : turnsFrom step 0 (min m n - 0) (unfactored (columns m n s)) ≡ eliminate m (columns m n s)
+  unfolding eliminate
+  steps-begin =
+      let e : min m n - 0 ≡ min m (length (columns m n s)) = omega (arith, length-columns m n s) in
+      ap (λ (k : ℕ). turnsFrom step 0 k (unfactored (columns m n s))) e

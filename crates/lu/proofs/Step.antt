@@ -1,0 +1,175 @@
+-- One step of the elimination, column by column, and that it keeps the shape of the matrix. Assumes nothing.
+use Prim.Native.Nat.{ℕ, zero, suc, _+_, _≤_, _<_}
+use native.Mathlib.Nat.{zero-add, add-zero}
+use borrow.Author.Tests.{eqb-true, eqb-false}
+use lib.Dec.{eqb}
+use native.Mathlib.Numerals.{add-one}
+use native.Mathlib.Omega.{arith}
+use mathlib.Core.Path.{_≡_, refl, sym, ap, _∙_}
+use mathlib.Core.Bool.{Bool, true, false, cond}
+use mathlib.Core.List.{[], _∷_, _++_}
+use lib.ListN.{length, getD, set, length-set, length-append, List·getD-append}
+use lib.Seq.{getD-set-same, getD-set-other, set-append-left}
+use lib.Ieee.{nan, binary64, div}
+use Rattle.blas.specs.Each.{eachFrom, turnsFrom}
+use Rattle.blas.specs.Numbers.{one64, isZero}
+use Rattle.blas.specs.Column.{Column, entry, pivotRow, swapRows}
+use Rattle.blas.proofs.Choice.{test-cases, cond-cases}
+use Rattle.blas.proofs.Each.{each-at, each-before, each-snoc}
+use Rattle.blas.proofs.Exchange.{other-first, getD-exchanged}
+use Rattle.blas.proofs.Rows.{length-scale, entry-scale-before}
+use Rattle.store.specs.Columns.{HasRows}
+use Rattle.store.specs.Steps.{Matrix, column, swapInAll, stepColumn, stepColumns, eliminated}
+use Rattle.store.proofs.Steps.{length-swapInAll, rows-swapInAll, length-eliminated, rows-eliminated}
+use Rattle.lu.specs.Elimination.{Factors, recordSwap, multipliers, scaled, pivotStep, step}
+
+-- ---- step i's pivot row, whether the step is skipped, and the column that it leaves at i
+abbrev pub pivotAt : ℕ → Factors → ℕ
+pivotAt i f = pivotRow i (column (f .columns) i)
+
+abbrev pub skipped : ℕ → Factors → Bool
+skipped i f = isZero (entry (column (f .columns) i) (pivotAt i f))
+
+abbrev pub packed : ℕ → ℕ → Factors → Column
+packed i p f = multipliers i (swapRows i p (column (f .columns) i))
+
+pub length-multipliers : (i : ℕ) (c : Column) → length (multipliers i c) ≡ length c
+unfolding multipliers
+length-multipliers i c = length-scale (i + 1) _ c
+
+-- a step, by cases
+pub step-cases : (i : ℕ) (f : Factors) (P : Factors → Type 0)
+    → (skipped i f ≡ true → P f) → (skipped i f ≡ false → P (pivotStep i (pivotAt i f) f)) → P (step i f)
+unfolding step
+step-cases i f P = cond-cases P (skipped i f)
+
+-- ---- rows swapped in every column, and one column scaled
+module _ (i p : ℕ) (cs : Matrix) where
+  column-swapped : (j : ℕ) → j < length cs → column (swapInAll i p cs) j ≡ swapRows i p (column cs j)
+  unfolding swapInAll
+  column-swapped j h = each-at (λ k c. swapRows i p c) 0 cs j [] (omega arith) h
+
+  swapped-snoc : (x : Column) → swapInAll i p (cs ++ x ∷ []) ≡ swapInAll i p cs ++ swapRows i p x ∷ []
+  unfolding swapInAll
+  swapped-snoc x = each-snoc (λ k c. swapRows i p c) 0 cs x (omega arith)
+
+module _ (i : ℕ) (cs : Matrix) where
+  length-scaled : length (scaled i cs) ≡ length cs
+  unfolding scaled
+  length-scaled = length-set cs i _
+
+  scaled-here : i < length cs → column (scaled i cs) i ≡ multipliers i (column cs i)
+  unfolding scaled
+  scaled-here h = getD-set-same cs i _ [] h
+
+  scaled-other : (j : ℕ) → (j ≡ i → ⊥) → column (scaled i cs) j ≡ column cs j
+  unfolding scaled
+  scaled-other j ne = getD-set-other cs i j _ [] ne
+
+  scaled-snoc : (x : Column) → i < length cs → scaled i (cs ++ x ∷ []) ≡ scaled i cs ++ x ∷ []
+  unfolding scaled
+  scaled-snoc x h =
+      ap (λ (c : Column). set (cs ++ x ∷ []) i (multipliers i c)) (List·getD-append cs (x ∷ []) [] i h) ∙ set-append-left cs (x ∷ []) i _ h
+
+  rows-scaled : (m : ℕ) → HasRows m cs → HasRows m (scaled i cs)
+  rows-scaled m rows j h =
+      let hj : j < length cs = rw length-scaled at h in
+      test-cases (eqb j i)
+      (λ t.
+      let e = eqb-true j i t in
+      let hi : i < length cs = rw e at hj in
+      rw e (ap length (scaled-here hi) ∙ length-multipliers i (column cs i) ∙ rows i hi))
+      (λ t. ap length (scaled-other j (eqb-false j i t)) ∙ rows j hj)
+
+-- ---- what the step with pivot row p makes of each column
+module _ (i p : ℕ) (f : Factors) where
+  pub length-pivotStep : length (pivotStep i p f .columns) ≡ length (f .columns)
+  unfolding pivotStep
+  length-pivotStep = length-eliminated i _ ∙ length-scaled i _ ∙ length-swapInAll i p (f .columns)
+
+  pub rows-pivotStep : (m : ℕ) → HasRows m (f .columns) → HasRows m (pivotStep i p f .columns)
+  unfolding pivotStep
+  rows-pivotStep m rows = rows-eliminated i m _ (rows-scaled i _ m (rows-swapInAll i m p (f .columns) rows))
+
+  -- before the last part of the step
+  before : Matrix
+  before = scaled i (swapInAll i p (f .columns))
+
+  length-before : length before ≡ length (f .columns)
+  unfolding before
+  length-before = length-scaled i _ ∙ length-swapInAll i p (f .columns)
+
+  before-here : i < length (f .columns) → column before i ≡ packed i p f
+  unfolding before
+  before-here h = scaled-here i (swapInAll i p (f .columns)) (rw length-swapInAll h) ∙ ap (multipliers i) (column-swapped i p (f .columns) i h)
+
+  before-other : (j : ℕ) → j < length (f .columns) → (j ≡ i → ⊥) → column before j ≡ swapRows i p (column (f .columns) j)
+  unfolding before
+  before-other j h ne = scaled-other i (swapInAll i p (f .columns)) j ne ∙ column-swapped i p (f .columns) j h
+
+  pub step-left : (j : ℕ) → j < i → i < length (f .columns) → column (pivotStep i p f .columns) j ≡ swapRows i p (column (f .columns) j)
+  unfolding pivotStep eliminated stepColumns before
+  step-left j h hi = each-before _ (i + 1) before j [] (omega arith) ∙ before-other j (omega arith) (λ e. omega arith)
+
+  pub step-here : i < length (f .columns) → column (pivotStep i p f .columns) i ≡ packed i p f
+  unfolding pivotStep eliminated stepColumns before
+  step-here hi = each-before _ (i + 1) before i [] (omega arith) ∙ before-here hi
+
+  -- one more column to the right
+  pub pivotStep-snoc : (x : Column) → i < length (f .columns)
+      → pivotStep i p (record { columns = f .columns ++ x ∷ []; swaps = f .swaps }) .columns
+      ≡ pivotStep i p f .columns ++ stepColumn i (packed i p f) (swapRows i p x) ∷ []
+  unfolding pivotStep eliminated stepColumns before
+  pivotStep-snoc x h =
+      let cs = f .columns in
+      let y = swapRows i p x in
+      let l = packed i p f in
+      let hb : i < length before = rw length-before h in
+      let shape : scaled i (swapInAll i p (cs ++ x ∷ [])) ≡ before ++ y ∷ [] =
+      ap (scaled i) (swapped-snoc i p cs x) ∙ scaled-snoc i (swapInAll i p cs) y (rw length-swapInAll h) in
+      let here : column (before ++ y ∷ []) i ≡ column before i = List·getD-append before (y ∷ []) [] i hb in
+      (λ t. eachFrom (λ j c. stepColumn i (column (shape t) i) c) (i + 1) (shape t))
+      ∙ ap (λ (c : Column). eachFrom (λ j d. stepColumn i c d) (i + 1) (before ++ y ∷ [])) here
+      ∙ each-snoc (λ j d. stepColumn i (column before i) d) (i + 1) before y (omega arith)
+      ∙ ap (λ (c : Column). eachFrom (λ j d. stepColumn i (column before i) d) (i + 1) before ++ stepColumn i c y ∷ []) (before-here h)
+
+-- the packed diagonal of a step that is not skipped is the pivot
+pub packed-diagonal : (m k p : ℕ) (f : Factors) → HasRows m (f .columns) → k < m → p < m → k < length (f .columns)
+    → entry (packed k p f) k ≡ entry (column (f .columns) k) p
+unfolding multipliers
+packed-diagonal m k p f rows km pm kn =
+    let x = column (f .columns) k in
+    entry-scale-before (k + 1) _ (swapRows k p x) k (omega arith)
+    ∙ getD-exchanged nan k p x k (rw (rows k kn) km) (rw (rows k kn) pm)
+    ∙ ap (entry x) (other-first k p)
+
+-- ---- the steps one after another
+pub turns-last : {S : Type 0} (f : ℕ → S → S) (i c : ℕ) (s : S) → turnsFrom f i (suc c) s ≡ f (i + c) (turnsFrom f i c s)
+unfolding turnsFrom
+turns-last f i zero s = ap (λ (k : ℕ). f k s) (sym (add-zero i))
+turns-last f i (suc c) s =
+    let e : i + 1 + c ≡ i + suc c = omega arith in
+    turns-last f (i + 1) c (f i s) ∙ ap (λ (k : ℕ). f k (turnsFrom f (i + 1) c (f i s))) e
+
+-- the steps 0 to k - 1
+abbrev pub steps : ℕ → Factors → Factors
+steps k f = turnsFrom step 0 k f
+
+pub steps-next : (k : ℕ) (f : Factors) → steps (suc k) f ≡ step k (steps k f)
+steps-next k f = turns-last step 0 k f ∙ ap (λ (i : ℕ). step i (steps k f)) (zero-add k)
+
+-- what every step keeps
+pub steps-keep : (P : Factors → Type 0) → ((i : ℕ) (f : Factors) → P f → P (step i f)) → (i c : ℕ) (f : Factors) → P f → P (turnsFrom step i c f)
+unfolding turnsFrom
+steps-keep P keeps i zero f h = h
+steps-keep P keeps i (suc c) f h = steps-keep P keeps (i + 1) c (step i f) (keeps i f h)
+
+pub length-steps : (k : ℕ) (f : Factors) → length (steps k f .columns) ≡ length (f .columns)
+length-steps k f =
+    steps-keep (λ g. length (g .columns) ≡ length (f .columns))
+    (λ i g e. step-cases i g (λ h. length (h .columns) ≡ length (f .columns)) (λ s. e) (λ s. length-pivotStep i (pivotAt i g) g ∙ e)) 0 k f refl
+
+pub rows-steps : (m k : ℕ) (f : Factors) → HasRows m (f .columns) → HasRows m (steps k f .columns)
+rows-steps m k f rows =
+    steps-keep (λ g. HasRows m (g .columns))
+    (λ i g r. step-cases i g (λ h. HasRows m (h .columns)) (λ s. r) (λ s. rows-pivotStep i (pivotAt i g) g m r)) 0 k f rows
