@@ -1,11 +1,14 @@
 pub mod Accepted
+pub mod Afresh
 pub mod Alone
 pub mod Answers
 pub mod Diagonal
 pub mod Figures
+pub mod Own
 pub mod Recorded
 pub mod Signed
 pub mod Slices
+pub mod Slot
 pub mod Solved
 pub mod Step
 pub mod Swaps
@@ -13,5 +16,6 @@ pub mod Taken
 pub mod Told
 pub mod Triangles
 pub mod Widen
-pub mod WrongPrograms
+pub mod Widening
 pub mod Written
+pub mod WrongPrograms

@@ -49,7 +49,7 @@ module _ (i p : ℕ) (cs : Matrix) where
   unfolding swapInAll
   column-swapped j h = each-at (λ k c. swapRows i p c) 0 cs j [] (omega arith) h
 
-  swapped-snoc : (x : Column) → swapInAll i p (cs ++ x ∷ []) ≡ swapInAll i p cs ++ swapRows i p x ∷ []
+  pub swapped-snoc : (x : Column) → swapInAll i p (cs ++ x ∷ []) ≡ swapInAll i p cs ++ swapRows i p x ∷ []
   unfolding swapInAll
   swapped-snoc x = each-snoc (λ k c. swapRows i p c) 0 cs x (omega arith)
 

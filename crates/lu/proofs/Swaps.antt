@@ -2,16 +2,20 @@
 use mathlib.Core.Path.{_≡_, refl, sym, ap, ap₂, _∙_}
 use mathlib.Core.Bool.{cond}
 use mathlib.Core.List.{List, [], _∷_, _++_, append-assoc}
-use Prim.Native.Nat.{ℕ, suc, _+_, _-_, _*_, _≤_, _<_}
+use Prim.Native.Nat.{ℕ, zero, suc, _+_, _-_, _*_, _≤_, _<_}
+use native.Mathlib.Nat.{sub-zero}
 use native.Mathlib.Numerals.{add-one}
 use native.Mathlib.Omega.{arith}
 use lib.Dec.{eqb}
-use lib.ListN.{length, replicate, set, length-append, length-replicate}
-use lib.Seq.{set-at}
+use lib.ListN.{length, replicate, getD, set, take, drop, length-append, length-replicate, take-append-drop}
+use lib.Seq.{set-at, drop-append-add, length-take-le}
 use Rattle.blas.proofs.Choice.{cond-cases, cond-both}
+use Rattle.blas.proofs.Walk.{drop-next}
 use Rattle.permutation_sequence.specs.SwapList.{Swaps, pairsOf, withPair}
+use Rattle.permutation_sequence.proofs.SwapList.{length-pairs}
 use Rattle.lu.specs.Elimination.{recordSwap}
 use Rattle.lu.specs.Factoring.{numbersOf, storeOf}
+use Rattle.lu.specs.Adding.{written}
 
 pub length-numbers : (swaps : Swaps) → length (numbersOf swaps) ≡ 2 * length swaps
 unfolding numbersOf
@@ -68,3 +72,82 @@ module _ (swaps : Swaps) (i p : ℕ) (room : length swaps < 64) where
   pub count-record : cond (eqb p i) (length swaps) (length swaps + 1) ≡ length (recordSwap i p swaps)
   unfolding recordSwap
   count-record = cond-both (λ (n : ℕ) (t : Swaps). n ≡ length t) (eqb p i) (λ e. refl) (λ e. sym (length-append swaps ((i, p) ∷ [])))
+
+-- ---- pairs written at the front of a store
+drop-replicate : (k n : ℕ) → drop k (replicate n 0) ≡ replicate {A = ℕ} (n - k) 0
+drop-replicate zero n = ap (λ (c : ℕ). replicate {A = ℕ} c 0) (sym (sub-zero n))
+drop-replicate (suc k) zero = let e : 0 ≡ 0 - suc k = omega arith in ap (λ (c : ℕ). replicate {A = ℕ} c 0) e
+drop-replicate (suc k) (suc n) =
+    let e : n - k ≡ suc n - suc k = omega arith in
+    drop-replicate k n ∙ ap (λ (c : ℕ). replicate {A = ℕ} c 0) e
+
+-- over a store with no more pairs than these: what follows stays zero
+pub written-store : (swaps more : Swaps) → length swaps ≤ length more → written more (storeOf swaps) ≡ storeOf more
+unfolding written storeOf
+written-store swaps more h =
+    let a = length (numbersOf swaps) in
+    let b = 2 * length more - a in
+    let is : a ≡ 2 * length swaps = length-numbers swaps in
+    let sum : 2 * length more ≡ a + b = omega arith in
+    let left : 128 - 2 * length swaps - b ≡ 128 - 2 * length more = omega arith in
+    ap (λ (s : List ℕ). numbersOf more ++ s)
+    (ap (λ (k : ℕ). drop k (numbersOf swaps ++ replicate (128 - 2 * length swaps) 0)) sum
+    ∙ drop-append-add (numbersOf swaps) (replicate (128 - 2 * length swaps) 0) b
+    ∙ drop-replicate b (128 - 2 * length swaps)
+    ∙ ap (λ (c : ℕ). replicate {A = ℕ} c 0) left)
+
+pub record-more : (i p : ℕ) (swaps : Swaps) → length swaps ≤ length (recordSwap i p swaps)
+unfolding recordSwap
+record-more i p swaps = cond-cases (λ (s : Swaps). length swaps ≤ length s) (eqb p i) (λ e. omega arith) (λ e. omega (arith, length-append swaps ((i, p) ∷ [])))
+
+-- the pairs that a store holds are its front
+numbers-front : (pairs : ℕ) (store : List ℕ) → 2 * pairs ≤ length store → numbersOf (pairsOf pairs store) ≡ take (2 * pairs) store
+unfolding pairsOf numbersOf
+numbers-front zero store h = refl
+numbers-front (suc pairs) [] h = absurd (let n : ⊥ = omega arith in n)
+numbers-front (suc pairs) (x ∷ []) h = absurd (let n : ⊥ = omega arith in n)
+numbers-front (suc pairs) (x ∷ y ∷ store) h =
+    let e : suc (suc (2 * pairs)) ≡ 2 * suc pairs = omega arith in
+    ap (λ (s : List ℕ). x ∷ y ∷ s) (numbers-front pairs store (omega arith)) ∙ ap (λ (k : ℕ). take k (x ∷ y ∷ store)) e
+
+-- written over themselves they change nothing, and with the next pair they write that pair alone
+module _ (pairs i p : ℕ) (store : List ℕ) (room : 2 * pairs + 1 < length store) where
+  pub written-same : written (pairsOf pairs store) store ≡ store
+  unfolding written
+  written-same =
+      ap₂ (λ (a : List ℕ) (k : ℕ). a ++ drop (2 * k) store) (numbers-front pairs store (omega arith)) (length-pairs pairs store) ∙ take-append-drop (2 * pairs) store
+
+  pub written-next : written (pairsOf pairs store ++ (i, p) ∷ []) store ≡ withPair pairs i p store
+  unfolding written withPair
+  written-next =
+      let k = 2 * pairs in
+      let front = take k store in
+      let len : length front ≡ k = length-take-le k store (omega arith) in
+      let x = getD store k 0 in
+      let y = getD store (k + 1) 0 in
+      let rest = drop (k + 1 + 1) store in
+      let cut : store ≡ front ++ x ∷ y ∷ rest =
+      sym (take-append-drop k store)
+      ∙ ap (λ (s : List ℕ). front ++ s) (drop-next store k 0 (omega arith) ∙ ap (λ (s : List ℕ). x ∷ s) (drop-next store (k + 1) 0 (omega arith))) in
+      let len' : length (front ++ i ∷ []) ≡ k + 1 = length-append front (i ∷ []) ∙ omega arith in
+      let more : 2 * length (pairsOf pairs store ++ (i, p) ∷ []) ≡ k + 1 + 1 =
+      omega (arith, length-append (pairsOf pairs store) ((i, p) ∷ []), length-pairs pairs store) in
+      ap₂ (λ (a : List ℕ) (j : ℕ). a ++ drop j store)
+      (numbers-snoc (pairsOf pairs store) (i, p) ∙ ap (λ (a : List ℕ). a ++ i ∷ p ∷ []) (numbers-front pairs store (omega arith))) more
+      ∙ append-assoc front (i ∷ p ∷ []) rest
+      ∙ sym
+      (ap (λ (s : List ℕ). set (set s k i) (k + 1) p) cut
+      ∙ ap (λ (s : List ℕ). set s (k + 1) p) (set-at front x (y ∷ rest) i k len ∙ sym (append-assoc front (i ∷ []) (y ∷ rest)))
+      ∙ set-at (front ++ i ∷ []) y rest p (k + 1) len'
+      ∙ append-assoc front (i ∷ []) (p ∷ rest))
+
+  -- a recorded swap: the store and the count that are left
+  pub written-record : written (recordSwap i p (pairsOf pairs store)) store ≡ cond (eqb p i) store (withPair pairs i p store)
+  unfolding recordSwap
+  written-record = cond-both (λ (s : Swaps) (t : List ℕ). written s store ≡ t) (eqb p i) (λ e. written-same) (λ e. written-next)
+
+  pub count-held : length (recordSwap i p (pairsOf pairs store)) ≡ cond (eqb p i) pairs (pairs + 1)
+  unfolding recordSwap
+  count-held =
+      cond-both (λ (s : Swaps) (k : ℕ). length s ≡ k) (eqb p i) (λ e. length-pairs pairs store)
+      (λ e. length-append (pairsOf pairs store) ((i, p) ∷ []) ∙ ap (λ (k : ℕ). k + 1) (length-pairs pairs store))

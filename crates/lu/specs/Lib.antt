@@ -1,7 +1,8 @@
 pub mod Elimination
-pub mod Adding
 pub mod Factoring
 pub mod Held
+pub mod Adding
+pub mod Own
 pub mod Taken
 pub mod Triangles
 pub mod Solving

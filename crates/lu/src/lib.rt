@@ -1,9 +1,10 @@
 // LU decomposition with partial (row) pivoting: linalg/lu.rs of nalgebra 0.35.0, for f64 matrices that lie column after column.
 ghost use mathlib.Core.Path.{_≡_};
 ghost use mathlib.Core.Bool.{true};
-ghost use mathlib.Core.List.{[]};
-ghost use Prim.Native.Nat.{_+_, _*_, _<_, _≤_};
+ghost use mathlib.Core.List.{[], _∷_, _++_};
+ghost use Prim.Native.Nat.{_+_, _*_, _<_, _≤_, min};
 ghost use lib.ListN.{length, replicate};
+ghost use Rattle.blas.specs.Each.{turnsFrom};
 ghost use Rattle.store.specs.Columns.{columns, flat, isMatrix};
 ghost use Rattle.refusals.specs.Refusals.{answerOf};
 ghost use Rattle.permutation_sequence.specs.SwapList.{goodList};
@@ -11,6 +12,8 @@ ghost use Rattle.store.specs.Steps.{swapInAll, eliminated};
 ghost use Rattle.lu.specs.Elimination.{Factors, scaled, step, eliminate};
 ghost use Rattle.lu.specs.Factoring.{storeOf, factoringRefusal, factoring, factoredOf};
 ghost use Rattle.lu.specs.Held.{Held, Recorded};
+ghost use Rattle.lu.specs.Adding.{reduced, factorsIn, earlyRefusal, adding, addedOf};
+ghost use Rattle.lu.specs.Own.{updatedAt, ownRow, ownColumn};
 ghost use Rattle.lu.specs.Taken.{takenRefusal};
 ghost use Rattle.lu.specs.Triangles.{lowerOf, upperOf, lowerFactor, upperFactor, lowering, uppering};
 ghost use Rattle.lu.specs.Solving.{solvedBy, solving, unitColumn, identity, inverting};
@@ -466,4 +469,133 @@ pub fn is_invertible(factors: &[f64], swaps: &[usize], told: Record) -> Invertib
         return Invertible::Refused(number);
     }
     Invertible::Is(!solve::zero_on_diagonal(factors, told.rows))
+}
+
+// What adding a column answers: the new record, or a refusal's number with the old record.
+pub enum Added {
+    Accepted(Record),
+    Refused { number: usize, told: Record },
+}
+
+// Whether s holds n columns of m entries and room for one more.
+fn has_room(s: &[f64], m: usize, n: usize) -> bool
+    ensures { λ r. ⌜ r ≡ isMatrix m (n + 1) (now (s .entry)) ⌝ }
+{
+    if 63 < n {
+        return false;
+    }
+    store::is_matrix(s, m, n + 1)
+}
+
+// The refusals 1, 3 and 4 of adding a column, 0 for none.
+fn adding_refusal(s: &[f64], c: &[f64], swaps: &[usize], told: Record) -> usize
+    ensures { λ r. ⌜ r ≡ earlyRefusal told (now (s .entry)) (now (c .entry)) (now (swaps .entry)) ⌝ }
+{
+    let m = told.rows;
+    let n = told.columns;
+    let sizes = refusals::outside(1, m) | (63 < n);
+    let lengths = has_room(s, m, n) & (c.len() == m) & (swaps.len() == 128);
+    let list = permutation_sequence::is_good_list(swaps, told.pairs, m, store::min(m, n));
+    refusals::first(
+        1,
+        sizes,
+        refusals::first(3, !lengths, refusals::first(4, !list, 0)),
+    )
+}
+
+// Step 5 on the new column, number n, by column i, whose multipliers are copied to l; nothing where the packed diagonal is zero.
+fn update_by(s: &mut [f64], m: usize, n: usize, i: usize, l: &mut [f64])
+    requires { ⌜ (isMatrix m (n + 1) (now s) ≡ true) × (i < n) × (i < m) × (length (now l) ≡ m) ⌝ }
+    ensures { λ _. ⌜ columns m (n + 1) (now (s .exit)) ≡ updatedAt n i (columns m (n + 1) (now (s .entry))) ⌝ }
+{
+    let a = i * m;
+    let e = a + m;
+    let q = a + i;
+    let diag = s[q];
+    if blas::is_zero(diag) {
+        return;
+    }
+    blas::copy(l, &s[a..e]);
+    let b = n * m;
+    let d = b + m;
+    store::step_column(&mut s[b..d], l, i);
+}
+
+// That by each column i below min(m, n), in turn; l is scratch.
+fn update_all(s: &mut [f64], m: usize, n: usize, l: &mut [f64])
+    requires { ⌜ (isMatrix m (n + 1) (now s) ≡ true) × (length (now l) ≡ m) ⌝ }
+    ensures { λ _. ⌜ columns m (n + 1) (now (s .exit)) ≡ turnsFrom (updatedAt n) 0 (min m n) (columns m (n + 1) (now (s .entry))) ⌝ }
+{
+    let steps = store::min(m, n);
+    let mut i = 0;
+    while i < steps {
+        update_by(s, m, n, i, l);
+        i += 1;
+    }
+}
+
+// The raw column c in the slot behind the n columns: permuted by the list, then updated by the older columns.
+fn reduce_column(s: &mut [f64], m: usize, n: usize, c: &[f64], swaps: &[usize], pairs: usize)
+    requires { ⌜ (isMatrix m (n + 1) (now s) ≡ true) × (length (now c) ≡ m) × (goodList m (min m n) pairs (now swaps) ≡ true) ⌝ }
+    ensures { λ _. ⌜ columns m (n + 1) (now (s .exit)) ≡ columns m n (now (s .entry)) ++ reduced m (factorsIn m n pairs (now (s .entry)) (now (swaps .entry))) (now (c .entry)) ∷ [] ⌝ }
+{
+    let a = n * m;
+    let e = a + m;
+    blas::copy(&mut s[a..e], c);
+    permutation_sequence::apply_to_rows(&mut s[a..e], m, 1, swaps, pairs, false);
+    let mut l = [0.0f64; 64];
+    update_all(s, m, n, &mut l[0..m]);
+}
+
+// The new column's own step, n being its number. Answers the row that row n was exchanged with.
+fn own_step(col: &mut [f64], n: usize) -> usize
+    ensures { λ r. ⌜ r ≡ ownRow n (now (col .entry)) ⌝ }
+    ensures { λ _. ⌜ now (col .exit) ≡ ownColumn n (now (col .entry)) ⌝ }
+{
+    if col.len() <= n {
+        return n;
+    }
+    let piv = blas::icamax(col, n);
+    let diag = col[piv];
+    if blas::is_zero(diag) {
+        return n;
+    }
+    blas::swap(col, n, piv);
+    let inv_diag = 1.0 / col[n];
+    blas::scale(col, n + 1, inv_diag);
+    piv
+}
+
+// Adds the raw column c to the factors in s, which has room for it behind its columns.
+pub fn add_column(s: &mut [f64], c: &[f64], swaps: &mut [usize], told: Record) -> Added
+    ensures { λ r. ⌜ r ≡ addedOf (adding told (now (s .entry)) (now (c .entry)) (now (swaps .entry))) ⌝ }
+    ensures { λ _. ⌜ now (s .exit) ≡ adding told (now (s .entry)) (now (c .entry)) (now (swaps .entry)) .factors ⌝ }
+    ensures { λ _. ⌜ now (swaps .exit) ≡ adding told (now (s .entry)) (now (c .entry)) (now (swaps .entry)) .store ⌝ }
+{
+    let m = told.rows;
+    let n = told.columns;
+    let pairs = told.pairs;
+    let number = adding_refusal(s, c, swaps, told);
+    if number != 0 {
+        return Added::Refused { number, told };
+    }
+    let a = n * m;
+    let e = a + m;
+    let finite = blas::all_finite(&s[..a]) & blas::all_finite(c);
+    if !finite {
+        return Added::Refused { number: 5, told };
+    }
+    reduce_column(s, m, n, c, swaps, pairs);
+    let piv = own_step(&mut s[a..e], n);
+    if !blas::all_finite(&s[a..e]) {
+        blas::fill_zero(&mut s[a..e]);
+        return Added::Refused { number: 7, told };
+    }
+    store::swap_rows(s, m, n + 1, n, piv, 0, n);
+    let now_pairs = record_swap(swaps, pairs, n, piv);
+    Added::Accepted(Record {
+        rows: m,
+        columns: n + 1,
+        pairs: now_pairs,
+    })
 }

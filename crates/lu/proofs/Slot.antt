@@ -1,0 +1,158 @@
+-- The slot behind n columns, as the code of adding works in it: lent as a part it is the last column, its updates by the older columns are those of
+-- the definition, and an exchange of rows in the older columns leaves it. Assumes nothing.
+use mathlib.Core.Path.{_≡_, refl, sym, ap, ap₂, _∙_}
+use mathlib.Core.Bool.{true, false, cond}
+use mathlib.Core.List.{List, [], _∷_, _++_, append-nil}
+use Prim.Native.Nat.{ℕ, zero, suc, _+_, _-_, _*_, _≤_, _<_, min}
+use native.Mathlib.Nat.{suc-mul, one-mul}
+use native.Mathlib.Numerals.{add-one}
+use native.Mathlib.Omega.{arith}
+use borrow.Author.Tests.{lt-ltb, le-ltb}
+use borrow.Rule.Slice.PartMut.{midOf, putMid, same-len-mid}
+use lib.Dec.{ltb}
+use lib.ListN.{length, getD, set, take, drop, length-append, length-drop, take-append-drop, List·getD-append}
+use lib.Seq.{set-at, getD-at, set-getD, take-all, length-take-le}
+use lib.Ieee.{Float, nan}
+use Rattle.blas.specs.Each.{eachFrom, turnsFrom}
+use Rattle.blas.specs.Numbers.{isZero}
+use Rattle.blas.specs.Column.{Column, entry, swapRows, copied}
+use Rattle.blas.proofs.Choice.{cond-cases}
+use Rattle.blas.proofs.Each.{each-snoc, each-same}
+use Rattle.blas.proofs.Rows.{copied-whole}
+use Rattle.store.specs.Columns.{columns, flat, isMatrix, onColumns}
+use Rattle.store.specs.Steps.{Matrix, column, swapInAll, rowsSwapped, stepColumn}
+use Rattle.store.proofs.Columns.{sized, is-matrix, length-columns, flat-columns, columns-front, columns-snoc, part-column, column-length, column-lent, on-flat, entry-at}
+use Rattle.permutation_sequence.specs.SwapList.{Swaps, pairsOf, held, goodList}
+use Rattle.permutation_sequence.specs.Permute.{permute, rowsPermuted, inOrder}
+use Rattle.permutation_sequence.proofs.Permute.{rows-each}
+use Rattle.permutation_sequence.proofs.SwapList.{held-good}
+use Rattle.lu.specs.Adding.{update, reduced, factorsIn}
+use Rattle.lu.specs.Own.{updatedAt}
+
+-- ---- the store with its slot
+module _ (m n : ℕ) (s : Column) (len : length s ≡ (n + 1) * m) where
+  split : (n * m ≤ length s) × (length (drop (n * m) s) ≡ m)
+  split =
+      let more : (n + 1) * m ≡ n * m + m = ap (λ (k : ℕ). k * m) (add-one n) ∙ suc-mul n m in
+      (omega arith, omega (arith, length-drop (n * m) s))
+
+  front : length (take (n * m) s) ≡ n * m
+  front = length-take-le (n * m) s (split .0)
+
+  whole : take (n * m) s ++ drop (n * m) s ≡ s
+  whole = take-append-drop (n * m) s
+
+  older : columns m n (take (n * m) s) ≡ columns m n s
+  older = sym (ap (columns m n) (sym whole) ∙ columns-front m n (take (n * m) s) (drop (n * m) s) front)
+
+  -- the older columns, and what stands in the slot
+  pub slot-columns : columns m (n + 1) s ≡ columns m n s ++ drop (n * m) s ∷ []
+  slot-columns =
+      ap (columns m (n + 1)) (sym whole)
+      ∙ columns-snoc m n (take (n * m) s) (drop (n * m) s) front (split .1)
+      ∙ ap (λ (cs : Matrix). cs ++ drop (n * m) s ∷ []) older
+
+  pub older-flat : flat (columns m n s) ≡ take (n * m) s
+  older-flat = ap flat (sym older) ∙ flat-columns m n (take (n * m) s) front
+
+-- the slot lent as a part to a function that makes h of it
+pub slot-lent : (h : Column → Column) (m n : ℕ) (s c x : Column) (cs : Matrix) → length s ≡ (n + 1) * m → length cs ≡ n → columns m (n + 1) s ≡ cs ++ x ∷ []
+    → length c ≡ length (midOf (n * m) (n * m + m - n * m) s) → c ≡ h (midOf (n * m) (n * m + m - n * m) s)
+    → columns m (n + 1) (putMid (n * m) (n * m + m - n * m) s c) ≡ cs ++ h x ∷ []
+slot-lent h m n s c x cs len wide is kept made =
+    column-lent h m (n + 1) n s c (omega arith) len kept made
+    ∙ ap (λ (ds : Matrix). set ds n (h (getD ds n []))) is
+    ∙ ap (λ (y : Column). set (cs ++ x ∷ []) n (h y)) (getD-at cs x [] [] n wide)
+    ∙ set-at cs x [] (h x) n wide
+
+-- the slot as it is lent
+pub slot-part : (m n : ℕ) (s x : Column) (cs : Matrix) → length cs ≡ n → columns m (n + 1) s ≡ cs ++ x ∷ [] → midOf (n * m) (n * m + m - n * m) s ≡ x
+slot-part m n s x cs wide is = part-column m (n + 1) n s (omega arith) ∙ ap (λ (ds : Matrix). column ds n) is ∙ getD-at cs x [] [] n wide
+
+-- ---- one column as a matrix of its own
+pub one-column : (m : ℕ) (swaps : Swaps) (x : Column) → m ≤ 64 → length x ≡ m → onColumns m 1 (rowsPermuted swaps) x ≡ permute swaps x
+unfolding columns flat eachFrom
+one-column m swaps x h len =
+    let fits : isMatrix m 1 x ≡ true = is-matrix m 1 x h (omega arith) (len ∙ sym (one-mul m)) in
+    on-flat m 1 (rowsPermuted swaps) x fits
+    ∙ ap flat (rows-each swaps (columns m 1 x))
+    ∙ append-nil (permute swaps (take m x))
+    ∙ ap (permute swaps) (take-all m x (omega arith))
+
+-- ---- the updates
+module _ (m n i : ℕ) (s : Column) (len : length s ≡ (n + 1) * m) (hi : i < n) (hm : i < m) where
+  -- a zero on the packed diagonal
+  pub update-none : (d : Float) → d ≡ getD s (i * m + i) nan → isZero d ≡ true → columns m (n + 1) s ≡ updatedAt n i (columns m (n + 1) s)
+  unfolding updatedAt update
+  update-none d is z =
+      let cs = columns m (n + 1) s in
+      let zero-there : isZero (entry (column cs i) i) ≡ true = ap isZero (sym (is ∙ entry-at m (n + 1) i i s nan (omega arith) hm)) ∙ z in
+      rw zero-there (sym (set-getD cs n []))
+
+  -- l is a copy of column i
+  pub update-done : (d : Float) (l was c : Column) → d ≡ getD s (i * m + i) nan → isZero d ≡ false → length was ≡ m
+      → l ≡ copied (midOf (i * m) (i * m + m - i * m) s) was
+      → length c ≡ length (midOf (n * m) (n * m + m - n * m) s) → c ≡ stepColumn i l (midOf (n * m) (n * m + m - n * m) s)
+      → columns m (n + 1) (putMid (n * m) (n * m + m - n * m) s c) ≡ updatedAt n i (columns m (n + 1) s)
+  unfolding updatedAt update
+  update-done d l was c is z fit copy kept made =
+      let cs = columns m (n + 1) s in
+      let hi' : i < n + 1 = omega arith in
+      let some : isZero (entry (column cs i) i) ≡ false = ap isZero (sym (is ∙ entry-at m (n + 1) i i s nan hi' hm)) ∙ z in
+      let l-is : l ≡ column cs i =
+      copy ∙ copied-whole (midOf (i * m) (i * m + m - i * m) s) was (column-length m (n + 1) i s hi' len ∙ sym fit) ∙ part-column m (n + 1) i s hi' in
+      column-lent (stepColumn i l) m (n + 1) n s c (omega arith) len kept made
+      ∙ ap (λ (x : Column). set cs n (stepColumn i x (column cs n))) l-is
+      ∙ rw some
+
+-- the updates of the last column, by columns that stay
+updated-last : (cs : Matrix) (x : Column) (i : ℕ) → i < length cs → updatedAt (length cs) i (cs ++ x ∷ []) ≡ cs ++ update cs i x ∷ []
+unfolding updatedAt update
+updated-last cs x i h =
+    rw (List·getD-append cs (x ∷ []) [] i h, getD-at cs x [] [] (length cs) refl)
+    (set-at cs x [] (cond (isZero (entry (column cs i) i)) x (stepColumn i (column cs i) x)) (length cs) refl)
+
+pub updates-last : (cs : Matrix) (x : Column) (i k : ℕ) → i + k ≤ length cs → turnsFrom (updatedAt (length cs)) i k (cs ++ x ∷ []) ≡ cs ++ turnsFrom (update cs) i k x ∷ []
+unfolding turnsFrom
+updates-last cs x i zero h = refl
+updates-last cs x i (suc k) h =
+    ap (turnsFrom (updatedAt (length cs)) (i + 1) k) (updated-last cs x i (omega arith)) ∙ updates-last cs (update cs i x) (i + 1) k (omega arith)
+
+-- ---- rows exchanged in the older columns alone
+pub older-swapped : (i p : ℕ) (cs : Matrix) (x : Column) → rowsSwapped i p 0 (length cs) (cs ++ x ∷ []) ≡ swapInAll i p cs ++ x ∷ []
+unfolding rowsSwapped swapInAll
+older-swapped i p cs x =
+    each-snoc (λ j c. cond (ltb j (length cs)) (swapRows i p c) c) 0 cs x (omega arith)
+    ∙ ap₂ (λ (ds : Matrix) (y : Column). ds ++ y ∷ [])
+    (each-same _ (λ j c. swapRows i p c) 0 cs (λ j c g u. rw (lt-ltb j (length cs) u)))
+    (rw (le-ltb (length cs) (length cs) (omega arith)))
+
+-- ---- the whole reduction, from what the calls give: the raw column copied to the slot, permuted there, and updated
+module _ (m n pairs : ℕ) (s c : Column) (store : List ℕ) (fits : isMatrix m (n + 1) s ≡ true) (lc : length c ≡ m) (good : goodList m (min m n) pairs store ≡ true) where
+  pub reduced-made : (c₁ c₂ u : Column)
+      → let t = putMid (n * m) (n * m + m - n * m) s c₁ in
+      length c₁ ≡ length (midOf (n * m) (n * m + m - n * m) s) → c₁ ≡ copied c (midOf (n * m) (n * m + m - n * m) s)
+      → length c₂ ≡ length (midOf (n * m) (n * m + m - n * m) t)
+      → c₂ ≡ onColumns m 1 (rowsPermuted (inOrder false (held pairs store))) (midOf (n * m) (n * m + m - n * m) t)
+      → columns m (n + 1) u ≡ turnsFrom (updatedAt n) 0 (min m n) (columns m (n + 1) (putMid (n * m) (n * m + m - n * m) t c₂))
+      → columns m (n + 1) u ≡ columns m n s ++ reduced m (factorsIn m n pairs s store) c ∷ []
+  unfolding reduced inOrder
+  reduced-made c₁ c₂ u k₁ e₁ k₂ e₂ made =
+      let cs = columns m n s in
+      let swaps = pairsOf pairs store in
+      let t = putMid (n * m) (n * m + m - n * m) s c₁ in
+      let h : Column → Column = onColumns m 1 (rowsPermuted (held pairs store)) in
+      let size = sized m (n + 1) s fits .size in
+      let wide : length cs ≡ n = length-columns m n s in
+      let long : length c ≡ length (midOf (n * m) (n * m + m - n * m) s) = lc ∙ sym (column-length m (n + 1) n s (omega arith) size) in
+      let first : columns m (n + 1) t ≡ cs ++ c ∷ [] =
+      slot-lent (λ x. c) m n s c₁ (drop (n * m) s) cs size wide (slot-columns m n s size) k₁ (e₁ ∙ copied-whole c (midOf (n * m) (n * m + m - n * m) s) long) in
+      let size' : length t ≡ (n + 1) * m = same-len-mid (n * m) (n * m + m - n * m) s c₁ k₁ ∙ size in
+      let permuted : h c ≡ permute swaps c =
+      one-column m (held pairs store) c (sized m (n + 1) s fits .rows-most) lc ∙ ap (λ (p : Swaps). permute p c) (held-good m (min m n) pairs store good) in
+      let second : columns m (n + 1) (putMid (n * m) (n * m + m - n * m) t c₂) ≡ cs ++ permute swaps c ∷ [] =
+      slot-lent h m n t c₂ c cs size' wide first k₂ e₂ ∙ ap (λ (y : Column). cs ++ y ∷ []) permuted in
+      made
+      ∙ ap₂ (λ (k : ℕ) (ds : Matrix). turnsFrom (updatedAt k) 0 (min m n) ds) (sym wide) second
+      ∙ updates-last cs (permute swaps c) 0 (min m n) (omega arith)
+      ∙ ap (λ (k : ℕ). cs ++ turnsFrom (update cs) 0 (min m k) (permute swaps c) ∷ []) (sym wide)

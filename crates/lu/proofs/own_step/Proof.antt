@@ -1,0 +1,48 @@
+-- By the tests: no row n, a zero pivot, or the step. Assumes nothing.
+use Prim.Native.Nat.{_<_}
+use mathlib.Core.Path.{_≡_, sym, _∙_}
+use native.Mathlib.Omega.{arith}
+use borrow.Author.Needs.{needs}
+use lib.ListN.{length}
+use Rattle.blas.proofs.Pivot.{pivot-to}
+use Rattle.lu.proofs.Own.{own-none, own-skipped, own-done}
+use Rattle.lu.proofs.own_step.Statement.{statement}
+use Rattle.lu.proofs.own_step.Tie as tie
+
+-- the pivot row lies in the column
+row : (c : tie.After-icamax) → c .icamax .result < length (c .before .before .before .before .args .col .now)
+row c = rw (c .icamax .ensures) (pivot-to _ (c .before .before .before .before .args .col .now) (c .before .before .if1 .left))
+
+returns : tie.Need-returns
+returns c = let none = own-none _ _ (c .if1 .taken) in (sym (none .0), sym (none .1))
+
+returns-2 : tie.Need-returns-2
+returns-2 c = own-skipped _ _ _ (c .before .before .before .icamax .ensures) (sym (c .before .is-zero .ensures) ∙ (c .if2 .taken))
+
+returns-3 : tie.Need-returns-3
+returns-3 c =
+    let at-scale = c .before .before in
+    let at-swap = at-scale .before .before .before .before .before in
+    let at-if2 = at-swap .before .before in
+    let at-is-zero = at-if2 .before in
+    let at-icamax = at-is-zero .before .before in
+    own-done _ _ _ (at-icamax .icamax .ensures) _ _ (sym (at-is-zero .is-zero .ensures) ∙ (at-if2 .if2 .left)) (at-swap .swap .ensures) (at-scale .scale .ensures)
+
+pub own-step-spec : {M : Type 1} → statement M
+own-step-spec =
+    tie.close
+    (tie.spec
+    returns
+    (λ c κs. search needs)
+    (λ c. omega (arith, row c))
+    (λ c. omega (arith, row (c .before)))
+    (λ c κs. search needs)
+    (λ c. search needs)
+    returns-2
+    (λ c κs. search needs)
+    (λ c. search needs)
+    (λ c. search needs)
+    (λ c. search needs)
+    (λ c κs. search needs)
+    (λ c. search needs)
+    returns-3)
