@@ -20,68 +20,31 @@ use Rattle.lu.specs.declared.Asks.{Asks}
 use Rattle.lu.specs.Elimination.{Factors, unfactored, eliminate}
 use Rattle.lu.specs.Factoring.{storeOf, factoringRefusal, Factoring, recordOf, settled, factoring}
 use Rattle.lu.specs.Taken.{takenRefusal}
-use Rattle.lu.proofs.Step.{length-steps, rows-steps}
 use Rattle.lu.proofs.Swaps.{length-store, pairs-store}
-use Rattle.lu.proofs.Recorded.{Rising, eliminate-rising, rising-few, rising-good}
-use Rattle.lu.proofs.Told.{Passed, passed}
-
--- the outcome of a factoring that is accepted
-abbrev pub acceptedAs : ℕ → ℕ → Factors → Factoring
-acceptedAs m n f = record { number = 0; told = recordOf m n (length (f .swaps)); factors = flat (f .columns); store = storeOf (f .swaps) }
-
-settled-accepted : (m n : ℕ) (f : Factors) → settled m n f .number ≡ 0 → (settled m n f ≡ acceptedAs m n f) × (allFinite (flat (f .columns)) ≡ true)
-unfolding settled
-settled-accepted m n f =
-    cond-cases (λ (o : Factoring). o .number ≡ 0 → (o ≡ acceptedAs m n f) × (allFinite (flat (f .columns)) ≡ true)) (allFinite (flat (f .columns)))
-    (λ t e. (refl, t)) (λ t e. absurd (omega (arith, e)))
+use Rattle.lu.proofs.Recorded.{rising-good}
+use Rattle.lu.proofs.Shape.{factorsOf, acceptedAs, no-refusal, wide, shape-f, size-f, rising, few, accepted-is as accepted-pair}
+use Rattle.lu.proofs.Told.{passed}
 
 module _ (m n : ℕ) (a out : Column) (store : List ℕ) (ok : factoring m n a out store .number ≡ 0) where
   abbrev f : Factors
-  f = eliminate m (columns m n a)
+  f = factorsOf m n a
 
-  none : factoringRefusal m n a out store ≡ 0
-  unfolding factoring
-  none =
-      cond-cases (λ (o : Factoring). o .number ≡ 0 → factoringRefusal m n a out store ≡ 0) (eqb (factoringRefusal m n a out store) 0)
-      (λ t e. eqb-true (factoringRefusal m n a out store) 0 t) (λ t e. e) ok
-
-  worked : factoring m n a out store ≡ settled m n f
-  unfolding factoring
-  worked = rw (eq-eqb (factoringRefusal m n a out store) 0 none)
-
-  stands : (settled m n f ≡ acceptedAs m n f) × (allFinite (flat (f .columns)) ≡ true)
-  stands = settled-accepted m n f (ap (λ (o : Factoring). o .number) (sym worked) ∙ ok)
+  abbrev none : factoringRefusal m n a out store ≡ 0
+  none = no-refusal m n a out store ok
 
   -- THEOREM. An accepted factoring leaves the factors and the swaps of the elimination.
   pub accepted-is : factoring m n a out store ≡ acceptedAs m n (eliminate m (columns m n a))
-  accepted-is = worked ∙ stands .0
-
-  p : Passed m n a out store
-  p = passed m n a out store none
-
-  wide : length (f .columns) ≡ n
-  unfolding eliminate
-  wide = length-steps (min m (length (columns m n a))) (unfactored (columns m n a)) ∙ length-columns m n a
-
-  tall : HasRows m (f .columns)
-  unfolding eliminate
-  tall = rows-steps m (min m (length (columns m n a))) (unfactored (columns m n a)) (columns-rows m n a (sized m n a (p .matrix) .size))
-
-  rising : Rising m (min m n) (f .swaps)
-  rising = rw length-columns at (eliminate-rising m (columns m n a) (columns-rows m n a (sized m n a (p .matrix) .size)))
+  accepted-is = accepted-pair m n a out store none ok .0
 
   -- THEOREM. The columns of its factors are those of the elimination, and the pairs of its store are the recorded swaps.
   pub accepted-columns : columns m n (factoring m n a out store .factors) ≡ eliminate m (columns m n a) .columns
   accepted-columns =
       ap (λ (o : Factoring). columns m n (o .factors)) accepted-is
-      ∙ ap (λ (k : ℕ). columns m k (flat (f .columns))) (sym wide)
-      ∙ columns-flat m (f .columns) tall
+      ∙ ap (λ (k : ℕ). columns m k (flat (f .columns))) (sym (wide m n a out store none))
+      ∙ columns-flat m (f .columns) (shape-f m n a out store none)
 
   pub accepted-pairs : pairsOf (factoring m n a out store .told .pairs) (factoring m n a out store .store) ≡ eliminate m (columns m n a) .swaps
   accepted-pairs = ap (λ (o : Factoring). pairsOf (o .told .pairs) (o .store)) accepted-is ∙ pairs-store (f .swaps)
-
-  long : length (flat (f .columns)) ≡ n * m
-  long = length-flat m (f .columns) tall ∙ ap (λ (k : ℕ). k * m) wide
 
   -- what a call may ask
   module _ (asks : Asks) (square : asks .square ≡ true → m ≡ n) (solves : asks .solves ≡ false) (sizes : asks .sizes ≡ true) (lengths : asks .lengths ≡ true)
@@ -92,19 +55,19 @@ module _ (m n : ℕ) (a out : Column) (store : List ℕ) (ok : factoring m n a o
     passes : takenRefusal asks (recordOf m n (length (f .swaps))) (flat (f .columns)) (storeOf (f .swaps)) ≡ 0
     unfolding takenRefusal firstOf
     passes =
-        let s = p in
-        let few : min m n ≤ 64 = omega (arith, s .rows .at-most) in
-        let short : length (f .swaps) ≤ 64 = omega (arith, rising-few m (min m n) (f .swaps) rising) in
+        let s = passed m n a out store none in
+        let most : min m n ≤ 64 = omega (arith, s .rows .at-most) in
+        let short = few m n a out store none in
         rw (
           not-outside 1 m (s .rows .at-least) (s .rows .at-most),
           not-outside 0 n (s .cols .at-least) (s .cols .at-most),
           sizes,
           shape,
-          is-matrix m n (flat (f .columns)) (s .rows .at-most) (s .cols .at-most) long,
+          is-matrix m n (flat (f .columns)) (s .rows .at-most) (s .cols .at-most) (size-f m n a out store none),
           eq-eqb (length (storeOf (f .swaps))) 128 (length-store (f .swaps) short),
           lengths,
-          rising-good m (min m n) (f .swaps) few rising,
-          stands .1,
+          rising-good m (min m n) (f .swaps) most (rising m n a out store none),
+          accepted-pair m n a out store none ok .1,
           numbers,
           solves,
         )

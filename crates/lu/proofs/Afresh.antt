@@ -29,20 +29,11 @@ use Rattle.lu.specs.Factoring.{numbersOf, storeOf, factoringRefusal, Fac
 use Rattle.lu.specs.Adding.{reduced, addColumn, earlyRefusal, addingRefusal, written, factorsIn, addingSettled, adding}
 use Rattle.lu.specs.Own.{ownRow, ownColumn}
 use Rattle.lu.proofs.Own.{joined, adding-joins}
-use Rattle.lu.proofs.Recorded.{Rising, eliminate-rising, rising-few, rising-good}
-use Rattle.lu.proofs.Step.{length-steps, rows-steps}
+use Rattle.lu.proofs.Recorded.{rising-good}
+use Rattle.lu.proofs.Shape.{factorsOf, ok, size, shape, wide, shape-f, size-f, rising, few, accepted-is}
 use Rattle.lu.proofs.Swaps.{length-store, pairs-store, written-store, record-more}
-use Rattle.lu.proofs.Told.{Passed, passed}
+use Rattle.lu.proofs.Told.{Passed}
 use Rattle.lu.proofs.Widen.{widened}
-
--- ---- the shape of the elimination's factors
-pub length-eliminate : (m : ℕ) (a : Matrix) → length (eliminate m a .columns) ≡ length a
-unfolding eliminate
-length-eliminate m a = length-steps (min m (length a)) (unfactored a)
-
-pub rows-eliminate : (m : ℕ) (a : Matrix) → HasRows m a → HasRows m (eliminate m a .columns)
-unfolding eliminate
-rows-eliminate m a rows = rows-steps m (min m (length a)) (unfactored a) rows
 
 -- ---- the widened factors are finite where the older ones and the new column are
 module _ (m : ℕ) (f : Factors) (c : Column) (len : length c ≡ m) where
@@ -53,7 +44,7 @@ module _ (m : ℕ) (f : Factors) (c : Column) (len : length c ≡ m) where
       ap (λ (g : Factors). column (g .columns) n) (adding-joins m f c len)
       ∙ getD-at (swapInAll n (ownRow n x) (f .columns)) (ownColumn n x) [] [] n (length-swapInAll n (ownRow n x) (f .columns))
 
-  finite-added : allFinite (flat (addColumn m f c .columns)) ≡ (allFinite (flat (f .columns)) && allFinite (column (addColumn m f c .columns) (length (f .columns))))
+  pub finite-added : allFinite (flat (addColumn m f c .columns)) ≡ (allFinite (flat (f .columns)) && allFinite (column (addColumn m f c .columns) (length (f .columns))))
   finite-added =
       let n = length (f .columns) in
       let x = reduced m f c in
@@ -64,76 +55,45 @@ module _ (m : ℕ) (f : Factors) (c : Column) (len : length c ≡ m) where
       ∙ ap₂ (λ (s t : Bool). s && t) (exchange-finite false n (ownRow n x) (f .columns)) (ap allFinite (sym new-column))
 
 -- ---- an accepted factoring, and one more column
-
--- the factors of the m by n matrix that the slice a holds, and the outcome that gives them
-abbrev pub factorsOf : ℕ → ℕ → Column → Factors
-factorsOf m n a = eliminate m (columns m n a)
-
-abbrev pub given : ℕ → ℕ → Factors → Factoring
-given m n f = record { number = 0; told = recordOf m n (length (f .swaps)); factors = flat (f .columns); store = storeOf (f .swaps) }
-
 module _ (m n : ℕ) (a out : Column) (store : List ℕ) (none : factoringRefusal m n a out store ≡ 0) where
   abbrev f : Factors
   f = factorsOf m n a
 
-  ok : Passed m n a out store
-  ok = passed m n a out store none
+  abbrev its : Passed m n a out store
+  its = ok m n a out store none
 
-  size : length a ≡ n * m
-  size = sized m n a (ok .matrix) .size
+  abbrev wide' : length (f .columns) ≡ n
+  wide' = wide m n a out store none
 
-  shape : HasRows m (columns m n a)
-  shape = columns-rows m n a size
-
-  wide : length (f .columns) ≡ n
-  wide = length-eliminate m (columns m n a) ∙ length-columns m n a
-
-  shape-f : HasRows m (f .columns)
-  shape-f = rows-eliminate m (columns m n a) shape
-
-  size-f : length (flat (f .columns)) ≡ n * m
-  size-f = length-flat m (f .columns) shape-f ∙ ap (λ (k : ℕ). k * m) wide
-
-  rising : Rising m (min m n) (f .swaps)
-  rising = rw (length-columns m n a) at (eliminate-rising m (columns m n a) (columns-rows m n a size))
-
-  few : length (f .swaps) ≤ 64
-  few = let h = rising-few m (min m n) (f .swaps) rising in let r = ok .rows .at-most in omega arith
-
-  -- the outcome of an accepted factoring
-  pub accepted-is : factoring m n a out store .number ≡ 0 → (factoring m n a out store ≡ given m n f) × (allFinite (flat (f .columns)) ≡ true)
-  unfolding factoring settled
-  accepted-is e =
-      test-cases (allFinite (flat (eliminate m (columns m n a) .columns)))
-      (λ t. (rw (eq-eqb (factoringRefusal m n a out store) 0 none, t), t))
-      (λ t. absurd (let seven : 7 ≡ 0 = (rw (eq-eqb (factoringRefusal m n a out store) 0 none, t) at e) in omega arith))
+  abbrev long : length (flat (f .columns)) ≡ n * m
+  long = size-f m n a out store none
 
   -- the factors as the slices hold them, a slot of any contents behind
   held : (z : Column) → factorsIn m n (length (f .swaps)) (flat (f .columns) ++ z) (storeOf (f .swaps)) ≡ f
   held z =
       let cs : columns m n (flat (f .columns) ++ z) ≡ f .columns =
-      columns-front m n (flat (f .columns)) z size-f ∙ ap (λ (k : ℕ). columns m k (flat (f .columns))) (sym wide) ∙ columns-flat m (f .columns) shape-f in
+      columns-front m n (flat (f .columns)) z long ∙ ap (λ (k : ℕ). columns m k (flat (f .columns))) (sym wide') ∙ columns-flat m (f .columns) (shape-f m n a out store none) in
       λ i. record { columns = cs i; swaps = pairs-store (f .swaps) i }
 
   module _ (c z : Column) (lc : length c ≡ m) (lz : length z ≡ m) (good : allFinite c ≡ true) (room : n < 64) where
     wider : length (flat (f .columns) ++ z) ≡ (n + 1) * m
-    wider = length-append (flat (f .columns)) z ∙ omega (arith, size-f, lz, suc-mul n m, ap (λ (k : ℕ). k * m) (add-one n))
+    wider = length-append (flat (f .columns)) z ∙ omega (arith, long, lz, suc-mul n m, ap (λ (k : ℕ). k * m) (add-one n))
 
     -- accepted factors pass the tests of adding
     pub adding-passes : allFinite (flat (f .columns)) ≡ true → addingRefusal (recordOf m n (length (f .swaps))) (flat (f .columns) ++ z) c (storeOf (f .swaps)) ≡ 0
     unfolding addingRefusal earlyRefusal firstOf
     adding-passes fin =
-        let r = ok .rows in
+        let r = its .rows in
         rw
-        (not-outside 1 m (r .at-least) (r .at-most), le-ltb 63 n (omega arith), is-matrix m (n + 1) (flat (f .columns) ++ z) (r .at-most) (omega arith) wider, eq-eqb (length c) m lc, eq-eqb (length (storeOf (f .swaps))) 128 (length-store (f .swaps) few), rising-good m (min m n) (f .swaps) (omega (arith, r .at-most)) rising, take-at (flat (f .columns)) z (n * m) size-f, fin, good)
+        (not-outside 1 m (r .at-least) (r .at-most), le-ltb 63 n (omega arith), is-matrix m (n + 1) (flat (f .columns) ++ z) (r .at-most) (omega arith) wider, eq-eqb (length c) m lc, eq-eqb (length (storeOf (f .swaps))) 128 (length-store (f .swaps) (few m n a out store none)), rising-good m (min m n) (f .swaps) (omega (arith, r .at-most)) (rising m n a out store none), take-at (flat (f .columns)) z (n * m) long, fin, good)
 
     -- the widened matrix passes the tests of factoring
     pub afresh-passes : (out' : Column) (store' : List ℕ) → allFinite a ≡ true → length out' ≡ (n + 1) * m → length store' ≡ 128
         → factoringRefusal m (n + 1) (a ++ c) out' store' ≡ 0
     unfolding factoringRefusal firstOf
     afresh-passes out' store' fin lo ls =
-        let r = ok .rows in
-        let la : length (a ++ c) ≡ (n + 1) * m = length-append a c ∙ omega (arith, size, lc, suc-mul n m, ap (λ (k : ℕ). k * m) (add-one n)) in
+        let r = its .rows in
+        let la : length (a ++ c) ≡ (n + 1) * m = length-append a c ∙ omega (arith, size m n a out store none, lc, suc-mul n m, ap (λ (k : ℕ). k * m) (add-one n)) in
         rw
         (not-outside 1 m (r .at-least) (r .at-most), not-outside 0 (n + 1) (omega arith) (omega arith), is-matrix m (n + 1) (a ++ c) (r .at-most) (omega arith) la, is-matrix m (n + 1) out' (r .at-most) (omega arith) lo, eq-eqb (length store') 128 ls, finite-append a c, fin, good)
 
@@ -142,7 +102,7 @@ module _ (m n : ℕ) (a out : Column) (store : List ℕ) (none : factoringRefusa
     g = addColumn m f c
 
     afresh-is : eliminate m (columns m (n + 1) (a ++ c)) ≡ g
-    afresh-is = ap (eliminate m) (columns-snoc m n a c size lc) ∙ widened m (columns m n a) c shape
+    afresh-is = ap (eliminate m) (columns-snoc m n a c (size m n a out store none) lc) ∙ widened m (columns m n a) c (shape m n a out store none)
 
     -- adding's outcome, and factoring's
     added-is : allFinite (flat (f .columns)) ≡ true
@@ -153,12 +113,12 @@ module _ (m n : ℕ) (a out : Column) (store : List ℕ) (none : factoringRefusa
 
     fresh-is : (out' : Column) (store' : List ℕ) → length out' ≡ (n + 1) * m → length store' ≡ 128 → factoring m (n + 1) (a ++ c) out' store' ≡ settled m (n + 1) g
     unfolding factoring
-    fresh-is out' store' lo ls = rw (afresh-passes out' store' (ok .numbers) lo ls, afresh-is)
+    fresh-is out' store' lo ls = rw (afresh-passes out' store' (its .numbers) lo ls, afresh-is)
 
     -- only the new column can fail to be finite
     finite-is : allFinite (flat (f .columns)) ≡ true → allFinite (flat (g .columns)) ≡ allFinite (column (g .columns) n)
     finite-is fin =
-        finite-added m f c lc ∙ ap₂ (λ (t : Bool) (k : ℕ). t && allFinite (column (g .columns) k)) fin wide
+        finite-added m f c lc ∙ ap₂ (λ (t : Bool) (k : ℕ). t && allFinite (column (g .columns) k)) fin wide'
 
     store-is : written (g .swaps) (storeOf (f .swaps)) ≡ storeOf (g .swaps)
     store-is =
@@ -183,7 +143,7 @@ module _ (m n : ℕ) (a out : Column) (store : List ℕ) (none : factoringRefusa
         let fresh = factoring m (n + 1) (a ++ c) out' store' in
         (added .number ≡ fresh .number) × (fresh .number ≡ 0 → added ≡ fresh)
     adding-afresh e out' store' lo ls =
-        let acc = accepted-is e in
+        let acc = accepted-is m n a out store none e in
         let fin = acc .1 in
         let one = ap (λ (o : Factoring). adding (o .told) (o .factors ++ z) c (o .store)) (acc .0) ∙ added-is fin in
         let two = fresh-is out' store' lo ls in

@@ -1,12 +1,12 @@
--- Document 01's table, "Figures to meet", for factoring, solve, determinant and the invertible test: each line is a call's own outcome and what the
+-- Document 01's table, "Figures to meet", for factoring, adding, solve, determinant and the invertible test: each line is a call's own outcome and what the
 -- document gives for it, and one theorem says that they are equal, by computation. Assumes nothing.
 use mathlib.Core.Path.{_≡_, refl}
 use mathlib.Core.Bool.{true, false}
-use mathlib.Core.List.{List, [], _∷_, map}
+use mathlib.Core.List.{List, [], _∷_, _++_, map}
 use Prim.Native.Nat.{ℕ, _+_, _*_, _^_}
 use lib.ListN.{length, replicate}
 use lib.IntN.{pos, negsuc}
-use lib.Ieee.{Float, fin, add, sub, mul, div, neg, eq, lt, ofBits}
+use lib.Ieee.{Float, nan, fin, add, sub, mul, div, neg, eq, lt, ofBits}
 use Rattle.blas.specs.Each.{eachFrom, turnsFrom, listOf}
 use Rattle.blas.specs.Numbers.{isZero, magnitude}
 use Rattle.blas.specs.Column.{Column, searchFrom, pivotRow, exchanged, scaleFrom, axpyFrom, allFinite, zeros}
@@ -23,13 +23,14 @@ use Rattle.lu.specs.declared.Invertible.{Invertible}
 use Rattle.lu.specs.declared.Invertible.the-variants.{Is}
 use Rattle.lu.specs.Elimination.{recordSwap, multipliers, scaled, pivotStep, step, eliminate}
 use Rattle.lu.specs.Factoring.{numbersOf, storeOf, factoringRefusal, Factoring, recordOf, settled, factoring}
+use Rattle.lu.specs.Adding.{update, reduced, addColumn, earlyRefusal, addingRefusal, written, addingSettled, adding}
 use Rattle.lu.specs.Taken.{takenRefusal}
 use Rattle.lu.specs.Solving.{solved, solvedAll, solving, unitColumn, inverting}
 use Rattle.lu.specs.Determinant.{timesDiagonal, diagonalProduct, determinantOf, numberOr7, determining, inverseTest}
 
 -- a name for all that has to unfold for the calls to compute
-computes : Type 0
-unfolding add sub mul div neg eq lt ofBits eachFrom turnsFrom listOf isZero magnitude searchFrom pivotRow exchanged scaleFrom axpyFrom allFinite columns flat isMatrix onColumns swapInAll stepColumn stepColumns eliminated firstOf outside seventh tested pairsOf holds goodPair goodPairs goodList permutedBy signOf upperRow keptRow solvedRow turn solvedColumn zeroFrom zeroOnDiagonal recordSwap multipliers scaled pivotStep step eliminate numbersOf storeOf factoringRefusal settled factoring takenRefusal solved solvedAll solving unitColumn inverting timesDiagonal diagonalProduct determinantOf numberOr7 determining inverseTest
+unfoldable pub computes : Type 0
+unfolding add sub mul div neg eq lt ofBits eachFrom turnsFrom listOf isZero magnitude searchFrom pivotRow exchanged scaleFrom axpyFrom allFinite columns flat isMatrix onColumns swapInAll stepColumn stepColumns eliminated firstOf outside seventh tested pairsOf holds goodPair goodPairs goodList permutedBy signOf upperRow keptRow solvedRow turn solvedColumn zeroFrom zeroOnDiagonal recordSwap multipliers scaled pivotStep step eliminate numbersOf storeOf factoringRefusal settled factoring takenRefusal solved solvedAll solving unitColumn inverting timesDiagonal diagonalProduct determinantOf numberOr7 determining inverseTest update reduced addColumn earlyRefusal addingRefusal written addingSettled adding
 computes = Unit {0}
 
 -- ---- numbers, each written in its one way: an odd number times a power of two
@@ -88,6 +89,10 @@ determinantFor n a = let o = fresh n n a in determinant (determining (o .told) (
 abbrev invertibleFor : ℕ → Column → Given
 invertibleFor n a = let o = fresh n n a in invertible (inverseTest (o .told) (o .factors) (o .store))
 
+-- m by 1 numbers factored, and one more column added; the slot holds a NaN before
+abbrev addedTo : ℕ → Column → Column → Given
+addedTo m a c = let o = fresh m 1 a in factors (adding (o .told) (o .factors ++ replicate m nan) c (o .store))
+
 -- what the document gives: packed factors with their swaps, or refusal 7
 abbrev packed : ℕ → ℕ → Column → Swaps → Given
 packed m n a swaps = factors (record { number = 0; told = recordOf m n (length swaps); factors = a; store = storeOf swaps })
@@ -100,12 +105,14 @@ table =
     (factors (fresh 2 2 (n0 ∷ n2 ∷ n1 ∷ n0 ∷ [])), packed 2 2 (n2 ∷ n0 ∷ n0 ∷ n1 ∷ []) ((0, 1) ∷ []))
     ∷ (determinantFor 2 (n0 ∷ n2 ∷ n1 ∷ n0 ∷ []), determinant (Number -n2))
     ∷ (solvedFor 2 (n0 ∷ n2 ∷ n1 ∷ n0 ∷ []) (n5 ∷ n8 ∷ []), loads (record { number = 0; result = n4 ∷ n5 ∷ [] }))
+    ∷ (addedTo 2 (n0 ∷ n2 ∷ []) (n1 ∷ n0 ∷ []), packed 2 2 (n2 ∷ n0 ∷ n0 ∷ n1 ∷ []) ((0, 1) ∷ []))
     ∷ (factors (fresh 1 1 (small 1023 ∷ [])), packed 1 1 (small 1023 ∷ []) [])
     ∷ (factors (fresh 2 1 (small 1023 ∷ n0 ∷ [])), overflow 2 1)
     ∷ (factors (fresh 2 1 (small 1022 ∷ n0 ∷ [])), packed 2 1 (small 1022 ∷ n0 ∷ []) [])
     ∷ (factors (fresh 2 1 (n2 ∷ -n2 ∷ [])), packed 2 1 (n2 ∷ -n1 ∷ []) [])
     ∷ (factors (fresh 2 1 (huge ∷ huge ∷ [])), packed 2 1 (huge ∷ fin false (2 ^ 51 + 1) (negsuc 50) ∷ []) [])
     ∷ (factors (fresh 2 2 (n0 ∷ n0 ∷ -n1 ∷ -n0 ∷ [])), packed 2 2 (n0 ∷ n0 ∷ -n1 ∷ -n0 ∷ []) [])
+    ∷ (addedTo 2 (n0 ∷ n0 ∷ []) (-n1 ∷ -n0 ∷ []), packed 2 2 (n0 ∷ n0 ∷ -n1 ∷ -n0 ∷ []) [])
     ∷ (factors (fresh 2 2 (n0 ∷ n0 ∷ n0 ∷ n0 ∷ [])), packed 2 2 (n0 ∷ n0 ∷ n0 ∷ n0 ∷ []) [])
     ∷ (solvedFor 2 (n0 ∷ n0 ∷ n0 ∷ n0 ∷ []) (n5 ∷ n8 ∷ []), loads (record { number = 6; result = n0 ∷ n0 ∷ [] }))
     ∷ (determinantFor 2 (small 599 ∷ n0 ∷ n0 ∷ small 599 ∷ []), determinant (Number n0))

@@ -2,10 +2,13 @@ pub mod Accepted
 pub mod Afresh
 pub mod Alone
 pub mod Answers
+pub mod Build
 pub mod Diagonal
 pub mod Figures
 pub mod Own
+pub mod Reach
 pub mod Recorded
+pub mod Shape
 pub mod Signed
 pub mod Slices
 pub mod Slot

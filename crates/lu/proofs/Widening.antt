@@ -4,20 +4,20 @@ use mathlib.Core.Bool.{Bool, true, false, not, cond, _&&_, _||_}
 use mathlib.Core.List.{List, [], _∷_, _++_}
 use Prim.Native.Nat.{ℕ, _+_, _-_, _*_, _≤_, _<_, min}
 use native.Mathlib.Omega.{arith}
-use borrow.Author.Tests.{eqb-true, ltb-false, eq-eqb, ne-eqb, not-false}
+use borrow.Author.Tests.{eqb-true, eqb-false, ltb-false, eq-eqb, ne-eqb, not-false}
 use borrow.Rule.Slice.PartMut.{midOf, putMid, same-len-mid}
 use lib.Dec.{ltb, eqb}
 use lib.ListN.{length, take, drop}
 use lib.Seq.{getD-at}
 use Rattle.blas.specs.Column.{Column, allFinite, zeros}
-use Rattle.blas.proofs.Choice.{and-first, and-second}
+use Rattle.blas.proofs.Choice.{test-cases, cond-cases, and-first, and-second}
 use Rattle.store.specs.Columns.{columns, flat, isMatrix, onColumns}
 use Rattle.store.specs.Steps.{Matrix, column, swapInAll, rowsSwapped}
 use Rattle.store.proofs.Columns.{sized, same-matrix, length-columns, columns-rows, column-length, flat-columns, flat-snoc, on-columns}
 use Rattle.store.proofs.Steps.{length-swapInAll, length-rowsSwapped, rows-rowsSwapped}
 use Rattle.refusals.specs.Refusals.{firstOf, outside}
 use Rattle.refusals.proofs.Tests.{first-none, neither, Inside, inside}
-use Rattle.permutation_sequence.specs.SwapList.{pairsOf, goodList}
+use Rattle.permutation_sequence.specs.SwapList.{pairsOf, withPair, goodList}
 use Rattle.permutation_sequence.proofs.SwapList.{good}
 use Rattle.lu.specs.declared.Record.{Record}
 use Rattle.lu.specs.declared.Added.{Added}
@@ -183,3 +183,47 @@ module _ (r : Record) (s c : Column) (store : List ℕ) where
             ∙ ap (λ (k : ℕ). rowsSwapped n p 0 k (columns m n s ++ ownColumn n x ∷ [])) (sym wide)
             ∙ older-swapped n p (columns m n s) (ownColumn n x) in
             promise-added (ownColumn n x) v p pairs' store' (row ∙ ap (ownRow n) in-slot) refl (ap allFinite (sym its-slot) ∙ ok) (kv ∙ long) made rec
+
+-- ---- what adding changes
+refusal-none : (r : Record) (s c : Column) (store : List ℕ) → adding r s c store .number ≡ 0 → addingRefusal r s c store ≡ 0
+unfolding adding
+refusal-none r s c store =
+    cond-cases (λ (o : Factoring). o .number ≡ 0 → addingRefusal r s c store ≡ 0) (eqb (addingRefusal r s c store) 0)
+    (λ t e. eqb-true (addingRefusal r s c store) 0 t) (λ t e. e)
+
+tests-pass : (r : Record) (s c : Column) (store : List ℕ) → addingRefusal r s c store ≡ 0
+    → (earlyRefusal r s c store ≡ 0) × (true ≡ (allFinite (take (r .columns * r .rows) s) && allFinite c))
+unfolding addingRefusal
+tests-pass r s c store e =
+    test-cases (eqb (earlyRefusal r s c store) 0)
+    (λ t.
+    let early = eqb-true (earlyRefusal r s c store) 0 t in
+    test-cases (allFinite (take (r .columns * r .rows) s) && allFinite c)
+    (λ b. (early, sym b)) (λ b. absurd (let five : 5 ≡ 0 = (rw (t, b) at e) in omega arith)))
+    (λ t. absurd (ne-by (earlyRefusal r s c store) t (rw t at e)))
+  where
+    ne-by : (k : ℕ) → eqb k 0 ≡ false → k ≡ 0 → ⊥
+    ne-by k t z = eqb-false k 0 t z
+
+-- THEOREM. Accepted adding changes the new column and, where row n is exchanged with another row p, those two rows of the older columns and the next
+-- pair; nothing else. For any factors that pass the tests.
+pub adding-changes : (r : Record) (s c : Column) (store : List ℕ) → adding r s c store .number ≡ 0
+    → let m = r .rows in
+    let n = r .columns in
+    let x = reduced m (factorsIn m n (r .pairs) s store) c in
+    let p = ownRow n x in
+    (adding r s c store .factors ≡ flat (swapInAll n p (columns m n s)) ++ ownColumn n x) × (adding r s c store .store ≡ cond (eqb p n) store (withPair (r .pairs) n p store))
+unfolding addingSettled
+adding-changes r s c store e =
+    let m = r .rows in
+    let n = r .columns in
+    let x = reduced m (factorsIn m n (r .pairs) s store) c in
+    let p = ownRow n x in
+    let t = tests-pass r s c store (refusal-none r s c store e) in
+    let w = worked r s c store 0 (sym (t .0)) refl true (t .1) refl in
+    let passes = passed r s c store (t .0) in
+    let few = good m (min m n) (r .pairs) store (passes .list) .few in
+    let next : 2 * r .pairs + 1 < length store = omega (arith, passes .few, passes .store-room) in
+    test-cases (allFinite (column (swapInAll n p (columns m n s) ++ ownColumn n x ∷ []) n))
+    (λ b. rw (w, b) (flat-snoc (swapInAll n p (columns m n s)) (ownColumn n x), written-record (r .pairs) n p store next))
+    (λ b. absurd (let seven : 7 ≡ 0 = (rw (w, b) at e) in omega arith))

@@ -11,7 +11,7 @@ ghost use Rattle.permutation_sequence.specs.SwapList.{goodList};
 ghost use Rattle.store.specs.Steps.{swapInAll, eliminated};
 ghost use Rattle.lu.specs.Elimination.{Factors, scaled, step, eliminate};
 ghost use Rattle.lu.specs.Factoring.{storeOf, factoringRefusal, factoring, factoredOf};
-ghost use Rattle.lu.specs.Held.{Held, Recorded};
+ghost use Rattle.lu.specs.Held.{Held, Recorded, AllAdded};
 ghost use Rattle.lu.specs.Adding.{reduced, factorsIn, earlyRefusal, adding, addedOf};
 ghost use Rattle.lu.specs.Own.{updatedAt, ownRow, ownColumn};
 ghost use Rattle.lu.specs.Taken.{takenRefusal};
@@ -598,4 +598,49 @@ pub fn add_column(s: &mut [f64], c: &[f64], swaps: &mut [usize], told: Record) -
         columns: n + 1,
         pairs: now_pairs,
     })
+}
+
+// Adds the columns of the m by n matrix a one by one, from none on. Answers the last record, or refusal 7 where a column is refused.
+fn add_all(a: &[f64], m: usize, n: usize, out: &mut [f64], swaps: &mut [usize]) -> Factored
+    requires { ⌜ factoringRefusal m n (now a) (now out) (now swaps) ≡ 0 ⌝ }
+    requires { ⌜ now swaps ≡ storeOf [] ⌝ }
+    ensures { λ r. ⌜ AllAdded m n (now (a .entry)) r (now (out .exit)) (now (swaps .exit)) ⌝ }
+{
+    let mut told = Record {
+        rows: m,
+        columns: 0,
+        pairs: 0,
+    };
+    let mut k = 0;
+    while k < n {
+        let b = k * m;
+        let e = b + m;
+        let answer = add_column(&mut out[..e], &a[b..e], swaps, told);
+        let Added::Accepted(next) = answer else {
+            return Factored::Refused(7);
+        };
+        told = next;
+        k += 1;
+    }
+    Factored::Accepted(told)
+}
+
+// Factors the m by n matrix a into out by adding its columns one by one: the same outcome as `factor`, on every input.
+pub fn build_up(a: &[f64], m: usize, n: usize, out: &mut [f64], swaps: &mut [usize]) -> Factored
+    ensures { λ r. ⌜ r ≡ factoredOf (factoring m n (now (a .entry)) (now (out .entry)) (now (swaps .entry))) ⌝ }
+    ensures { λ _. ⌜ now (out .exit) ≡ factoring m n (now (a .entry)) (now (out .entry)) (now (swaps .entry)) .factors ⌝ }
+    ensures { λ _. ⌜ now (swaps .exit) ≡ factoring m n (now (a .entry)) (now (out .entry)) (now (swaps .entry)) .store ⌝ }
+{
+    let number = factor_refusal(a, m, n, out, swaps);
+    if number != 0 {
+        return Factored::Refused(number);
+    }
+    clear(swaps);
+    let answer = add_all(a, m, n, out, swaps);
+    let Factored::Accepted(_) = answer else {
+        blas::fill_zero(out);
+        clear(swaps);
+        return answer;
+    };
+    answer
 }

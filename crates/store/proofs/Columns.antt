@@ -4,7 +4,7 @@ use mathlib.Core.Path.{_≡_, refl, sym, ap, ap₂, _∙_}
 use mathlib.Core.Bool.{true, false, cond, _&&_}
 use mathlib.Core.List.{List, [], _∷_, _++_, append-assoc, append-nil}
 use Prim.Native.Nat.{ℕ, zero, suc, _+_, _-_, _*_, _≤_, _<_}
-use native.Mathlib.Nat.{suc-mul, zero-mul, add-comm, mul-le-mul-right, le-of-suc-le-suc, add-sub-cancel-left, not-suc-le-zero, sub-zero}
+use native.Mathlib.Nat.{suc-mul, zero-mul, add-comm, mul-le-mul-right, le-of-suc-le-suc, add-sub-cancel-left, not-suc-le-zero, sub-zero, zero-add, suc-add}
 use native.Mathlib.Numerals.{add-one}
 use native.Mathlib.Omega.{arith}
 use borrow.Author.Tests.{leb-true, eqb-true, le-leb, eq-eqb}
@@ -168,6 +168,18 @@ module _ {A : Type 0} where
       let rest = rest-length m n s len in
       ap₂ (λ (c : List A) (cs : List (List A)). c ∷ cs) (take-append-le m s z (rest .0))
       (ap (columns m n) (drop-append-le m s z (rest .0)) ∙ columns-front m n (drop m s) z (rest .1))
+
+  -- the columns of two stores, one behind the other
+  pub columns-split : (m k j : ℕ) (s t : List A) → length s ≡ k * m → columns m (k + j) (s ++ t) ≡ columns m k s ++ columns m j t
+  unfolding columns
+  columns-split m zero j s t len =
+      let none : s ≡ [] = nothing s (len ∙ zero-mul m) in
+      ap₂ (λ (i : ℕ) (l : List A). columns m i (l ++ t)) (zero-add j) none
+  columns-split m (suc k) j s t len =
+      let rest = rest-length m k s len in
+      ap (λ (i : ℕ). columns m i (s ++ t)) (suc-add k j)
+      ∙ ap₂ (λ (c : List A) (cs : List (List A)). c ∷ cs) (take-append-le m s t (rest .0))
+      (ap (columns m (k + j)) (drop-append-le m s t (rest .0)) ∙ columns-split m k j (drop m s) t (rest .1))
 
   -- and with the column behind it
   pub columns-snoc : (m n : ℕ) (s c : List A) → length s ≡ n * m → length c ≡ m → columns m (n + 1) (s ++ c) ≡ columns m n s ++ c ∷ []
