@@ -104,7 +104,7 @@ bare-trans (fin s a e) (fin t b f) (fin u c g) fx fy fz p q =
     lt-ltb _ _ (frac-trans (a * up e) (b * up f) (c * up g) (down e) (down f) (down g) (down-pos e) (ltb-false _ _ p) (ltb-true _ _ q))
 
 -- |x| ≤ |y| < |z|
-smaller-trans : (x y z : Float) → finite x ≡ true → finite y ≡ true → finite z ≡ true → smaller y x ≡ false → smaller y z ≡ true → smaller x z ≡ true
+pub smaller-trans : (x y z : Float) → finite x ≡ true → finite y ≡ true → finite z ≡ true → smaller y x ≡ false → smaller y z ≡ true → smaller x z ≡ true
 smaller-trans x y z fx fy fz p q = smaller-bare x z ∙ bare-trans x y z fx fy fz (sym (smaller-bare y x) ∙ p) (sym (smaller-bare y z) ∙ q)
 
 bare-asym : (x y : Float) → lt (bare x) (bare y) ≡ true → lt (bare y) (bare x) ≡ false
@@ -117,10 +117,10 @@ bare-asym (fin s a e) nan p = refl
 bare-asym (fin s a e) (inf t) p = refl
 bare-asym (fin s a e) (fin t b f) p = let h : a * up e * down f < b * up f * down e = ltb-true _ _ p in le-ltb (b * up f * down e) (a * up e * down f) (omega arith)
 
-smaller-asym : (x y : Float) → smaller x y ≡ true → smaller y x ≡ false
+pub smaller-asym : (x y : Float) → smaller x y ≡ true → smaller y x ≡ false
 smaller-asym x y p = smaller-bare y x ∙ bare-asym x y (sym (smaller-bare x y) ∙ p)
 
-smaller-self : (x : Float) → smaller x x ≡ false
+pub smaller-self : (x : Float) → smaller x x ≡ false
 smaller-self x = test-cases (smaller x x) (λ p. smaller-asym x x p) (λ p. p)
 
 -- ---- The search, row by row: what holds of row `from` alone, and still holds whether the search moves to the next row or stays, holds of the pivot row.

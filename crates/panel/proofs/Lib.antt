@@ -1,0 +1,4 @@
+pub mod Determined
+pub mod Ordering
+pub mod Printed
+pub mod Writing

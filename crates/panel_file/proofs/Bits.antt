@@ -1,0 +1,85 @@
+-- The bits at a place by their bytes, and which bits are a finite number's. By one byte after the other; by the exponent's field. Assumes nothing.
+use mathlib.Core.Path.{_≡_, refl, sym, ap, _∙_, subst}
+use mathlib.Core.Bool.{Bool, true, false, not, cond, _&&_, false≢true}
+use mathlib.Core.List.{List, [], _∷_}
+use Prim.Native.Nat.{ℕ, zero, suc, _+_, _*_, _/_, _%_, _^_, _≤_, _<_}
+use native.Mathlib.Numerals.{add-one}
+use native.Mathlib.Omega.{arith}
+use borrow.Author.Tests.{le-leb}
+use lib.Dec.{T, eqb, leb}
+use lib.ListN.{length, getD, take, drop}
+use lib.Ieee.{Float, nan, inf, fin, binary64, odd, isNan, ofFields, ofBits, nanBits}
+use lib.Ieee.Bits.{nanBits-is}
+use lib.Ieee.Scale.{finite}
+use Rattle.blas.proofs.Walk.{drop-next}
+use Rattle.panel_file.specs.File.{littleEndian, fieldAt, headed}
+
+-- ---- a field by its first byte and the rest
+field-next : (width : ℕ) (s : List ℕ) (at next : ℕ) → at < length s → next ≡ at + 1 → fieldAt (suc width) s at ≡ getD s at 0 + 256 * fieldAt width s next
+unfolding fieldAt littleEndian
+field-next width s at next h e =
+    ap (λ (l : List ℕ). littleEndian (take (suc width) l)) (drop-next s at 0 h) ∙ ap (λ (k : ℕ). getD s at 0 + 256 * littleEndian (take width (drop k s))) (sym e)
+
+field-none : (s : List ℕ) (at : ℕ) → fieldAt 0 s at ≡ 0
+unfolding fieldAt littleEndian
+field-none s at = refl
+
+pub field-two : (s : List ℕ) → 6 ≤ length s → fieldAt 2 s 3 ≡ getD s 3 0 + 256 * getD s 4 0
+field-two s h =
+    omega (arith, field-next 1 s 3 4 (omega arith) refl, field-next 0 s 4 5 (omega arith) refl, field-none s 5)
+
+-- the head's test as the code makes it, v being the two bytes of the version
+pub headed-by : (s : List ℕ) (v : ℕ) → 6 ≤ length s → v ≡ getD s 3 0 + 256 * getD s 4 0
+    → (eqb (getD s 0 0) 76 && eqb (getD s 1 0) 88 && eqb (getD s 2 0) 80 && eqb v 1) ≡ headed s
+unfolding headed
+headed-by s v h e = rw (le-leb 6 (length s) h, field-two s h, e)
+
+pub field-eight : (s : List ℕ) (at b0 b1 b2 b3 b4 b5 b6 b7 : ℕ) → at + 8 ≤ length s
+    → b0 ≡ getD s (at + 0) 0 → b1 ≡ getD s (at + 1) 0 → b2 ≡ getD s (at + 2) 0 → b3 ≡ getD s (at + 3) 0
+    → b4 ≡ getD s (at + 4) 0 → b5 ≡ getD s (at + 5) 0 → b6 ≡ getD s (at + 6) 0 → b7 ≡ getD s (at + 7) 0
+    → b0 + 256 * (b1 + 256 * (b2 + 256 * (b3 + 256 * (b4 + 256 * (b5 + 256 * (b6 + 256 * b7)))))) ≡ fieldAt 8 s at
+field-eight s at b0 b1 b2 b3 b4 b5 b6 b7 h e0 e1 e2 e3 e4 e5 e6 e7 =
+    let z : fieldAt 8 s at ≡ fieldAt 8 s (at + 0) = ap (fieldAt 8 s) (omega arith) in
+    omega (
+      arith,
+      z,
+      field-next 7 s (at + 0) (at + 1) (omega arith) (omega arith),
+      field-next 6 s (at + 1) (at + 2) (omega arith) (omega arith),
+      field-next 5 s (at + 2) (at + 3) (omega arith) (omega arith),
+      field-next 4 s (at + 3) (at + 4) (omega arith) (omega arith),
+      field-next 3 s (at + 4) (at + 5) (omega arith) (omega arith),
+      field-next 2 s (at + 5) (at + 6) (omega arith) (omega arith),
+      field-next 1 s (at + 6) (at + 7) (omega arith) (omega arith),
+      field-next 0 s (at + 7) (at + 8) (omega arith) (omega arith),
+      field-none s (at + 8),
+    )
+
+-- ---- finite by the exponent's field
+odd-finite : (d : ℕ) (s : Bool) (q k l : ℕ) → finite (odd d s q k l) ≡ true
+unfolding odd
+odd-finite d s zero k l = refl
+odd-finite d s (suc q) k l = refl
+
+fields-finite : (s : Bool) (x t : ℕ) → finite (ofFields binary64 s x t) ≡ not (eqb x 2047)
+unfolding ofFields
+fields-finite s zero t = odd-finite _ s t 0 _
+fields-finite s (suc x) t = go (eqb (suc x) 2047) (eqb t 0)
+  where
+    go : (a b : Bool) → finite (cond a (cond b (inf s) nan) (odd 53 s (2 ^ 52 + t) x 1074)) ≡ not a
+    go true true = refl
+    go true false = refl
+    go false b = odd-finite 53 s (2 ^ 52 + t) x 1074
+
+pub bits-finite : (b : ℕ) → not (eqb (b % 0x8000_0000_0000_0000 / 0x10_0000_0000_0000) 2047) ≡ finite (ofBits binary64 b)
+unfolding ofBits
+bits-finite b = sym (fields-finite (leb (2 ^ 63) b) (b % 0x8000_0000_0000_0000 / 0x10_0000_0000_0000) (b % 2 ^ 52))
+
+-- a finite number's bits are no NaN's, which `from_bits` asks
+pub finite-number : (b : ℕ) → finite (ofBits binary64 b) ≡ true → T (not (nanBits binary64 b))
+unfolding isNan
+finite-number b e = subst (λ (t : Bool). T (not t)) (sym (nanBits-is binary64 b)) (go (ofBits binary64 b) e)
+  where
+    go : (x : Float) → finite x ≡ true → T (not (isNan x))
+    go nan e = absurd (false≢true e)
+    go (inf s) e = tt
+    go (fin s m e) d = tt

@@ -1,0 +1,76 @@
+-- Document 01, "Ranking and program": "pad numbers from 1, greatest magnitude first, equal magnitudes by lower number".
+use mathlib.Core.Path.{_≡_}
+use mathlib.Core.Bool.{Bool, true, not, cond, _&&_, _||_}
+use mathlib.Core.List.{List, [], _∷_}
+use Prim.Native.Nat.{ℕ, zero, suc, _+_, _-_, _≤_, _<_}
+use lib.Dec.{ltb, leb, eqb}
+use lib.ListN.{length, getD}
+use lib.Ieee.{Float, lt}
+use Rattle.blas.specs.Numbers.{magnitude}
+use Rattle.blas.specs.Column.{Column, entry, allFinite}
+use Rattle.refusals.specs.Refusals.{firstOf, outside}
+
+-- p is the number of one of n pads
+abbrev pub IsPad : ℕ → ℕ → Type 0
+IsPad n p = (1 ≤ p) × (p ≤ n)
+
+-- the load of pad p
+abbrev pub loadOf : Column → ℕ → Float
+loadOf loads p = entry loads (p - 1)
+
+-- pad p comes before pad q
+unfoldable pub ahead : Column → ℕ → ℕ → Bool
+ahead loads p q =
+    let x = magnitude (loadOf loads p) in
+    let y = magnitude (loadOf loads q) in
+    lt y x || not (lt x y) && ltb p q
+
+-- ---- what a ranking is
+
+-- how often p stands in the list
+unfoldable pub occurrences : ℕ → List ℕ → ℕ
+occurrences p [] = 0
+occurrences p (q ∷ qs) = cond (eqb p q) 1 0 + occurrences p qs
+
+-- each of the pads 1 to n once and nothing else, any two of them in order: at most one list is so (`only-ranking`)
+pub record Ranked (loads : Column) (n : ℕ) (ranks : List ℕ) : Type 0 where
+  pub each-once : (p : ℕ) → occurrences p ranks ≡ cond (leb 1 p && leb p n) 1 0
+  pub in-order : (i j : ℕ) → i < j → j < length ranks → ahead loads (getD ranks i 0) (getD ranks j 0) ≡ true
+
+-- ---- how it is made
+
+-- pad p put among ranked pads: at each place the pad that is ahead stays, and the other is carried on
+unfoldable pub insertPad : Column → ℕ → List ℕ → List ℕ
+insertPad loads p [] = p ∷ []
+insertPad loads p (q ∷ qs) = cond (ahead loads p q) (p ∷ insertPad loads q qs) (q ∷ insertPad loads p qs)
+
+-- the chosen pads one after the other, the last of the list first
+unfoldable pub ranked : Column → List ℕ → List ℕ
+ranked loads [] = []
+ranked loads (p ∷ ps) = insertPad loads p (ranked loads ps)
+
+-- all pads, n first
+unfoldable pub padsTo : ℕ → List ℕ
+padsTo zero = []
+padsTo (suc n) = suc n ∷ padsTo n
+
+-- ---- the call
+
+-- the refusal before the work, 0 for none: n loads, and the slice for the ranks
+unfoldable pub rankingRefusal : ℕ → Column → List ℕ → ℕ
+rankingRefusal n loads ranks =
+    firstOf
+    ((1, outside 1 n)
+    ∷ (3, not (eqb (length loads) n && eqb (length ranks) n))
+    ∷ (5, not (allFinite loads))
+    ∷ [])
+
+-- a refusal number, 0 for none, with what the slice for the ranks then holds
+pub record Ranking : Type 0 where
+  pub number : ℕ
+  pub ranks : List ℕ
+
+unfoldable pub ranking : ℕ → Column → List ℕ → Ranking
+ranking n loads was =
+    let number = rankingRefusal n loads was in
+    cond (eqb number 0) (record { number = 0; ranks = ranked loads (padsTo n) }) (record { number = number; ranks = was })

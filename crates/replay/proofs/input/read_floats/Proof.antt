@@ -1,0 +1,29 @@
+-- `replay::input::read_floats` is safe and ends, and its count lies within the slice. Assumes nothing.
+use native.Mathlib.Omega.{arith}
+use borrow.Author.Needs.{needs}
+use lib.ListN.{length-append, length-take}
+use Rattle.replay.proofs.input.read_floats.Statement.{statement}
+use Rattle.replay.proofs.input.read_floats.Tie as tie
+
+slice-aggregate-floats-of : tie.Need-slice-aggregate-floats-of
+slice-aggregate-floats-of c = simp length-take (omega arith)
+
+returns-2 : tie.Need-returns-2
+returns-2 c =
+    let kept = c .before .before .floats-of .kept .1 .0 in
+    let n = c .before .before .before .before .before .before .before .before .read-items .result in
+    (simp length-append (omega (arith, simp length-take at kept)), simp (length-take, length-append) (omega (arith, simp length-take at kept)))
+
+pub read-floats-spec : {M : Type 1} → statement M
+read-floats-spec =
+    tie.close
+    (tie.spec
+    (λ c κs. search needs)
+    (λ c. search needs)
+    (λ c. search needs)
+    (λ c. search needs)
+    slice-aggregate-floats-of
+    (λ c κs. search needs)
+    (λ c. search needs)
+    (λ c. search needs)
+    returns-2)

@@ -1,0 +1,29 @@
+-- `replay::input::read_wholes` is safe and ends, and its count lies within the slice. Assumes nothing.
+use native.Mathlib.Omega.{arith}
+use borrow.Author.Needs.{needs}
+use lib.ListN.{length-append, length-take}
+use Rattle.replay.proofs.input.read_wholes.Statement.{statement}
+use Rattle.replay.proofs.input.read_wholes.Tie as tie
+
+slice-aggregate-wholes-of : tie.Need-slice-aggregate-wholes-of
+slice-aggregate-wholes-of c = simp length-take (omega arith)
+
+returns-2 : tie.Need-returns-2
+returns-2 c =
+    let kept = c .before .before .wholes-of .kept .1 .0 in
+    let n = c .before .before .before .before .before .before .before .before .read-items .result in
+    (simp length-append (omega (arith, simp length-take at kept)), simp (length-take, length-append) (omega (arith, simp length-take at kept)))
+
+pub read-wholes-spec : {M : Type 1} → statement M
+read-wholes-spec =
+    tie.close
+    (tie.spec
+    (λ c κs. search needs)
+    (λ c. search needs)
+    (λ c. search needs)
+    (λ c. search needs)
+    slice-aggregate-wholes-of
+    (λ c κs. search needs)
+    (λ c. search needs)
+    (λ c. search needs)
+    returns-2)

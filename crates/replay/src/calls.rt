@@ -1,0 +1,285 @@
+// The public calls: each is run on exactly the slices of its case, and its line is put into the text.
+use crate::text::put;
+use crate::text::put_bar;
+use crate::text::put_float;
+use crate::text::put_floats;
+use crate::text::put_shown;
+use crate::text::put_whole;
+use crate::text::put_wholes;
+use crate::text::put_word;
+use lu::Added;
+use lu::Det;
+use lu::Factored;
+use lu::Invertible;
+use lu::Record;
+use permutation_sequence::Appended;
+use refusals::Answer;
+
+// The sizes that stand at the head of a case.
+pub struct Sizes {
+    pub m: usize,
+    pub n: usize,
+    pub k: usize,
+}
+
+// The refusal number of an answer, 0 where it is accepted.
+fn number_of(answer: Answer) -> usize {
+    match answer {
+        Answer::Done => 0,
+        Answer::Refused(number) => number,
+    }
+}
+
+// The line of a call whose result is one lent slice.
+fn put_result(text: &mut [u8], from: usize, answer: Answer, result: &[f64]) -> usize {
+    let at = put_whole(text, from, number_of(answer));
+    put_floats(text, at, result)
+}
+
+// The line of a call that works on a store and a swap list: refusal number, pairs, store, swaps.
+fn put_factors(
+    text: &mut [u8],
+    from: usize,
+    number: usize,
+    pairs: usize,
+    store: &[f64],
+    swaps: &[usize],
+) -> usize {
+    let at = put_whole(text, from, number);
+    let bar = put_bar(text, at);
+    let end = put_whole(text, bar, pairs);
+    let part = put_floats(text, end, store);
+    put_wholes(text, part, swaps)
+}
+
+// The line of a refused call that would have answered a number.
+fn put_none(text: &mut [u8], from: usize, number: usize) -> usize {
+    let at = put_whole(text, from, number);
+    put_word(text, at, b" | -")
+}
+
+// Op 1.
+pub fn factor(
+    text: &mut [u8],
+    from: usize,
+    sizes: Sizes,
+    a: &[f64],
+    out: &mut [f64],
+    swaps: &mut [usize],
+) -> usize {
+    match lu::factor(a, sizes.m, sizes.n, out, swaps) {
+        Factored::Accepted(told) => put_factors(text, from, 0, told.pairs, out, swaps),
+        Factored::Refused(number) => put_factors(text, from, number, 0, out, swaps),
+    }
+}
+
+// Op 2.
+pub fn add_column(
+    text: &mut [u8],
+    from: usize,
+    told: Record,
+    s: &mut [f64],
+    column: &[f64],
+    swaps: &mut [usize],
+) -> usize {
+    match lu::add_column(s, column, swaps, told) {
+        Added::Accepted(new) => put_factors(text, from, 0, new.pairs, s, swaps),
+        Added::Refused { number, told } => put_factors(text, from, number, told.pairs, s, swaps),
+    }
+}
+
+// Op 3.
+pub fn solve(
+    text: &mut [u8],
+    from: usize,
+    told: Record,
+    factors: &[f64],
+    swaps: &[usize],
+    b: &[f64],
+    k: usize,
+    x: &mut [f64],
+) -> usize {
+    let answer = lu::solve(factors, swaps, told, b, k, x);
+    put_result(text, from, answer, x)
+}
+
+// The call of op 4, 7 or 8.
+fn run_matrix(op: u8, told: Record, factors: &[f64], swaps: &[usize], out: &mut [f64]) -> Answer {
+    if op == 4 {
+        return lu::inverse(factors, swaps, told, out);
+    }
+    if op == 7 {
+        return lu::l(factors, swaps, told, out);
+    }
+    lu::u(factors, swaps, told, out)
+}
+
+// Ops 4, 7 and 8.
+pub fn matrix_of_factors(
+    text: &mut [u8],
+    from: usize,
+    op: u8,
+    told: Record,
+    factors: &[f64],
+    swaps: &[usize],
+    out: &mut [f64],
+) -> usize {
+    let answer = run_matrix(op, told, factors, swaps, out);
+    put_result(text, from, answer, out)
+}
+
+// Op 5.
+pub fn determinant(
+    text: &mut [u8],
+    from: usize,
+    told: Record,
+    factors: &[f64],
+    swaps: &[usize],
+) -> usize {
+    match lu::determinant(factors, swaps, told) {
+        Det::Number(number) => {
+            let at = put_word(text, from, b"0 | ");
+            put_float(text, at, number)
+        }
+        Det::Refused(number) => put_none(text, from, number),
+    }
+}
+
+// Op 6.
+pub fn is_invertible(
+    text: &mut [u8],
+    from: usize,
+    told: Record,
+    factors: &[f64],
+    swaps: &[usize],
+) -> usize {
+    match lu::is_invertible(factors, swaps, told) {
+        Invertible::Is(yes) => {
+            if yes {
+                return put_word(text, from, b"0 | 1");
+            }
+            put_word(text, from, b"0 | 0")
+        }
+        Invertible::Refused(number) => put_none(text, from, number),
+    }
+}
+
+// The call of ops 9 to 13; `diagonal` is op 11's.
+fn run_triangular(
+    op: u8,
+    t: &[f64],
+    n: usize,
+    diagonal: f64,
+    b: &[f64],
+    k: usize,
+    x: &mut [f64],
+) -> Answer {
+    if op == 9 {
+        return solve::solve_lower_triangular(t, n, b, k, x);
+    }
+    if op == 10 {
+        return solve::solve_upper_triangular(t, n, b, k, x);
+    }
+    if op == 11 {
+        return solve::solve_lower_triangular_with_diag(t, n, b, k, x, diagonal);
+    }
+    if op == 12 {
+        return solve::tr_solve_lower_triangular(t, n, b, k, x);
+    }
+    solve::tr_solve_upper_triangular(t, n, b, k, x)
+}
+
+// Ops 9 to 13.
+pub fn solve_triangular(
+    text: &mut [u8],
+    from: usize,
+    op: u8,
+    sizes: Sizes,
+    t: &[f64],
+    diagonal: f64,
+    b: &[f64],
+    x: &mut [f64],
+) -> usize {
+    let answer = run_triangular(op, t, sizes.n, diagonal, b, sizes.k, x);
+    put_result(text, from, answer, x)
+}
+
+// The call of op 14, 15, 16 or 17.
+fn run_permute(op: u8, told: Record, swaps: &[usize], s: &mut [f64]) -> Answer {
+    let m = told.rows;
+    let n = told.columns;
+    if op == 14 {
+        return permutation_sequence::permute_rows(s, m, n, swaps, told.pairs);
+    }
+    if op == 15 {
+        return permutation_sequence::inv_permute_rows(s, m, n, swaps, told.pairs);
+    }
+    if op == 16 {
+        return permutation_sequence::permute_columns(s, m, n, swaps, told.pairs);
+    }
+    permutation_sequence::inv_permute_columns(s, m, n, swaps, told.pairs)
+}
+
+// Ops 14 to 17.
+pub fn permute(
+    text: &mut [u8],
+    from: usize,
+    op: u8,
+    told: Record,
+    swaps: &[usize],
+    s: &mut [f64],
+) -> usize {
+    let answer = run_permute(op, told, swaps, s);
+    put_result(text, from, answer, s)
+}
+
+// The line of op 18.
+fn put_list(text: &mut [u8], from: usize, number: usize, pairs: usize, swaps: &[usize]) -> usize {
+    let at = put_whole(text, from, number);
+    let bar = put_bar(text, at);
+    let end = put_whole(text, bar, pairs);
+    put_wholes(text, end, swaps)
+}
+
+// Op 18.
+pub fn append(
+    text: &mut [u8],
+    from: usize,
+    d: usize,
+    swaps: &mut [usize],
+    pairs: usize,
+    i: usize,
+    i2: usize,
+) -> usize {
+    match permutation_sequence::append_permutation(swaps, pairs, d, i, i2) {
+        Appended::Pairs(now) => put_list(text, from, 0, now, swaps),
+        Appended::Refused { number, pairs } => put_list(text, from, number, pairs, swaps),
+    }
+}
+
+// Op 19.
+pub fn rank(text: &mut [u8], from: usize, n: usize, loads: &[f64], ranks: &mut [usize]) -> usize {
+    let answer = ranking::rank(loads, n, ranks);
+    let at = put_whole(text, from, number_of(answer));
+    put_wholes(text, at, ranks)
+}
+
+// The digit of the refusal number in what the program prints, 0 where it prints pads.
+fn digit_of(answer: &[u8]) -> u8 {
+    if answer.len() < 9 {
+        return b'0';
+    }
+    if answer[0] == b'r' {
+        return answer[8];
+    }
+    b'0'
+}
+
+// Op 20.
+pub fn panel_answer(text: &mut [u8], from: usize, file: &[u8]) -> usize {
+    let mut answer = [0u8; 1288];
+    let n = panel::text(file, &mut answer);
+    let at = put(text, from, digit_of(&answer[..n]));
+    let bar = put_bar(text, at);
+    put_shown(text, bar, &answer[..n])
+}

@@ -1,0 +1,269 @@
+"""The cases that every list begins with: document 01's table, one fault at a time in every place, the largest sizes; and the
+bad cases, of which a list can hold one, at its end."""
+import random
+import struct
+from array import array
+
+from . import floats
+from .make import MAKERS, SQUARE, file_case, panel
+from .wire import Case, FLOATS, LONGEST, NEWLINE, OPS, encode, hexes, line, words
+
+
+def doubles(*numbers):
+    return array('d', numbers)
+
+
+def swap_store(*rows):
+    return array('Q', list(rows) + [0] * (128 - len(rows)))
+
+
+def pairs(count):
+    return array('Q', [count])
+
+
+def spare(count):
+    return doubles(*[7.5] * count)
+
+
+# ---- document 01, "Figures to meet": what the line says, the case, the line it must give (or its first part)
+
+def factoring(m, n, *numbers):
+    return Case(1, m, n, 0, [doubles(*numbers), spare(m * n), swap_store(9)])
+
+
+def factored(count, rows, *numbers):
+    return line(0, [str(count), hexes(doubles(*numbers)), words(swap_store(*rows))])
+
+
+def overflowed(m, n):
+    return line(7, ['0', hexes(doubles(*[0.0] * m * n)), words(swap_store())])
+
+
+def table():
+    packed, one = doubles(2.0, 0.0, 0.0, 1.0), [swap_store(0, 1), pairs(1)]
+    none = [swap_store(), pairs(0)]
+    top = 1.75 * 2.0 ** 1023
+    r = random.Random('64 by 64')
+    return [
+        ('columns (0,2),(1,0)', factoring(2, 2, 0.0, 2.0, 1.0, 0.0), factored(1, [0, 1], 2.0, 0.0, 0.0, 1.0)),
+        ('its determinant', Case(5, 2, 2, 0, [packed, *one]), line(0, [hexes(doubles(-2.0))])),
+        ('that, readings (5,8)', Case(3, 2, 2, 1, [packed, *one, doubles(5.0, 8.0), spare(2)]), line(0, [hexes(doubles(4.0, 5.0))])),
+        ('2 by 1: (0,2)', factoring(2, 1, 0.0, 2.0), factored(1, [0, 1], 2.0, 0.0)),
+        ('then add (1,0)', Case(2, 2, 1, 0, [doubles(2.0, 0.0) + spare(2), doubles(1.0, 0.0), *one], doubles(0.0, 2.0, 1.0, 0.0)),
+         factored(1, [0, 1], 2.0, 0.0, 0.0, 1.0)),
+        ('1 by 1: 2^-1024', factoring(1, 1, 2.0 ** -1024), factored(0, [], 2.0 ** -1024)),
+        ('2 by 1: (2^-1024, 0)', factoring(2, 1, 2.0 ** -1024, 0.0), overflowed(2, 1)),
+        ('2 by 1: (2^-1023, 0)', factoring(2, 1, 2.0 ** -1023, 0.0), factored(0, [], 2.0 ** -1023, 0.0)),
+        ('2 by 1: (2, -2)', factoring(2, 1, 2.0, -2.0), factored(0, [], 2.0, -1.0)),
+        ('2 by 1: 1.75*2^1023 twice', factoring(2, 1, top, top), factored(0, [], top, 1.0 + 2.0 ** -51)),
+        ('columns (0,0),(-1,-0.0), fresh', factoring(2, 2, 0.0, 0.0, -1.0, -0.0), factored(0, [], 0.0, 0.0, -1.0, -0.0)),
+        ('columns (0,0),(-1,-0.0), added',
+         Case(2, 2, 1, 0, [doubles(0.0, 0.0) + spare(2), doubles(-1.0, -0.0), *none], doubles(0.0, 0.0, -1.0, -0.0)),
+         factored(0, [], 0.0, 0.0, -1.0, -0.0)),
+        ('2 by 2 zeros', factoring(2, 2, 0.0, 0.0, 0.0, 0.0), factored(0, [], 0.0, 0.0, 0.0, 0.0)),
+        ('2 by 2 zeros, solve', Case(3, 2, 2, 1, [doubles(0.0, 0.0, 0.0, 0.0), *none, doubles(1.0, 1.0), spare(2)]),
+         line(6, [hexes(spare(2))])),
+        ('diagonal 2^-600 twice, determinant', Case(5, 2, 2, 0, [doubles(2.0 ** -600, 0.0, 0.0, 2.0 ** -600), *none]),
+         line(0, [hexes(doubles(0.0))])),
+        ('diagonal 2^-600 twice, invertible', Case(6, 2, 2, 0, [doubles(2.0 ** -600, 0.0, 0.0, 2.0 ** -600), *none]), line(0, ['1'])),
+        ('1 by 1 factor 2^-1000, reading 2^100',
+         Case(3, 1, 1, 1, [doubles(2.0 ** -1000), *none, doubles(2.0 ** 100), spare(1)]), line(7, [hexes(doubles(0.0))])),
+        ('transposed lower, rows (2,0),(1,4), b (4,8)', Case(12, 0, 2, 1, [doubles(2.0, 1.0, 0.0, 4.0), doubles(4.0, 8.0), spare(2)]),
+         line(0, [hexes(doubles(1.0, 2.0))])),
+        ('given diagonal 2, entry below 1, b (4,6)',
+         Case(11, 0, 2, 1, [doubles(5.0, 1.0, 5.0, 5.0), doubles(2.0), doubles(4.0, 6.0), spare(2)]),
+         line(0, [hexes(doubles(4.0, 4.0))])),
+        ('loads 1, -3, 3', Case(19, 0, 3, 0, [doubles(1.0, -3.0, 3.0), array('Q', [9, 9, 9])]), line(0, ['2 3 1'])),
+        ('0 rows', factoring(0, 1), line(1, ['0', '', words(swap_store(9))])),
+        ('0 rows, 0 columns', factoring(0, 0), line(1, ['0', '', words(swap_store(9))])),
+        ('65 rows', factoring(65, 1, *[1.0] * 65), line(1, ['0', hexes(spare(65)), words(swap_store(9))])),
+        ('65 columns', factoring(1, 65, *[1.0] * 65), line(1, ['0', hexes(spare(65)), words(swap_store(9))])),
+        ('64 by 64', factoring(64, 64, *floats.unit(r, 4096)), '0 | '),
+        ('3 by 0', factoring(3, 0), factored(0, [])),
+        ('the panel file of the whole case', file_case(panel(2, doubles(0.0, 2.0, 1.0, 0.0, 5.0, 8.0))),
+         line(0, [''.join(text + NEWLINE for text in ('pads 2', '2 4014000000000000', '1 4010000000000000'))])),
+    ]
+
+
+# ---- overflow when adding, and just not
+
+def adding(m, matrix, column):
+    """Columns that are their own factors without a swap, and one more."""
+    n = len(matrix) // m
+    return Case(2, m, n, 0, [matrix + spare(m), column, swap_store(), pairs(0)], matrix + column)
+
+
+def added():
+    most = (2.0 - 2.0 ** -52) * 2.0 ** 1023
+    yield adding(1, doubles(), doubles(2.0 ** -1024))                           # no row below: the reciprocal is not used
+    yield adding(2, doubles(), doubles(2.0 ** -1024, 0.0))
+    yield adding(2, doubles(), doubles(2.0 ** -1023, 0.0))
+    yield adding(3, doubles(1.0, 0.0, 0.0), doubles(0.0, 2.0 ** -1024, 0.0))
+    yield adding(2, doubles(1.0, 0.0), doubles(1.0, 2.0 ** -1024))
+    yield adding(2, doubles(1.0, -1.0), doubles(most, most))                    # the update overflows
+    yield adding(2, doubles(1.0, -1.0), doubles(most, -most))
+    yield adding(1, doubles(1.0), doubles(most))
+    yield adding(2, doubles(0.0, 0.0), doubles(-0.0, -0.0))
+    yield adding(2, doubles(*[1.0, 0.0] * 63), doubles(3.0, -5.0))
+    yield adding(2, doubles(*[1.0, 0.0] * 64), doubles(3.0, -5.0))              # 64 columns: no room
+    yield adding(64, doubles(*[0.0] * 4096), doubles(*[1.0] * 64))              # the longest slice of all
+
+
+# ---- one fault at a time
+
+SIZES = (0, 65, 2 ** 63, 2 ** 64 - 1)
+COUNTS = (0, 3, 4, 64, 65, 2 ** 63, 2 ** 64 - 1)
+ROWS = (1, 3, 4, 64, 2 ** 64 - 1)
+TWOS = ((3, 3), (63, 0), (0, 64), (64, 0), (100, 100), (2 ** 63, 1), (1, 2 ** 64 - 1))
+
+
+def changed(case, at, items):
+    return Case(case.op, case.m, case.n, case.k, case.slices[:at] + [items] + case.slices[at + 1:])
+
+
+def with_item(items, at, value):
+    items = items[:]
+    items[at] = value
+    return items
+
+
+def faults_of(case):
+    """The case with each size, each length, each number and each part of the swap list wrong, one at a time."""
+    op = OPS[case.op]
+    for name in op.sizes:
+        for size in SIZES:
+            bad = changed(case, 0, case.slices[0])
+            setattr(bad, name, size)
+            yield bad
+    for at, (name, kind) in enumerate(op.slices):
+        items = case.slices[at]
+        if name not in ('pairs', 'diagonal', 'two numbers'):
+            yield changed(case, at, items[:-1])
+            yield changed(case, at, items + items[:1])
+        if kind == FLOATS:
+            yield changed(case, at, with_item(items, 0, floats.NOT_FINITE[2]))
+            yield changed(case, at, with_item(items, len(items) - 1, floats.NOT_FINITE[1]))
+            if at < 2:
+                yield changed(case, at, with_item(items, 0, 0.0))
+                yield changed(case, at, with_item(items, len(items) - 1, -0.0))
+        if name == 'pairs':
+            for count in COUNTS:
+                yield changed(case, at, pairs(count))
+        if name == 'swaps' and case.op != 1:
+            for row in ROWS:
+                yield changed(case, at, with_item(items, 0, row))
+            yield changed(case, at, with_item(items, 3, 1))
+            yield changed(case, at, with_item(items, 4, 2 ** 64 - 1))       # behind the last pair: not read
+        if name == 'two numbers':
+            for two in TWOS:
+                yield changed(case, at, array('Q', two))
+
+
+def good(op):
+    """A small case that is accepted: 4 by 3 where the call takes that, else 3 by 3 with 2 right-hand columns."""
+    matrix = doubles(4.0, 1.0, -2.0, 0.5, 6.0, 1.0, 3.0, 8.0, 1.0)
+    list_ = [swap_store(0, 1, 1, 2), pairs(2)]
+    b, x = doubles(1.0, 2.0, 3.0, -4.0, 5.0, -6.0), spare(6)
+    tall, wide = matrix + doubles(2.0, -1.0, 0.25), spare(12)
+    return {
+        1: lambda: Case(1, 4, 3, 0, [tall, wide, swap_store(9, 9)]),
+        2: lambda: Case(2, 4, 2, 0, [tall, doubles(1.0, -2.0, 3.0, 5.0), *list_]),
+        3: lambda: Case(3, 3, 3, 2, [matrix, *list_, b, x]),
+        4: lambda: Case(4, 3, 3, 0, [matrix, *list_, spare(9)]),
+        5: lambda: Case(5, 3, 3, 0, [matrix, *list_]),
+        6: lambda: Case(6, 3, 3, 0, [matrix, *list_]),
+        7: lambda: Case(7, 4, 3, 0, [tall, *list_, wide]),
+        8: lambda: Case(8, 4, 3, 0, [tall, *list_, spare(9)]),
+        11: lambda: Case(11, 0, 3, 2, [matrix, doubles(2.0), b, x]),
+        18: lambda: Case(18, 3, 0, 0, [*list_, array('Q', [5, 2])]),
+        19: lambda: Case(19, 0, 3, 0, [doubles(2.0, -2.0, 5.0), array('Q', [7, 8, 9])]),
+    }.get(op, lambda: Case(op, 0, 3, 2, [matrix, b, x]) if op < 14 else Case(op, 4, 3, 0, [*list_, tall]))()
+
+
+def files():
+    """Panel files, whole and damaged one way at a time."""
+    whole = panel(2, doubles(4.0, 1.0, 2.0, 8.0, 5.0, -8.0))
+    yield whole
+    for length in (0, 1, 3, 5, 6, 7, 8, 14, len(whole) - 8, len(whole) - 1):
+        yield whole[:length]
+    yield from (whole + b'\0', whole + b'\n', whole + bytes(8), whole * 2)
+    for at in range(6):
+        for value in (0, whole[at] ^ 1, whole[at] ^ 32, 255) if at < 5 else (0, 1, 3, 64, 65, 128, 255):
+            yield whole[:at] + bytes([value]) + whole[at + 1:]
+    for at in range(6, len(whole), 8):
+        for value in floats.NOT_FINITE[:3]:
+            yield whole[:at] + struct.pack('<d', value) + whole[at + 8:]
+    yield panel(2, doubles(1.0, 2.0, 2.0, 4.0, 5.0, 8.0))                             # the solve's 6
+    yield panel(2, doubles(1e308, 1.0, -1e308, -1e308, 5.0, 8.0))                     # near the top
+    yield panel(2, doubles(2.0 ** -1024, 0.0, 0.0, 0.0, 5.0, 8.0))                    # factoring's 7
+    yield panel(3, doubles(0.0, 0.0, 0.0, 0.0, 2.0 ** -1024, 0.0, 0.0, 0.0, 1.0, 5.0, 8.0, 1.0))     # factoring's 7 before the solve's 6
+    yield panel(1, doubles(2.0 ** -1000, 2.0 ** 100))                                 # the solve's 7
+    yield panel(1, doubles(2.0 ** -1024, 0.0))
+    r = random.Random('63 pads')
+    yield panel(63, floats.unit(r, 63 * 64))
+    yield panel(64, floats.unit(r, LONGEST))[:8 * LONGEST]                            # cut short by six bytes
+
+
+def largest():
+    """63 and 64: whole for the square calls, adding and permuting rows, thin for the others; lists of 62, 63 and 64 pairs."""
+    for op, make in MAKERS.items():
+        r = random.Random(f'largest {op}')
+        if op in SQUARE:
+            if op != 20:
+                yield make(r, op, 64, 1)
+            if op in (3, 12):
+                yield make(r, op, 63, 2)
+        else:
+            if op in (2, 14):       # the table has factoring's
+                yield make(r, op, 64, 64)
+            for m, n in ((64, 0), (63, 1), (1, 64), (2, 63)):
+                yield make(r, op, m, n)
+    all_pairs = array('Q', [x for i in range(64) for x in (i, (i + 1) % 64)])
+    for count in (62, 63, 64):
+        for two in ((1, 2), (5, 5)):
+            yield done(Case(18, 64, 0, 0, [all_pairs, pairs(count), array('Q', two)]))
+
+
+def done(case):
+    """A maker that asks nothing."""
+    return case
+    yield
+
+
+def fixed():
+    """All of them, as generators: makers ask the oracle."""
+    for _, case, _ in table():
+        yield done(case)
+    for case in added():
+        yield done(case)
+    for op in OPS:
+        if op == 20:
+            for file in files():
+                yield done(file_case(file))
+        else:
+            yield done(good(op))
+            for bad in faults_of(good(op)):
+                yield done(bad)
+    yield from largest()
+
+
+# ---- bad cases
+
+def bad_cases():
+    whole = encode(good(3))
+    wide = bytearray(encode(good(9)))
+    wide[25:27] = struct.pack('<H', LONGEST + 1)
+    yield b'\0' + whole[1:]
+    yield whole[:1]
+    yield whole[:24]
+    yield whole[:26]
+    yield whole[:40]
+    yield whole[:-1]
+    yield bytes(wide) + bytes(8 * (LONGEST + 2))
+    yield b'\xff' + bytes(8 * LONGEST)
+    yield whole[:25] + b'\xff\xff'
+    yield whole[:-8]
+
+
+BAD = list(bad_cases())
+BAD_LINE = 'bad case'

@@ -1,0 +1,325 @@
+"""Makes cases. Case number `index` of a seed is always the same; makers are generators, since some ask the oracle for factors."""
+import random
+import struct
+from array import array
+
+from . import floats
+from .judge import finite
+from .rules import MOST, STORE, request_factoring
+from .wire import Case, FLOATS, LONGEST, OPS, unhex
+
+# how often each op comes in a round
+TURNS = {1: 3, 2: 3, 3: 3, 4: 2, 5: 1, 6: 1, 7: 3, 8: 3, 9: 2, 10: 2, 11: 2, 12: 3, 13: 3,
+         14: 3, 15: 3, 16: 3, 17: 3, 18: 2, 19: 1, 20: 2}
+ROUND = [(op, turn) for turn in range(max(TURNS.values())) for op in TURNS if turn < TURNS[op]]
+
+JUNK = [0, 1, 63, 64, 65, 255, 2 ** 32, 2 ** 63, 2 ** 64 - 1]
+
+
+# ---- sizes
+
+def small_shape(turn):
+    """Rows 1 to 9 by columns 0 to 9, each in its turn."""
+    return 1 + turn % 9, turn // 9 % 10
+
+
+def small_square(turn):
+    """The size and the number of right-hand columns, each 1 to 9: all of each in 9 turns, all pairs in 81."""
+    return 1 + turn % 9, 1 + (turn + turn // 9) % 9
+
+
+def larger_shape(r):
+    if r.random() < 0.9:
+        return r.randint(10, 17), r.randint(8, 17)
+    if r.random() < 0.75:
+        return r.choice([(63, 0), (64, 0), (63, 1), (64, 1), (64, 2), (1, 63), (1, 64), (2, 63), (2, 64), (63, 3), (3, 63)])
+    return r.choice([(63, 63), (63, 64), (64, 63), (64, 64)])
+
+
+def larger_square(r):
+    m, n = larger_shape(r)
+    return max(m, n), r.choice([1, 1, 1, 2, 3, m if max(m, n) < 20 else 1])
+
+
+# ---- swap lists
+
+def store_of(r, pairs):
+    """A swap store with these pairs; what follows them is zero, now and then with anything in some places."""
+    used = [x for pair in pairs for x in pair]
+    store = array('Q', used + [0] * (STORE - len(used)))
+    if len(used) < STORE and r.random() < 0.5:
+        for at in (len(used), STORE - 1, r.randrange(len(used), STORE)):
+            store[at] = r.choice(JUNK)
+    return store
+
+
+def good_pairs(r, bound, most):
+    """A list of any pairs that refusal 4 lets through."""
+    count = r.choice([0, 1, most, r.randint(0, most)]) if bound > 1 else 0
+    return [tuple(r.sample(range(bound), 2)) for _ in range(min(count, most))]
+
+
+# ---- factors
+
+def factored(m, n, matrix):
+    """The oracle's factors and swap pairs, or nothing where factoring overflows."""
+    _, factors, list_ = (yield request_factoring(m, n, matrix)).split(' | ')
+    if not finite(factors):
+        return None
+    rows = [int(w) for w in list_.split()]
+    return unhex(factors), list(zip(rows[::2], rows[1::2]))
+
+
+def some_factors(r, m, n, without_zero=False):
+    """Factors with a swap list: an accepted factoring's, or any numbers with any good list."""
+    matrix = floats.matrix(r, m, n)
+    if r.random() < 0.6:
+        made = yield from factored(m, n, matrix)
+        if made:
+            return made
+    if without_zero and m == n:
+        floats.without_zero_diagonal(r, n, matrix)
+    return matrix, good_pairs(r, m, min(m, n))
+
+
+def list_slices(r, pairs):
+    return [store_of(r, pairs), array('Q', [len(pairs)])]
+
+
+# ---- one maker for each group of ops: r, op, the two sizes of its turn
+
+def make_factor(r, op, m, n):
+    return Case(op, m, n, 0, [floats.matrix(r, m, n), floats.anything(r, m * n), store_of(r, [])])
+    yield
+
+
+def make_add(r, op, m, n):
+    n = min(n, MOST - 1)
+    whole = floats.matrix(r, m, n + 1)
+    if r.random() < 0.75:
+        made = yield from factored(m, n, whole[:m * n])
+        if made:
+            factors, pairs = made
+            return Case(op, m, n, 0, [factors + floats.anything(r, m), whole[m * n:], *list_slices(r, pairs)], fresh=whole)
+    return Case(op, m, n, 0, [whole[:m * n] + floats.anything(r, m), whole[m * n:], *list_slices(r, good_pairs(r, m, min(m, n)))])
+
+
+def make_solve(r, op, n, k):
+    factors, pairs = yield from some_factors(r, n, n, r.random() < 0.8)
+    return Case(op, n, n, k, [factors, *list_slices(r, pairs), floats.matrix(r, n, k), floats.anything(r, n * k)])
+
+
+def make_square(r, op, n, k):
+    """Inverse, determinant, invertible."""
+    factors, pairs = yield from some_factors(r, n, n, r.random() < 0.8)
+    return Case(op, n, n, 0, [factors, *list_slices(r, pairs)] + ([floats.anything(r, n * n)] if op == 4 else []))
+
+
+def make_l_or_u(r, op, m, n):
+    factors, pairs = yield from some_factors(r, m, n)
+    return Case(op, m, n, 0, [factors, *list_slices(r, pairs), floats.anything(r, min(m, n) * (m if op == 7 else n))])
+
+
+def make_triangular(r, op, n, k):
+    matrix = floats.matrix(r, n, n)
+    if r.random() < 0.85:
+        floats.without_zero_diagonal(r, n, matrix)
+    given = [array('d', [r.choice((1.0, 2.0, -3.0, 0.1, floats.numbers(r, 1)[0]))])] if op == 11 else []
+    return Case(op, 0, n, k, [matrix, *given, floats.matrix(r, n, k), floats.anything(r, n * k)])
+    yield
+
+
+def make_permute(r, op, m, n):
+    pairs = good_pairs(r, m if op < 16 else n, r.choice((MOST, 5)))
+    return Case(op, m, n, 0, [*list_slices(r, pairs), floats.numbers(r, m * n)])
+    yield
+
+
+def make_append(r, op, m, n):
+    d = r.choice((m, r.randint(1, MOST)))
+    pairs = good_pairs(r, MOST, d)
+    i = r.randrange(MOST)
+    two = [i, i] if r.random() < 0.15 else [i, r.randrange(MOST)]
+    return Case(op, d, 0, 0, [*list_slices(r, pairs), array('Q', two)])
+    yield
+
+
+def make_rank(r, op, n, k):
+    n = r.choice((n, r.randint(1, MOST)))
+    return Case(op, 0, n, 0, [floats.numbers(r, n), array('Q', r.choices(JUNK, k=n))])
+    yield
+
+
+def panel(n, numbers):
+    return b'LXP' + struct.pack('<HB', 1, n % 256) + numbers.tobytes()
+
+
+def make_file(r, op, n, k):
+    n = min(n, 63)      # a file for 64 pads is longer than a slice of a case may be
+    matrix = floats.matrix(r, n, n)
+    if r.random() < 0.3:
+        floats.without_zero_diagonal(r, n, matrix)
+    return file_case(panel(n, matrix + floats.matrix(r, n, 1)))
+    yield
+
+
+def file_case(file):
+    file = file[:8 * LONGEST]
+    return Case(20, 0, 0, len(file), [file])
+
+
+MAKERS = {1: make_factor, 2: make_add, 3: make_solve, 4: make_square, 5: make_square, 6: make_square, 7: make_l_or_u, 8: make_l_or_u,
+          9: make_triangular, 10: make_triangular, 11: make_triangular, 12: make_triangular, 13: make_triangular,
+          14: make_permute, 15: make_permute, 16: make_permute, 17: make_permute, 18: make_append, 19: make_rank, 20: make_file}
+SQUARE = (3, 4, 5, 6, 9, 10, 11, 12, 13, 19, 20)      # ops whose two sizes are the matrix's and the right-hand columns'
+
+
+# ---- faults: each changes a good case in place; the rules say what the changed case gives
+
+def size_fault(r, c):
+    name = r.choice(OPS[c.op].sizes)
+    v = getattr(c, name)
+    setattr(c, name, r.choice([0, 65, 65, 66, 64, 128, 2 ** 16 + v, 2 ** 32, 2 ** 32 + v, 2 ** 63, 2 ** 63 + v, 2 ** 64 - 1, 2 ** 64 - v,
+                               v + 1, v + 1, v - 1]) % 2 ** 64)
+
+
+def length_fault(r, c):
+    at = r.choice([i for i, (name, _) in enumerate(OPS[c.op].slices) if name not in ('pairs', 'diagonal', 'two numbers')])
+    items = c.slices[at]
+    how = r.randrange(6)
+    if how < 2:
+        items = items[:-1]
+    elif how < 4:
+        items = items + array(items.typecode, [r.choice((0, 1))])
+    elif how == 4:
+        items = items[:0]
+    else:
+        items = items + items
+    c.slices[at] = items[:LONGEST]
+
+
+def list_fault(r, c):
+    swaps, pairs = c.part('swaps'), c.part('pairs')
+    how = r.randrange(6)
+    if how == 0:
+        pairs[0] = r.choice([65, 66, 128, 2 ** 32 + pairs[0], 2 ** 63, 2 ** 63 + pairs[0], 2 ** 64 - 1]) % 2 ** 64
+    elif how == 1:
+        pairs[0] = r.choice([1, MOST, c.m + 1, min(c.m, c.n) + 1, min(c.m, c.n), c.n + 1]) % 2 ** 64
+    else:
+        if pairs[0] == 0 and r.random() < 0.5:
+            pairs[0] = 1
+        if len(swaps) < 2:
+            return
+        # most often a number that is read, now and then one that is not
+        at = r.randrange(max(1, min(2 * pairs[0], len(swaps)))) if r.random() < 0.85 else r.randrange(len(swaps))
+        if how < 4:
+            swaps[at] = swaps[min(at ^ 1, len(swaps) - 1)]
+        else:
+            swaps[at] = r.choice([c.m, c.n, c.m + 1, 64, 65, 255, 2 ** 32, 2 ** 63, 2 ** 64 - 1, 2 ** 32 + swaps[at], c.m - 1]) % 2 ** 64
+
+
+def number_fault(r, c):
+    chosen = [s for (_, kind), s in zip(OPS[c.op].slices, c.slices) if kind == FLOATS and len(s)]
+    if chosen:
+        items = r.choice(chosen)
+        items[r.choice((0, len(items) - 1, r.randrange(len(items))))] = r.choice(floats.NOT_FINITE)
+
+
+def zero_fault(r, c):
+    at = 1 if c.op == 11 and r.random() < 0.7 else 0
+    items = c.slices[at]
+    if len(items):
+        i = 0 if at else r.randrange(max(1, min(c.n, 64))) * (c.n + 1)
+        items[i % len(items)] = r.choice((0.0, -0.0))
+
+
+def append_fault(r, c):
+    two, pairs = c.part('two numbers'), c.part('pairs')
+    how = r.randrange(3)
+    if how == 0:
+        two[r.randrange(2)] = r.choice([64, 65, 128, 2 ** 32, 2 ** 63, 2 ** 64 - 1])
+    elif how == 1:
+        two[0] = two[1] = r.choice([64, 100, 2 ** 63, 63])
+    else:
+        c.m = r.choice([pairs[0], pairs[0] + 1, 1]) % 2 ** 64
+
+
+def faults_of(op):
+    names = [name for name, _ in OPS[op].slices]
+    kinds = [size_fault, length_fault]
+    if 'pairs' in names:
+        kinds += [list_fault, list_fault]
+    if any(kind == FLOATS for _, kind in OPS[op].slices):
+        kinds += [number_fault, number_fault]
+    if op in (3, 4, 5, 6, 9, 10, 11, 12, 13):
+        kinds.append(zero_fault)
+    if op == 18:
+        kinds += [append_fault] * 3
+    return kinds
+
+
+FAULTS = {op: faults_of(op) for op in OPS}
+
+
+def damaged(r, c):
+    """A panel file cut short, too long, or with bytes changed."""
+    file = c.slices[0]
+    how = r.randrange(8)
+    if len(file) < 6:
+        return c
+    if how == 0:
+        file = file[:r.choice([0, 1, 5, 6, 7, 13, len(file) - 8, len(file) - 1, len(file) - 1, r.randrange(len(file))])]
+    elif how == 1:
+        file += r.choice([b'\0', b'\n', b'LXP', bytes(8), file[6:14], file])
+    else:
+        changed = bytearray(file)
+        if how == 2:
+            changed[r.randrange(5)] ^= 1 << r.randrange(8)
+        elif how == 3:
+            changed[5] = r.choice([0, 65, 64, 128, 255, changed[5] + 1, changed[5] - 1]) % 256
+        elif how == 4 and len(changed) > 13:
+            at = 6 + 8 * r.randrange((len(changed) - 6) // 8)
+            changed[at:at + 8] = struct.pack('<d', r.choice(floats.NOT_FINITE))
+        else:
+            at = r.randrange(len(changed))
+            changed[at] ^= 1 << r.randrange(8)
+        file = bytes(changed)
+    return file_case(file)
+
+
+def spoiled(r, c):
+    """The case with one fault, or two or three at once: the order of the tests then shows."""
+    times = r.choice((1, 1, 1, 2, 2, 3))
+    for _ in range(times):
+        if c.op == 20:
+            c = damaged(r, c)
+        else:
+            r.choice(FAULTS[c.op])(r, c)
+    c.fresh = None
+    return c
+
+
+# ---- case number `index`
+
+def make(seed, index):
+    """Of an op's turns each third is spoiled, one in 48 is larger, and the others go through all small shapes."""
+    turn_of_round, at = divmod(index, len(ROUND))
+    op, rank = ROUND[at]
+    turn = turn_of_round * TURNS[op] + rank
+    r = random.Random(f'{seed} {index}')
+    square = op in SQUARE
+    if turn % 48 == 0:
+        sizes = larger_square(r) if square else larger_shape(r)
+    elif turn % 3 == 2:
+        sizes = (small_square if square else small_shape)(r.randrange(90))
+    else:
+        before = turn - turn // 3 - (turn + 47) // 48
+        sizes = (small_square if square else small_shape)(before)
+    c = yield from MAKERS[op](r, op, *sizes)
+    if turn % 3 == 2:
+        c = spoiled(r, c)
+    if op != 20:
+        for name in 'mnk':
+            if name not in OPS[op].sizes:
+                setattr(c, name, r.choice(JUNK))
+    return c

@@ -1,0 +1,464 @@
+#!/usr/bin/env python3
+"""A second replay program, for the self-test alone: document 01 and the replay format once more, in plain Python, sharing nothing with the
+modules beside it and asking no oracle. It reads a list on standard input and prints the lines.
+
+Matrices are lists of rows here. Every operation is one Python operation on floats, so one rounding to binary64."""
+import struct
+import sys
+
+TAKES = {1: 'FFW', 2: 'FFWW', 3: 'FWWFF', 4: 'FWWF', 5: 'FWW', 6: 'FWW', 7: 'FWWF', 8: 'FWWF', 9: 'FFF', 10: 'FFF', 11: 'FFFF', 12: 'FFF',
+         13: 'FFF', 14: 'WWF', 15: 'WWF', 16: 'WWF', 17: 'WWF', 18: 'WWW', 19: 'FW', 20: 'W'}
+
+
+class Refused(Exception):
+    pass
+
+
+def refuse(number, when):
+    if when:
+        raise Refused(number)
+
+
+# ---- reading and printing
+
+class BadCase(Exception):
+    pass
+
+
+class Input:
+    def __init__(self, data):
+        self.data, self.at = data, 0
+
+    def take(self, form):
+        size = struct.calcsize(form)
+        if self.at + size > len(self.data):
+            raise BadCase
+        self.at += size
+        return struct.unpack_from(form, self.data, self.at - size)
+
+    def slice(self, kind):
+        count, = self.take('<H')
+        if count > 4160:
+            raise BadCase
+        return list(self.take(f'<{count}d' if kind == 'F' else f'<{count}Q'))
+
+
+def text(items):
+    out = []
+    for x in items:
+        if isinstance(x, float):
+            out.append('nan' if x != x else '%016x' % struct.unpack('<Q', struct.pack('<d', x)))
+        else:
+            out.append(str(x))
+    return ' '.join(out)
+
+
+# ---- what several calls share
+
+def finite(x):
+    return x - x == 0.0
+
+
+def rows_of(m, n, flat):
+    return [[flat[j * m + i] for j in range(n)] for i in range(m)]
+
+
+def flat_of(m, n, rows):
+    return [rows[i][j] for j in range(n) for i in range(m)]
+
+
+def size(x, least, most=64):
+    refuse(1, x < least or x > most)
+
+
+def length(items, wanted):
+    refuse(3, len(items) != wanted)
+
+
+def swap_list(store, count, below, most):
+    refuse(4, count > most)
+    out = []
+    for p in range(count):
+        i, j = store[2 * p], store[2 * p + 1]
+        refuse(4, i == j)
+        refuse(4, i >= below)
+        refuse(4, j >= below)
+        out.append((i, j))
+    return out
+
+
+def numbers(items):
+    for x in items:
+        refuse(5, not finite(x))
+
+
+def overflow(items):
+    for x in items:
+        refuse(7, not finite(x))
+
+
+def swap(rows, pairs):
+    for i, j in pairs:
+        rows[i], rows[j] = rows[j], rows[i]
+
+
+# ---- elimination: document 01, steps 1 to 5
+
+def pivot_row(a, i):
+    best = i
+    for r in range(i + 1, len(a)):
+        if abs(a[best][i]) < abs(a[r][i]):
+            best = r
+    return best
+
+
+def eliminate(m, n, a):
+    pairs = []
+    for i in range(min(m, n)):
+        p = pivot_row(a, i)
+        if a[p][i] == 0.0:
+            continue
+        if p != i:
+            pairs.append((i, p))
+            a[i], a[p] = a[p], a[i]
+        for r in range(i + 1, m):
+            a[r][i] *= 1.0 / a[i][i]
+        for r in range(i + 1, m):
+            for j in range(i + 1, n):
+                a[r][j] = (-a[i][j]) * a[r][i] + a[r][j]
+    return pairs
+
+
+def add_column(m, n, a, pairs, column):
+    """The rows of a get one entry more; gives the new pairs."""
+    new = list(column)
+    swap(new, pairs)
+    for i in range(min(m, n)):
+        if a[i][i] == 0.0:
+            continue
+        for r in range(i + 1, m):
+            new[r] += (-new[i]) * a[r][i]
+    for r in range(m):
+        a[r].append(new[r])
+    if n < m:
+        p = pivot_row(a, n)
+        if a[p][n] != 0.0:
+            if p != n:
+                pairs = pairs + [(n, p)]
+                a[n], a[p] = a[p], a[n]
+            for r in range(n + 1, m):
+                a[r][n] *= 1.0 / a[n][n]
+    return pairs
+
+
+# ---- solves of one right-hand column
+
+def unit_lower(t, b, d=1.0):
+    for i in range(len(b)):
+        if i + 1 < len(b):
+            c = b[i] / d
+            for r in range(i + 1, len(b)):
+                b[r] = (-c) * t[r][i] + b[r]
+
+
+def lower(t, b):
+    for i in range(len(b)):
+        b[i] /= t[i][i]
+        for r in range(i + 1, len(b)):
+            b[r] = (-b[i]) * t[r][i] + b[r]
+
+
+def upper(t, b):
+    for i in reversed(range(len(b))):
+        b[i] /= t[i][i]
+        for r in range(i):
+            b[r] = (-b[i]) * t[r][i] + b[r]
+
+
+def dot(x, y):
+    """blas.rs: eight running sums over whole blocks of eight, added 0+4, 1+5, 2+6, 3+7, then the rest one by one."""
+    sums = [0.0] * 8
+    whole = len(x) // 8 * 8
+    for i in range(whole):
+        sums[i % 8] += x[i] * y[i]
+    total = 0.0
+    for lane in range(4):
+        total += sums[lane] + sums[lane + 4]
+    for i in range(whole, len(x)):
+        total += x[i] * y[i]
+    return total
+
+
+def transposed_lower(t, b):
+    for i in reversed(range(len(b))):
+        rest = range(i + 1, len(b))
+        b[i] = (b[i] - dot([t[r][i] for r in rest], [b[r] for r in rest])) / t[i][i]
+
+
+def transposed_upper(t, b):
+    for i in range(len(b)):
+        b[i] = (b[i] - dot([t[r][i] for r in range(i)], b[:i])) / t[i][i]
+
+
+def solved(n, t, pairs, b):
+    """Factors t, right-hand columns b as a list of columns."""
+    for column in b:
+        swap(column, pairs)
+        unit_lower(t, column)
+        upper(t, column)
+
+
+def columns_of(n, k, flat):
+    return [flat[c * n:c * n + n] for c in range(k)]
+
+
+# ---- the calls: each gives the parts of an accepted call, or refuses; LEFT gives the parts of a refused one
+
+def factor(m, n, k, matrix, out0, swaps):
+    size(m, 1), size(n, 0)
+    length(matrix, m * n), length(out0, m * n), length(swaps, 128)
+    numbers(matrix)
+    a = rows_of(m, n, matrix)
+    pairs = eliminate(m, n, a)
+    made = flat_of(m, n, a)
+    overflow(made)
+    used = [x for p in pairs for x in p]
+    return [len(pairs)], made, used + [0] * (128 - len(used))
+
+
+def factor_left(number, m, n, k, matrix, out0, swaps):
+    if number == 7:
+        return [0], [0.0] * len(out0), [0] * 128
+    return [0], out0, swaps
+
+
+def add(m, n, k, store, column, swaps, count):
+    size(m, 1), size(n, 0, 63)
+    length(store, m * n + m), length(column, m), length(swaps, 128)
+    pairs = swap_list(swaps, count[0], m, min(m, n))
+    numbers(store[:m * n]), numbers(column)
+    a = rows_of(m, n, store)
+    pairs = add_column(m, n, a, pairs, column)
+    made = flat_of(m, n + 1, a)
+    overflow(made)
+    after = list(swaps)
+    for p, pair in enumerate(pairs):
+        after[2 * p:2 * p + 2] = pair
+    return [len(pairs)], made, after
+
+
+def add_left(number, m, n, k, store, column, swaps, count):
+    if number == 7:
+        store = store[:m * n] + [0.0] * m
+    return count, store, swaps
+
+
+def factors(m, n, flat, swaps, count, square, *others):
+    """Refusals 1 to 5 of calls on factors; `others` are (slice, wanted length, is it an input)."""
+    size(m, 1), size(n, 0)
+    refuse(2, square and m != n)
+    length(flat, m * n), length(swaps, 128)
+    for items, wanted, _ in others:
+        length(items, wanted)
+    pairs = swap_list(swaps, count[0], m, min(m, n))
+    numbers(flat)
+    for items, _, is_input in others:
+        if is_input:
+            numbers(items)
+    return rows_of(m, n, flat), pairs
+
+
+def zero_diagonal(n, t):
+    for i in range(n):
+        refuse(6, t[i][i] == 0.0)
+
+
+def solve(m, n, k, flat, swaps, count, b, x0):
+    size(k, 1)
+    t, pairs = factors(m, n, flat, swaps, count, True, (b, m * k, True), (x0, m * k, False))
+    zero_diagonal(n, t)
+    x = columns_of(n, k, b)
+    solved(n, t, pairs, x)
+    made = sum(x, [])
+    overflow(made)
+    return made,
+
+
+def inverse(m, n, k, flat, swaps, count, x0):
+    t, pairs = factors(m, n, flat, swaps, count, True, (x0, m * n, False))
+    zero_diagonal(n, t)
+    x = [[1.0 if i == j else 0.0 for i in range(n)] for j in range(n)]
+    solved(n, t, pairs, x)
+    made = sum(x, [])
+    overflow(made)
+    return made,
+
+
+def determinant(m, n, k, flat, swaps, count):
+    t, pairs = factors(m, n, flat, swaps, count, True)
+    product = 1.0
+    for i in range(n):
+        product *= t[i][i]
+    product *= -1.0 if len(pairs) % 2 else 1.0
+    overflow([product])
+    return [product],
+
+
+def invertible(m, n, k, flat, swaps, count):
+    t, _ = factors(m, n, flat, swaps, count, True)
+    return [int(all(t[i][i] != 0.0 for i in range(n)))],
+
+
+def l_of(m, n, k, flat, swaps, count, out0):
+    t, _ = factors(m, n, flat, swaps, count, False, (out0, m * min(m, n), False))
+    least = min(m, n)
+    return flat_of(m, least, [[1.0 if i == j else t[i][j] if i > j else 0.0 for j in range(least)] for i in range(m)]),
+
+
+def u_of(m, n, k, flat, swaps, count, out0):
+    t, _ = factors(m, n, flat, swaps, count, False, (out0, min(m, n) * n, False))
+    least = min(m, n)
+    return flat_of(least, n, [[t[i][j] if i <= j else 0.0 for j in range(n)] for i in range(least)]),
+
+
+def triangular(run):
+    def call(m, n, k, matrix, b, x0):
+        size(n, 1), size(k, 1)
+        length(matrix, n * n), length(b, n * k), length(x0, n * k)
+        numbers(matrix), numbers(b)
+        t = rows_of(n, n, matrix)
+        zero_diagonal(n, t)
+        return ran(run, n, k, t, b)
+    return call
+
+
+def ran(run, n, k, t, b):
+    x = columns_of(n, k, b)
+    for column in x:
+        run(t, column)
+    made = sum(x, [])
+    overflow(made)
+    return made,
+
+
+def given_diagonal(m, n, k, matrix, d, b, x0):
+    size(n, 1), size(k, 1)
+    length(matrix, n * n), length(b, n * k), length(x0, n * k)
+    numbers(matrix), numbers(b), numbers(d)
+    refuse(6, d[0] == 0.0)
+    return ran(lambda t, column: unit_lower(t, column, d[0]), n, k, rows_of(n, n, matrix), b)
+
+
+def permute(of_columns, backwards):
+    def call(m, n, k, swaps, count, matrix):
+        size(m, 1), size(n, 0)
+        length(matrix, m * n), length(swaps, 128)
+        pairs = swap_list(swaps, count[0], n if of_columns else m, 64)
+        numbers(matrix)
+        if backwards:
+            pairs = pairs[::-1]
+        if of_columns:
+            lines = columns_of(m, n, matrix)
+            swap(lines, pairs)
+            return sum(lines, []),
+        a = rows_of(m, n, matrix)
+        swap(a, pairs)
+        return flat_of(m, n, a),
+    return call
+
+
+def append(m, n, k, swaps, count, two):
+    size(m, 1)
+    length(swaps, 128)
+    swap_list(swaps, count[0], 64, m)
+    i, j = two
+    refuse(4, i > 63)
+    refuse(4, j > 63)
+    if i == j:
+        return count, swaps
+    p = count[0]
+    refuse(4, p == m)
+    return [p + 1], swaps[:2 * p] + [i, j] + swaps[2 * p + 2:]
+
+
+def order(loads):
+    """Picks the greatest magnitude that is left, the lowest number first."""
+    left = list(range(len(loads)))
+    out = []
+    while left:
+        best = left[0]
+        for pad in left:
+            if abs(loads[pad]) > abs(loads[best]):
+                best = pad
+        left.remove(best)
+        out.append(best + 1)
+    return out
+
+
+def rank(m, n, k, loads, out0):
+    size(n, 1)
+    length(loads, n), length(out0, n)
+    numbers(loads)
+    return order(loads),
+
+
+def panel_file(m, n, k, items):
+    data = struct.pack(f'<{len(items)}Q', *items)[:k]
+    refuse(8, k < 6)
+    refuse(8, data[:5] != b'LXP\x01\x00')
+    pads = data[5]
+    size(pads, 1)
+    refuse(3, k != 6 + 8 * pads * (pads + 1))
+    values = [x for x, in struct.iter_unpack('<d', data[6:])]
+    numbers(values)
+    t = rows_of(pads, pads, values)
+    pairs = eliminate(pads, pads, t)
+    overflow(flat_of(pads, pads, t))
+    zero_diagonal(pads, t)
+    loads = values[pads * pads:]
+    solved(pads, t, pairs, [loads])
+    overflow(loads)
+    return f'pads {pads}\n' + ''.join(f'{pad} {text([loads[pad - 1]])}\n' for pad in order(loads)),
+
+
+def last_left(number, *case):
+    """The lent result is the last slice: +0.0 after an overflow, else as it was."""
+    return [0.0] * len(case[-1]) if number == 7 else case[-1],
+
+
+CALLS = {
+    1: (factor, factor_left), 2: (add, add_left), 3: (solve, last_left), 4: (inverse, last_left),
+    5: (determinant, lambda *case: ('-',)), 6: (invertible, lambda *case: ('-',)), 7: (l_of, last_left), 8: (u_of, last_left),
+    9: (triangular(lower), last_left), 10: (triangular(upper), last_left), 11: (given_diagonal, last_left),
+    12: (triangular(transposed_lower), last_left), 13: (triangular(transposed_upper), last_left),
+    14: (permute(False, False), last_left), 15: (permute(False, True), last_left),
+    16: (permute(True, False), last_left), 17: (permute(True, True), last_left),
+    18: (append, lambda number, m, n, k, swaps, count, two: (count, swaps)), 19: (rank, last_left),
+    20: (panel_file, lambda number, *case: (f'refused {number}\n',)),
+}
+
+
+def answer(op, *case):
+    call, left = CALLS[op]
+    try:
+        number, parts = 0, call(*case)
+    except Refused as e:
+        number = e.args[0]
+        parts = left(number, *case)
+    return ' | '.join([str(number)] + [p.replace('\n', ' / ') if isinstance(p, str) else text(p) for p in parts])
+
+
+def main():
+    cases = Input(sys.stdin.buffer.read())
+    try:
+        while cases.at < len(cases.data):
+            op, m, n, k = cases.take('<BQQQ')
+            if op not in TAKES:
+                raise BadCase
+            print(answer(op, m, n, k, *[cases.slice(kind) for kind in TAKES[op]]))
+    except BadCase:
+        print('bad case')
+
+
+if __name__ == '__main__':
+    main()

@@ -1,0 +1,337 @@
+"""The line that each case must give: document 01's refusals in their order, and the oracle's numbers for what is accepted.
+
+A call has three parts here. Its tests give pairs (number, does it hold), in document 01's order; the first that holds
+is the refusal. `left` gives the parts of the line when a test refuses. `made` is a generator that asks the oracle (it
+yields a request and is sent the oracle's line) and returns the refusal number, 0 or 7, with the parts."""
+import math
+import struct
+from array import array
+
+from .judge import finite
+from .wire import Case, NEWLINE, encode, hexes, line, unhex, words
+
+# ---- what the tests ask
+
+MOST = 64
+STORE = 128
+
+
+def outside(least, size, most=MOST):
+    return not least <= size <= most
+
+
+def bad_list(swaps, pairs, bound, most):
+    """Refusal 4: too many pairs, two equal numbers, or a number not below the bound."""
+    if pairs > most:
+        return True
+    used = swaps[:2 * pairs]
+    return any(x >= bound for x in used) or any(i == j for i, j in zip(used[::2], used[1::2]))
+
+
+def not_finite(*slices):
+    return not all(all(map(math.isfinite, s)) for s in slices)
+
+
+def zero_on_diagonal(n, matrix):
+    return any(x == 0.0 for x in matrix[::n + 1])
+
+
+def first(tests):
+    for number, holds in tests:
+        if holds:
+            return number
+    return 0
+
+
+# ---- results of floats, refused with 7 where one is not finite
+
+def zeros(items):
+    return hexes(array('d', bytes(8 * len(items))))
+
+
+def numbers_or_seven(text, items):
+    """The oracle's one part of numbers for a slice that has so many items."""
+    assert text != 'none', 'the crate refuses what the tests let through'
+    return (0, [text]) if finite(text) else (7, [zeros(items)])
+
+
+# ---- 1 and 2: factoring, adding a column
+
+def request_factoring(m, n, matrix):
+    return encode(Case(1, m, n, 0, [matrix, array('d'), array('Q')]))
+
+
+def factor_tests(c):
+    matrix, out0, swaps = c.slices
+    yield 1, outside(1, c.m) or outside(0, c.n)
+    yield 3, len(matrix) != c.m * c.n or len(out0) != c.m * c.n or len(swaps) != STORE
+    yield 5, not_finite(matrix)
+
+
+def factor_left(c):
+    return ['0', hexes(c.slices[1]), words(c.slices[2])]
+
+
+def factor_made(c):
+    matrix, _, _ = c.slices
+    pairs, factors, swaps = (yield request_factoring(c.m, c.n, matrix)).split(' | ')
+    if not finite(factors):
+        return 7, ['0', zeros(matrix), words([0] * STORE)]
+    store = swaps.split() + ['0'] * (STORE - 2 * int(pairs))
+    return 0, [pairs, factors, ' '.join(store)]
+
+
+def add_tests(c):
+    store, column, swaps, pairs = c.slices
+    yield 1, outside(1, c.m) or outside(0, c.n, MOST - 1)
+    yield 3, len(store) != c.m * (c.n + 1) or len(column) != c.m or len(swaps) != STORE
+    yield 4, bad_list(swaps, pairs[0], c.m, min(c.m, c.n))
+    yield 5, not_finite(store[:c.m * c.n], column)
+
+
+def add_left(c):
+    store, _, swaps, pairs = c.slices
+    return [words(pairs), hexes(store), words(swaps)]
+
+
+def add_made(c):
+    """Where the whole matrix is known, the oracle factors it afresh; else document 01's steps are run here."""
+    store, _, swaps, (old,) = c.slices
+    if c.fresh is None:
+        count, text, pair = added(c)
+    else:
+        count, text, list_ = (yield request_factoring(c.m, c.n + 1, c.fresh)).split(' | ')
+        count, pair = int(count), [int(w) for w in list_.split()[2 * old:]]
+    if not finite(text):
+        return 7, [str(old), hexes(store[:c.m * c.n] + array('d', bytes(8 * c.m))), words(swaps)]
+    swaps = swaps[:]
+    swaps[2 * old:2 * count] = array('Q', pair)
+    return 0, [str(count), text, words(swaps)]
+
+
+def added(c):
+    """Document 01, "Adding a column", on any factors: the count of pairs, the store as text, and the new pair if there is one.
+    Python's floats are binary64 and each operation rounds once, so the bits are document 01's."""
+    store, column, swaps, (pairs,) = c.slices
+    m, n = c.m, c.n
+    col = list(column)
+    for p in range(pairs):
+        i, j = swaps[2 * p], swaps[2 * p + 1]
+        col[i], col[j] = col[j], col[i]
+    for i in range(min(m, n)):
+        if store[i * m + i] != 0.0:
+            for r in range(i + 1, m):
+                col[r] = -col[i] * store[i * m + r] + col[r]
+    older = store[:m * n]
+    new_pair = []
+    if n < m:
+        pivot = n
+        for r in range(n + 1, m):
+            if abs(col[r]) > abs(col[pivot]):
+                pivot = r
+        if col[pivot] != 0.0:
+            if pivot != n:
+                new_pair = [n, pivot]
+                col[n], col[pivot] = col[pivot], col[n]
+                for j in range(n):
+                    a, b = j * m + n, j * m + pivot
+                    older[a], older[b] = older[b], older[a]
+            if n + 1 < m:
+                reciprocal = 1.0 / col[n]
+                for r in range(n + 1, m):
+                    col[r] = col[r] * reciprocal
+    return pairs + len(new_pair) // 2, hexes(older + array('d', col)), new_pair
+
+
+# ---- 3 to 8: calls on factors
+
+def factors_tests(c, square, lengths, numbers):
+    """Refusals 1 to 5 of a call on factors, the number of right-hand columns apart."""
+    factors, swaps, pairs = c.slices[:3]
+    yield 1, outside(1, c.m) or outside(0, c.n)
+    yield 2, square and c.m != c.n
+    yield 3, len(factors) != c.m * c.n or len(swaps) != STORE or lengths
+    yield 4, bad_list(swaps, pairs[0], c.m, min(c.m, c.n))
+    yield 5, not_finite(factors, *numbers)
+
+
+def solve_tests(c):
+    factors, _, _, b, x0 = c.slices
+    yield 1, outside(1, c.k)
+    yield from factors_tests(c, True, len(b) != c.m * c.k or len(x0) != c.m * c.k, [b])
+    yield 6, zero_on_diagonal(c.n, factors)
+
+
+def inverse_tests(c):
+    factors, _, _, x0 = c.slices
+    yield from factors_tests(c, True, len(x0) != c.m * c.n, [])
+    yield 6, zero_on_diagonal(c.n, factors)
+
+
+def square_tests(c):
+    yield from factors_tests(c, True, False, [])
+
+
+def l_tests(c):
+    yield from factors_tests(c, False, len(c.slices[3]) != c.m * min(c.m, c.n), [])
+
+
+def u_tests(c):
+    yield from factors_tests(c, False, len(c.slices[3]) != min(c.m, c.n) * c.n, [])
+
+
+def result_left(c):
+    """Calls whose lent result is their last slice."""
+    return [hexes(c.slices[-1])]
+
+
+def result_made(c):
+    return numbers_or_seven((yield encode(c)), c.slices[-1])
+
+
+def dash(c):
+    return ['-']
+
+
+def determinant_made(c):
+    text = yield encode(c)
+    return (0, [text]) if finite(text) else (7, ['-'])
+
+
+def invertible_made(c):
+    return 0, [(yield encode(c))]
+
+
+# ---- 9 to 13: triangular solves
+
+def triangular_tests(c):
+    matrix, b, x0 = c.slices[0], *c.slices[-2:]
+    yield 1, outside(1, c.n) or outside(1, c.k)
+    yield 3, len(matrix) != c.n * c.n or len(b) != c.n * c.k or len(x0) != c.n * c.k
+    given = c.slices[1] if c.op == 11 else array('d')
+    yield 5, not_finite(matrix, b, given)
+    yield 6, given[0] == 0.0 if c.op == 11 else zero_on_diagonal(c.n, matrix)
+
+
+# ---- 14 to 18: swap lists
+
+def permute_tests(c):
+    swaps, pairs, matrix = c.slices
+    yield 1, outside(1, c.m) or outside(0, c.n)
+    yield 3, len(matrix) != c.m * c.n or len(swaps) != STORE
+    yield 4, bad_list(swaps, pairs[0], c.m if c.op < 16 else c.n, MOST)
+    yield 5, not_finite(matrix)
+
+
+def append_tests(c):
+    swaps, (pairs,), (i, j) = c.slices
+    yield 1, outside(1, c.m)
+    yield 3, len(swaps) != STORE
+    yield 4, bad_list(swaps, pairs, 64, c.m)
+    yield 4, i >= 64 or j >= 64
+    yield 4, i != j and pairs >= c.m
+
+
+def append_left(c):
+    return [words(c.slices[1]), words(c.slices[0])]
+
+
+def append_made(c):
+    count, list_ = (yield encode(c)).split(' | ')
+    swaps = c.slices[0][:]
+    swaps[:2 * int(count)] = array('Q', map(int, list_.split()))
+    return 0, [count, words(swaps)]
+
+
+# ---- 19 and 20: ranking, panel files
+
+def ranks(loads):
+    """Pad numbers from 1, greatest magnitude first, equal magnitudes by lower number."""
+    return sorted(range(1, len(loads) + 1), key=lambda pad: (-abs(loads[pad - 1]), pad))
+
+
+def rank_tests(c):
+    loads, out0 = c.slices
+    yield 1, outside(1, c.n)
+    yield 3, len(loads) != c.n or len(out0) != c.n
+    yield 5, not_finite(loads)
+
+
+def rank_left(c):
+    return [words(c.slices[1])]
+
+
+def rank_made(c):
+    return 0, [words(ranks(c.slices[0]))]
+    yield       # a generator that asks nothing
+
+
+def file_tests(c):
+    """The reader's four refusals."""
+    file = c.slices[0]
+    yield 8, len(file) < 6 or file[:3] != b'LXP' or struct.unpack('<H', file[3:5])[0] != 1
+    n = file[5]
+    yield 1, outside(1, n)
+    yield 3, len(file) != 6 + 8 * (n * n + n)
+    yield 5, not_finite(array('d', file[6:]))
+
+
+def printed(*lines):
+    return [''.join(text + NEWLINE for text in lines)]
+
+
+def refused(number):
+    return number, printed(f'refused {number}')
+
+
+def file_made(c):
+    """Factoring's 7, then the solve's 6, then its 7."""
+    file = c.slices[0]
+    n = file[5]
+    numbers = array('d', file[6:])
+    matrix, readings = numbers[:n * n], numbers[n * n:]
+    pairs, factors, swaps = (yield request_factoring(n, n, matrix)).split(' | ')
+    if not finite(factors):
+        return refused(7)
+    factors, list_ = unhex(factors), array('Q', map(int, swaps.split()))
+    loads = yield encode(Case(3, n, n, 1, [factors, list_, array('Q', [int(pairs)]), readings, array('d')]))
+    if zero_on_diagonal(n, factors):
+        assert loads == 'none', loads
+        return refused(6)
+    if not finite(loads):
+        return refused(7)
+    loads = unhex(loads)
+    return 0, printed(f'pads {n}', *(f'{pad} {hexes(loads[pad - 1:pad])}' for pad in ranks(loads)))
+
+
+# ---- all calls
+
+RULES = {
+    1: (factor_tests, factor_left, factor_made),
+    2: (add_tests, add_left, add_made),
+    3: (solve_tests, result_left, result_made),
+    4: (inverse_tests, result_left, result_made),
+    5: (square_tests, dash, determinant_made),
+    6: (square_tests, dash, invertible_made),
+    7: (l_tests, result_left, result_made),
+    8: (u_tests, result_left, result_made),
+    **{op: (triangular_tests, result_left, result_made) for op in range(9, 14)},
+    **{op: (permute_tests, result_left, result_made) for op in range(14, 18)},
+    18: (append_tests, append_left, append_made),
+    19: (rank_tests, rank_left, rank_made),
+    20: (file_tests, None, file_made),
+}
+
+
+def expected(c):
+    """The line of a case, as a generator that asks the oracle."""
+    tests, left, made = RULES[c.op]
+    number = first(tests(c))
+    if number == 0:
+        number, parts = yield from made(c)
+    else:
+        parts = refused(number)[1] if c.op == 20 else left(c)
+        if number == 6:      # the one refusal that the crate has too: it must agree
+            answer = yield encode(c)
+            assert answer == 'none', answer
+    return line(number, parts)

@@ -1,0 +1,98 @@
+"""Wrong programs that a list of cases must show up: edits of model.py, each a reasonable-looking error. (what, old text, new text)"""
+
+SKIP = """        if a[p][i] == 0.0:
+            continue
+"""
+
+WRONG = [
+    ('divides by the pivot', 'a[r][i] *= 1.0 / a[i][i]', 'a[r][i] /= a[i][i]'),
+    ('divides by the pivot when adding', 'a[r][n] *= 1.0 / a[n][n]', 'a[r][n] /= a[n][n]'),
+    ('takes the last of equal magnitudes', 'if abs(a[best][i]) < abs(a[r][i]):', 'if abs(a[best][i]) <= abs(a[r][i]):'),
+    ('compares signed numbers', 'if abs(a[best][i]) < abs(a[r][i]):', 'if a[best][i] < a[r][i]:'),
+    ("runs a skipped column's step", SKIP,
+     SKIP.replace('continue', '\n            '.join(['for r in range(i + 1, m):', '    for j in range(i + 1, n):',
+                                                     '        a[r][j] = (-a[i][j]) * a[r][i] + a[r][j]', 'continue']))),
+    ("runs a skipped column's step when adding", 'if a[i][i] == 0.0:\n            continue', 'pass'),
+    ('refuses a reciprocal that no row uses', '        for r in range(i + 1, m):\n            a[r][i] *=',
+     '        refuse(7, not finite(1.0 / a[i][i]))\n        for r in range(i + 1, m):\n            a[r][i] *='),
+    ('fuses product and sum', 'a[r][j] = (-a[i][j]) * a[r][i] + a[r][j]', 'a[r][j] = fused(-a[i][j], a[r][i], a[r][j])'),
+    ('swaps only from the pivot column on', '            a[i], a[p] = a[p], a[i]\n',
+     '            a[i][i:], a[p][i:] = a[p][i:], a[i][i:]\n'),
+    ('stops at a zero column', SKIP, SKIP.replace('continue', 'break')),
+    ('applies the list backwards in a solve', '        swap(column, pairs)\n        unit_lower',
+     '        swap(column, pairs[::-1])\n        unit_lower'),
+    ('solves upper by reciprocals', 'for i in reversed(range(len(b))):\n        b[i] /= t[i][i]',
+     'for i in reversed(range(len(b))):\n        b[i] *= 1.0 / t[i][i]'),
+    ('solves lower by reciprocals', 'for i in range(len(b)):\n        b[i] /= t[i][i]',
+     'for i in range(len(b)):\n        b[i] *= 1.0 / t[i][i]'),
+    ('sums dot in one run', 'whole = len(x) // 8 * 8', 'whole = 0'),
+    ('sums the eight lanes in a row', 'total += sums[lane] + sums[lane + 4]', 'total = total + sums[lane] + sums[lane + 4]'),
+    ('stores the given quotient', 'c = b[i] / d\n', 'c = b[i] = b[i] / d\n'),
+    ('forms the last given quotient', '        if i + 1 < len(b):\n            c = b[i] / d\n',
+     '        if True:\n            c = b[i] / d\n            refuse(7, not finite(c))\n'),
+    ('tests the diagonal of the matrix where one is given', 'refuse(6, d[0] == 0.0)',
+     'zero_diagonal(n, rows_of(n, n, matrix)), refuse(7, d[0] == 0.0)'),
+    ('forgets the sign of the swaps', 'product *= -1.0 if len(pairs) % 2 else 1.0', 'pass'),
+    ('takes invertible from the determinant', '[int(all(t[i][i] != 0.0 for i in range(n)))]',
+     "[int(__import__('math').prod(t[i][i] for i in range(n)) != 0.0)]"),
+    ('takes -0.0 for no zero', 'refuse(6, t[i][i] == 0.0)', "refuse(6 if text([t[i][i]])[0] == '0' else 7, t[i][i] == 0.0)"),
+    ('tests lengths before the square', "    refuse(2, square and m != n)\n    length(flat, m * n), length(swaps, 128)\n",
+     "    length(flat, m * n), length(swaps, 128)\n    refuse(2, square and m != n)\n"),
+    ('tests numbers before the list', '    pairs = swap_list(swaps, count[0], m, min(m, n))\n    numbers(flat)\n',
+     '    numbers(flat)\n    pairs = swap_list(swaps, count[0], m, min(m, n))\n'),
+    ('tests the diagonal before the numbers',
+     '        numbers(matrix), numbers(b)\n        t = rows_of(n, n, matrix)\n        zero_diagonal(n, t)\n',
+     '        t = rows_of(n, n, matrix)\n        zero_diagonal(n, t)\n        numbers(matrix), numbers(b)\n'),
+    ('allows 64 pairs on factors', 'pairs = swap_list(swaps, count[0], m, min(m, n))\n    numbers(flat)',
+     'pairs = swap_list(swaps, count[0], m, 64)\n    numbers(flat)'),
+    ('allows min(m, n) pairs for permuting', 'n if of_columns else m, 64)', 'n if of_columns else m, min(m, n))'),
+    ('allows a pair of equal numbers', '        refuse(4, i == j)\n', ''),
+    ('tests the row count for columns', 'n if of_columns else m, 64)', 'm, 64)'),
+    ('takes 2^63 pairs for none', '    refuse(4, count > most)\n', '    count %= 2 ** 63\n    refuse(4, count > most)\n'),
+    ('takes sizes modulo 2^32', '    refuse(1, x < least or x > most)', '    refuse(1, x % 2 ** 32 < least or x % 2 ** 32 > most)'),
+    ('takes n of 64 when adding', 'size(m, 1), size(n, 0, 63)', 'size(m, 1), size(n, 0, 64)'),
+    ('reads the slot when adding', 'numbers(store[:m * n]), numbers(column)', 'numbers(store), numbers(column)'),
+    ('clears the store when adding overflows', 'store = store[:m * n] + [0.0] * m', 'store = [0.0] * len(store)'),
+    ('leaves the slot when adding overflows', '        store = store[:m * n] + [0.0] * m\n', '        pass\n'),
+    ('clears what follows the last pair when adding', '    after = list(swaps)\n', '    after = [0] * 128\n'),
+    ('leaves the swap store when factoring', 'used + [0] * (128 - len(used))', 'used + swaps[len(used):]'),
+    ('leaves the swap store when factoring overflows', 'return [0], [0.0] * len(out0), [0] * 128', 'return [0], [0.0] * len(out0), swaps'),
+    ('leaves the result after an overflow', 'return [0.0] * len(case[-1]) if number == 7 else case[-1],', 'return case[-1],'),
+    ('clears the result after any refusal', 'return [0.0] * len(case[-1]) if number == 7 else case[-1],',
+     'return [0 if isinstance(x, int) else 0.0 for x in case[-1]],'),
+    ('tests the result slice for finite numbers', "    length(matrix, m * n), length(out0, m * n), length(swaps, 128)\n    numbers(matrix)\n",
+     "    length(matrix, m * n), length(out0, m * n), length(swaps, 128)\n    numbers(matrix), numbers(out0)\n"),
+    ('keeps the diagonal in L', '1.0 if i == j else t[i][j] if i > j else 0.0', 't[i][j] if i >= j else 0.0'),
+    ('permutes forward in reverse', '        if backwards:\n            pairs = pairs[::-1]\n', ''),
+    ('adds nothing for (100, 100)', '    refuse(4, i > 63)\n    refuse(4, j > 63)\n', '    refuse(4, i != j and (i > 63 or j > 63))\n'),
+    ('refuses an equal pair on a full list', '    if i == j:\n        return count, swaps\n    p = count[0]\n    refuse(4, p == m)\n',
+     '    p = count[0]\n    refuse(4, p == m)\n    if i == j:\n        return count, swaps\n'),
+    ('ranks by signed loads', 'if abs(loads[pad]) > abs(loads[best]):', 'if loads[pad] > loads[best]:'),
+    ('ranks equal loads by the higher number', 'if abs(loads[pad]) > abs(loads[best]):', 'if abs(loads[pad]) >= abs(loads[best]):'),
+    ('takes a longer file', 'refuse(3, k != 6', 'refuse(3, k < 6'),
+    ('tests one byte of the version', "data[:5] != b'LXP\\x01\\x00'", "data[:4] != b'LXP\\x01'"),
+    ("tests the diagonal before factoring's overflow", '    overflow(flat_of(pads, pads, t))\n    zero_diagonal(pads, t)\n',
+     '    zero_diagonal(pads, t)\n    overflow(flat_of(pads, pads, t))\n'),
+    ("forgets the solve's overflow", '    overflow(loads)\n', ''),
+]
+
+# one rounding of the exact product and sum
+FUSED = '''
+from fractions import Fraction
+
+
+def fused(a, b, c):
+    if not (finite(a) and finite(b) and finite(c)) or a * b + c == 0.0 or not finite(a * b + c):
+        return a * b + c
+    return float(Fraction(a) * Fraction(b) + Fraction(c))
+
+
+'''
+
+
+def programs(model):
+    """(what, source) for each, from the source of model.py."""
+    for what, old, new in WRONG:
+        assert model.count(old) >= 1, f'model.py has no such text: {what}'
+        source = model.replace(old, new, 1)
+        yield what, source.replace("if __name__ == '__main__':", FUSED + "if __name__ == '__main__':") if 'fused(' in new else source
