@@ -11,7 +11,6 @@ slice-aggregate-floats-of c = simp length-take (omega arith)
 returns-2 : tie.Need-returns-2
 returns-2 c =
     let kept = c .before .before .floats-of .kept .1 .0 in
-    let n = c .before .before .before .before .before .before .before .before .read-items .result in
     (simp length-append (omega (arith, simp length-take at kept)), simp (length-take, length-append) (omega (arith, simp length-take at kept)))
 
 pub read-floats-spec : {M : Type 1} → statement M

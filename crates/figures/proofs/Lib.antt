@@ -1,0 +1,6 @@
+pub mod Outcomes
+pub mod Table
+pub mod WrongAnswers
+pub mod WrongColumns
+pub mod WrongFiles
+pub mod WrongSwaps

@@ -1,0 +1,72 @@
+-- Document 01, "Strength of the contracts", over any call: a contract that equates a call's outcome (its answer and the final contents of each lent slice) with a
+-- meaning admits one outcome only, and shuts out every program that is wrong at some input. Assumes nothing.
+use mathlib.Core.Path.{_≡_, refl, sym, ap, _∙_}
+use Prim.Native.Nat.{ℕ}
+use Rattle.blas.specs.Column.{Column}
+use Rattle.refusals.specs.Refusals.{Outcome}
+
+module _ {Input Given : Type 0} (meaning : Input → Given) where
+  -- a program that meets the contract on every input
+  abbrev pub Meets : (Input → Given) → Type 0
+  Meets program = (x : Input) → program x ≡ meaning x
+
+  abbrev pub OneOutcome : Type 0
+  OneOutcome = (p q : Input → Given) → Meets p → Meets q → (x : Input) → p x ≡ q x
+
+  pub one-outcome : OneOutcome
+  one-outcome p q first second x = first x ∙ sym (second x)
+
+  -- no program that does what `wrong` does meets the contract
+  abbrev pub ShutsOut : (Input → Given) → Type 0
+  ShutsOut wrong = (p : Input → Given) → Meets p → ((x : Input) → p x ≡ wrong x) → ⊥
+
+  pub shut-out : (wrong : Input → Given) (x : Input) → (meaning x ≡ wrong x → ⊥) → ShutsOut wrong
+  shut-out wrong x differs p meets does = differs (sym (meets x) ∙ does x)
+
+  -- no program that always gives the same meets a contract with two different outcomes
+  pub not-constant : (x y : Input) → (meaning x ≡ meaning y → ⊥) → (always : Given) → ShutsOut (λ _. always)
+  not-constant x y differ always p meets does = differ (sym (meets x) ∙ does x ∙ sym (does y) ∙ meets y)
+
+-- ---- a call whose outcome is a number and one result slice, which held `was`
+
+module _ {Input : Type 0} (meaning : Input → Outcome) (was : Input → Column) (x : Input) (accepted : meaning x .number ≡ 0)
+    (changed : meaning x .result ≡ was x → ⊥) where
+  -- it always refuses, with whatever number
+  not-refusing : (wrong : Input → Outcome) → (wrong x .number ≡ 0 → ⊥) → ShutsOut meaning wrong
+  not-refusing wrong refuses = shut-out meaning wrong x (λ e. refuses (sym (ap (λ (o : Outcome). o .number) e) ∙ accepted))
+
+  -- it leaves its slice as it was
+  not-idle : (wrong : Input → Outcome) → (wrong x .result ≡ was x) → ShutsOut meaning wrong
+  not-idle wrong idle = shut-out meaning wrong x (λ e. changed (ap (λ (o : Outcome). o .result) e ∙ idle))
+
+-- one outcome, and both shut out: for every refusal number, and whatever number the idle one answers
+abbrev pub BothShutOut : {Input : Type 0} → (Input → Outcome) → (Input → Column) → Type 0
+BothShutOut {Input} meaning was =
+    OneOutcome meaning
+    × (((number : Input → ℕ) → ((x : Input) → number x ≡ 0 → ⊥) → (result : Input → Column) → ShutsOut meaning (λ x. record { number = number x; result = result x }))
+    × ((number : Input → ℕ) → ShutsOut meaning (λ x. record { number = number x; result = was x })))
+
+pub both : {Input : Type 0} (meaning : Input → Outcome) (was : Input → Column) (x : Input) → meaning x .number ≡ 0 → (meaning x .result ≡ was x → ⊥) → BothShutOut meaning was
+both meaning was x accepted changed = (
+  one-outcome meaning,
+  (
+    (λ number refuses result. not-refusing meaning was x accepted changed (λ y. record { number = number y; result = result y }) (refuses x)),
+    (λ number. not-idle meaning was x accepted changed (λ y. record { number = number y; result = was y }) refl),
+  ),
+)
+
+-- ---- any other call: one outcome, no program that always gives the same, and no `Other` wrong one
+
+abbrev pub Strong : {Input Given : Type 0} → (Input → Given) → Type 0 → Type 0
+Strong {Input} {Given} meaning Other = OneOutcome meaning × (((always : Given) → ShutsOut meaning (λ _. always)) × Other)
+
+-- two inputs with different outcomes
+pub strong : {Input Given Other : Type 0} (meaning : Input → Given) (x y : Input) → (meaning x ≡ meaning y → ⊥) → Other → Strong meaning Other
+strong meaning x y differ other = (one-outcome meaning, (not-constant meaning x y differ, other))
+
+abbrev pub TwoShutOut : {Input Given : Type 0} → (Input → Given) → (Input → Given) → Type 0
+TwoShutOut meaning wrong = Strong meaning (ShutsOut meaning wrong)
+
+-- wrong at x, and two inputs with different outcomes
+pub two : {Input Given : Type 0} (meaning wrong : Input → Given) (x y z : Input) → (meaning x ≡ wrong x → ⊥) → (meaning y ≡ meaning z → ⊥) → TwoShutOut meaning wrong
+two meaning wrong x y z wrong-there differ = strong meaning y z differ (shut-out meaning wrong x wrong-there)

@@ -1,0 +1,219 @@
+-- Two wrong programs for each call of `blas`, `store` and `refusals`, as in `WrongAnswers`: all that always give the same, and one named at each call. Assumes
+-- nothing.
+use mathlib.Core.Path.{_≡_, refl, sym, ap, _∙_}
+use mathlib.Core.Bool.{Bool, true, false, not, cond}
+use mathlib.Core.List.{List, [], _∷_, _++_}
+use Prim.Native.Nat.{ℕ, _+_, min}
+use native.Mathlib.Omega.{arith}
+use lib.Dec.{ltb}
+use lib.ListN.{length}
+use lib.IntN.{pos}
+use lib.Ieee.{Float, nan, inf, fin, binary64, add, sub, mul, div, neg, eq, lt, ofBits}
+use lib.Ieee.Scale.{finite}
+use Rattle.blas.specs.Each.{eachFrom, turnsFrom}
+use Rattle.blas.specs.Numbers.{isZero, magnitude}
+use Rattle.blas.specs.Column.{Column, entry, searchFrom, pivotRow, exchanged, swapRows, scaleFrom, axpyFrom, allFinite, zeros, copied}
+use Rattle.blas.specs.Dot.{addProduct, addBlock, eightSums, pairSums, dotOf}
+use Rattle.store.specs.Columns.{columns, flat, isMatrix, onColumns}
+use Rattle.store.specs.Steps.{swapInAll, rowsSwapped, columnsSwapped, stepColumn, stepColumns, eliminated}
+use Rattle.refusals.specs.declared.Answer.{Answer}
+use Rattle.refusals.specs.declared.Answer.the-variants.{Done, Refused}
+use Rattle.refusals.specs.Refusals.{firstOf, outside, answerOf, Outcome, seventh}
+use Rattle.lu.proofs.Figures.{n0, n1, n2, n4, n8}
+use Rattle.figures.proofs.Outcomes.{TwoShutOut, two}
+
+-- a name for all that has to unfold for these calls to compute
+runs : Type 0
+unfolding add sub mul div neg eq lt ofBits eachFrom turnsFrom isZero magnitude searchFrom pivotRow exchanged scaleFrom axpyFrom allFinite copied addProduct addBlock eightSums pairSums dotOf columns flat isMatrix onColumns swapInAll rowsSwapped stepColumn stepColumns eliminated firstOf outside answerOf seventh
+runs = Unit {0}
+
+abbrev -n1 : Float
+-n1 = fin true 1 (pos 0)
+
+-- ---- what differs
+
+false-true : false ≡ true → ⊥
+false-true d = let z : _≡_ {A = ℕ} 0 1 = cc in omega arith
+
+true-false : true ≡ false → ⊥
+true-false d = false-true (sym d)
+
+one-minus : n1 ≡ -n1 → ⊥
+one-minus d = let z : _≡_ {A = ℕ} 0 1 = cc in omega arith
+
+one-zero : n1 ≡ n0 → ⊥
+one-zero d = let z : _≡_ {A = ℕ} 0 1 = cc in omega arith
+
+two-one : n2 ∷ n1 ∷ [] ≡ n1 ∷ n2 ∷ [] → ⊥
+two-one d = let z : _≡_ {A = ℕ} 0 1 = cc in omega arith
+
+some-none : (x : Float) (c : Column) → x ∷ c ≡ [] → ⊥
+some-none x c d = let z : _≡_ {A = ℕ} 0 1 = cc in omega arith
+
+first-differs : n0 ∷ [] ≡ n1 ∷ [] → ⊥
+first-differs d = let z : _≡_ {A = ℕ} 0 1 = cc in omega arith
+
+second-differs : n1 ∷ -n1 ∷ [] ≡ n1 ∷ n0 ∷ [] → ⊥
+second-differs d = let z : _≡_ {A = ℕ} 0 1 = cc in omega arith
+
+-- ---- blas
+
+-- every number not above zero
+pub is-zero : TwoShutOut isZero (λ x. not (lt n0 x))
+unfolding runs
+is-zero = two isZero (λ x. not (lt n0 x)) -n1 n0 n1 false-true true-false
+
+-- the number itself
+pub magnitude-call : TwoShutOut magnitude (λ x. x)
+unfolding runs
+magnitude-call = two magnitude (λ x. x) -n1 n0 n1 one-minus (λ d. one-zero (sym d))
+
+-- the row to start from
+abbrev pivots : ℕ × Column → ℕ
+pivots x = pivotRow (x .0) (x .1)
+
+pub icamax : TwoShutOut pivots (λ x. x .0)
+unfolding runs
+icamax = two pivots (λ x. x .0) (0, n1 ∷ n2 ∷ []) (0, n1 ∷ n2 ∷ []) (0, n2 ∷ n1 ∷ []) (λ d. omega (arith, d)) (λ d. omega (arith, d))
+
+-- the slice as it was
+abbrev swaps : ℕ × (ℕ × Column) → Column
+swaps x = swapRows (x .0) (x .1 .0) (x .1 .1)
+
+pub swap : TwoShutOut swaps (λ x. x .1 .1)
+unfolding runs
+swap = two swaps (λ x. x .1 .1) (0, (1, n1 ∷ n2 ∷ [])) (0, (1, n1 ∷ n2 ∷ [])) (0, (1, [])) two-one (some-none n2 (n1 ∷ []))
+
+abbrev scales : ℕ × (Float × Column) → Column
+scales x = scaleFrom (x .0) (x .1 .0) (x .1 .1)
+
+pub scale : TwoShutOut scales (λ x. x .1 .1)
+unfolding runs
+scale = two scales (λ x. x .1 .1) (0, (n0, n1 ∷ [])) (0, (n1, n1 ∷ [])) (0, (n1, [])) first-differs (some-none n1 [])
+
+abbrev adds : ℕ × (Float × (Column × Column)) → Column
+adds x = axpyFrom (x .0) (x .1 .0) (x .1 .1 .0) (x .1 .1 .1)
+
+pub axpy : TwoShutOut adds (λ x. x .1 .1 .1)
+unfolding runs
+axpy = two adds (λ x. x .1 .1 .1) (0, (n1, (n1 ∷ [], n0 ∷ []))) (0, (n1, (n1 ∷ [], n0 ∷ []))) (0, (n1, ([], []))) (λ d. first-differs (sym d)) (some-none n1 [])
+
+abbrev copies : Column × Column → Column
+copies x = copied (x .0) (x .1)
+
+pub copy : TwoShutOut copies (λ x. x .1)
+unfolding runs
+copy = two copies (λ x. x .1) (n0 ∷ [], n1 ∷ []) (n1 ∷ [], n0 ∷ []) ([], []) first-differs (some-none n1 [])
+
+abbrev fills : Column → Column
+fills c = zeros (length c)
+
+pub fill-zero : TwoShutOut fills (λ c. c)
+unfolding runs
+fill-zero = two fills (λ c. c) (n1 ∷ []) (n1 ∷ []) [] first-differs (some-none n0 [])
+
+-- the first number alone tested
+pub all-finite : TwoShutOut allFinite (λ c. finite (entry c 0))
+unfolding runs
+all-finite = two allFinite (λ c. finite (entry c 0)) (n1 ∷ nan ∷ []) (n1 ∷ []) (nan ∷ []) false-true true-false
+
+-- every number taken for finite that equals itself, as infinities do
+pub is-finite : TwoShutOut finite (λ x. eq x x)
+unfolding runs
+is-finite = two finite (λ x. eq x x) (inf false) n1 nan false-true true-false
+
+-- the first product alone
+abbrev dots : Column × Column → Float
+dots x = dotOf (x .0) (x .1)
+
+pub dot : TwoShutOut dots (λ x. mul binary64 (entry (x .0) 0) (entry (x .1) 0))
+unfolding runs
+dot = two dots (λ x. mul binary64 (entry (x .0) 0) (entry (x .1) 0)) (n0 ∷ n1 ∷ [], n0 ∷ n1 ∷ []) (n1 ∷ [], n1 ∷ []) (n0 ∷ [], n0 ∷ []) one-zero one-zero
+
+-- ---- store
+
+-- the first of the two
+abbrev least : ℕ × ℕ → ℕ
+least x = min (x .0) (x .1)
+
+pub min-call : TwoShutOut least (λ x. x .0)
+min-call = two least (λ x. x .0) (1, 0) (0, 0) (1, 1) (λ d. omega (arith, d)) (λ d. omega (arith, d))
+
+-- any slice that is not empty
+abbrev fits : ℕ × (ℕ × Column) → Bool
+fits x = isMatrix (x .0) (x .1 .0) (x .1 .1)
+
+pub is-matrix : TwoShutOut fits (λ x. ltb 0 (length (x .1 .1)))
+unfolding runs
+is-matrix = two fits (λ x. ltb 0 (length (x .1 .1))) (2, (1, n1 ∷ [])) (1, (1, n1 ∷ [])) (1, (1, [])) false-true true-false
+
+-- the slice as it was
+abbrev Sized : Type 0
+Sized = ℕ × (ℕ × Column)
+
+abbrev rows : (ℕ × (ℕ × (ℕ × ℕ))) × Sized → Column
+rows x = onColumns (x .1 .0) (x .1 .1 .0) (rowsSwapped (x .0 .0) (x .0 .1 .0) (x .0 .1 .1 .0) (x .0 .1 .1 .1)) (x .1 .1 .1)
+
+pub swap-rows : TwoShutOut rows (λ x. x .1 .1 .1)
+unfolding runs
+swap-rows = two rows (λ x. x .1 .1 .1) ((0, (1, (0, 1))), (2, (1, n1 ∷ n2 ∷ []))) ((0, (1, (0, 1))), (2, (1, n1 ∷ n2 ∷ []))) ((0, (0, (0, 0))), (0, (0, []))) two-one (some-none n2 (n1 ∷ []))
+
+abbrev exchanges : (ℕ × ℕ) × Sized → Column
+exchanges x = onColumns (x .1 .0) (x .1 .1 .0) (columnsSwapped (x .0 .0) (x .0 .1)) (x .1 .1 .1)
+
+pub swap-columns : TwoShutOut exchanges (λ x. x .1 .1 .1)
+unfolding runs
+swap-columns = two exchanges (λ x. x .1 .1 .1) ((0, 1), (1, (2, n1 ∷ n2 ∷ []))) ((0, 1), (1, (2, n1 ∷ n2 ∷ []))) ((0, 0), (0, (0, []))) two-one (some-none n2 (n1 ∷ []))
+
+-- column (1, 0) and multipliers (0, 1): row 1 becomes -1
+abbrev steps : ℕ × (Column × Column) → Column
+steps x = stepColumn (x .0) (x .1 .0) (x .1 .1)
+
+pub step-column : TwoShutOut steps (λ x. x .1 .1)
+unfolding runs
+step-column = two steps (λ x. x .1 .1) (0, (n0 ∷ n1 ∷ [], n1 ∷ n0 ∷ [])) (0, (n0 ∷ n1 ∷ [], n1 ∷ n0 ∷ [])) (0, ([], [])) second-differs (some-none n1 (-n1 ∷ []))
+
+abbrev stepsAll : (ℕ × (Column × ℕ)) × Sized → Column
+stepsAll x = onColumns (x .1 .0) (x .1 .1 .0) (stepColumns (x .0 .0) (x .0 .1 .0) (x .0 .1 .1)) (x .1 .1 .1)
+
+pub step-columns : TwoShutOut stepsAll (λ x. x .1 .1 .1)
+unfolding runs
+step-columns =
+    two stepsAll (λ x. x .1 .1 .1) ((0, (n0 ∷ n1 ∷ [], 0)), (2, (1, n1 ∷ n0 ∷ []))) ((0, (n0 ∷ n1 ∷ [], 0)), (2, (1, n1 ∷ n0 ∷ []))) ((0, ([], 0)), (0, (0, []))) second-differs
+    (some-none n1 (-n1 ∷ []))
+
+-- column (2, 1): the multiplier is one half of it
+abbrev eliminates : ℕ × Sized → Column
+eliminates x = onColumns (x .1 .0) (x .1 .1 .0) (eliminated (x .0)) (x .1 .1 .1)
+
+pub eliminate : TwoShutOut eliminates (λ x. x .1 .1 .1)
+unfolding runs
+eliminate =
+    two eliminates (λ x. x .1 .1 .1) (0, (2, (2, n1 ∷ n1 ∷ n1 ∷ n0 ∷ []))) (0, (1, (1, n1 ∷ []))) (0, (0, (0, []))) (λ d. let e : n1 ∷ n1 ∷ n1 ∷ -n1 ∷ [] ≡ n1 ∷ n1 ∷ n1 ∷ n0 ∷ [] = d in let z : _≡_ {A = ℕ} 0 1 = cc in omega arith) (some-none n1 [])
+
+-- ---- refusals
+
+-- the upper limit alone
+abbrev isOutside : ℕ × ℕ → Bool
+isOutside x = outside (x .0) (x .1)
+
+pub outside-call : TwoShutOut isOutside (λ x. ltb 64 (x .1))
+unfolding runs
+outside-call = two isOutside (λ x. ltb 64 (x .1)) (1, 0) (1, 0) (1, 1) true-false true-false
+
+-- the later number always
+abbrev firsts : ℕ × (Bool × ℕ) → ℕ
+firsts x = cond (x .1 .0) (x .0) (x .1 .1)
+
+pub first-call : TwoShutOut firsts (λ x. x .1 .1)
+first-call = two firsts (λ x. x .1 .1) (1, (true, 0)) (1, (true, 0)) (1, (false, 0)) (λ d. omega (arith, d)) (λ d. omega (arith, d))
+
+-- always refused
+pub answer-for : TwoShutOut answerOf Refused
+unfolding runs
+answer-for = two answerOf Refused 0 0 1 (λ d. let z : _≡_ {A = ℕ} 0 1 = cc in omega arith) (λ d. let z : _≡_ {A = ℕ} 0 1 = cc in omega arith)
+
+-- 0 always, the slice as it was
+pub settle : TwoShutOut seventh (λ c. record { number = 0; result = c })
+unfolding runs
+settle = two seventh (λ c. record { number = 0; result = c }) (nan ∷ []) (nan ∷ []) (n1 ∷ []) (λ d. omega (arith, ap (λ (o : Outcome). o .number) d)) (λ d. omega (arith, ap (λ (o : Outcome). o .number) d))

@@ -1,0 +1,122 @@
+-- Two wrong programs for each call of `permutation_sequence`, as in `WrongAnswers`. Assumes nothing.
+use mathlib.Core.Path.{_≡_, refl, sym, ap, _∙_}
+use mathlib.Core.Bool.{Bool, true, false}
+use mathlib.Core.List.{List, [], _∷_, _++_, reverse}
+use Prim.Native.Nat.{ℕ, _+_}
+use native.Mathlib.Omega.{arith}
+use lib.ListN.{replicate}
+use lib.Ieee.{Float, fin, neg, ofBits}
+use Rattle.blas.specs.Each.{eachFrom}
+use Rattle.blas.specs.Column.{Column, allFinite, exchanged}
+use Rattle.store.specs.Columns.{columns, flat, isMatrix, onColumns}
+use Rattle.store.specs.Steps.{swapInAll, columnsSwapped}
+use Rattle.refusals.specs.Refusals.{firstOf, outside, Outcome, tested}
+use Rattle.permutation_sequence.specs.SwapList.{pairsOf, holds, held, withPair, goodPair, goodPairs, goodList}
+use Rattle.permutation_sequence.specs.Permute.{permutedBy, rowsPermuted, inOrder, signOf}
+use Rattle.permutation_sequence.specs.Calls.{permutingRefusal, permuting, permutingRows, permutingColumns, appendingRefusal, Appending, appending}
+use Rattle.lu.proofs.Figures.{n0, n1, n2}
+use Rattle.figures.proofs.Outcomes.{ShutsOut, shut-out, BothShutOut, both, Strong, strong}
+
+-- a name for all that has to unfold for a list to be tested and applied
+applies : Type 0
+unfolding neg ofBits eachFrom allFinite exchanged columns flat isMatrix onColumns swapInAll firstOf outside tested pairsOf holds held withPair goodPair goodPairs goodList permutedBy inOrder signOf permutingRefusal permuting appendingRefusal appending
+applies = Unit {0}
+
+-- a store of 128 numbers with the pair (0, 1) in front
+abbrev swap : List ℕ
+swap = 0 ∷ 1 ∷ replicate 126 0
+
+-- ---- permuting: sizes, count, store and what the slice held
+
+abbrev Permuted : Type 0
+Permuted = ℕ × (ℕ × (ℕ × (List ℕ × Column)))
+
+abbrev permutes : (ℕ → ℕ → ℕ → List ℕ → Column → Outcome) → Permuted → Outcome
+permutes call x = call (x .0) (x .1 .0) (x .1 .1 .0) (x .1 .1 .1 .0) (x .1 .1 .1 .1)
+
+abbrev slice : Permuted → Column
+slice x = x .1 .1 .1 .1
+
+-- two rows, or two columns, exchanged
+abbrev twoRows : Permuted
+twoRows = (2, (1, (1, (swap, n1 ∷ n2 ∷ []))))
+
+abbrev twoColumns : Permuted
+twoColumns = (1, (2, (1, (swap, n1 ∷ n2 ∷ []))))
+
+exchanged-differs : n2 ∷ n1 ∷ [] ≡ n1 ∷ n2 ∷ [] → ⊥
+exchanged-differs d = let z : _≡_ {A = ℕ} 0 1 = cc in omega arith
+
+none-differs : n2 ∷ n1 ∷ [] ≡ [] → ⊥
+none-differs d = let z : _≡_ {A = ℕ} 0 1 = cc in omega arith
+
+pub permute-rows : BothShutOut (permutes (permutingRows false)) slice
+unfolding applies
+permute-rows = both (permutes (permutingRows false)) slice twoRows refl exchanged-differs
+
+pub inv-permute-rows : BothShutOut (permutes (permutingRows true)) slice
+unfolding applies
+inv-permute-rows = both (permutes (permutingRows true)) slice twoRows refl exchanged-differs
+
+pub permute-columns : BothShutOut (permutes (permutingColumns false)) slice
+unfolding applies
+permute-columns = both (permutes (permutingColumns false)) slice twoColumns refl exchanged-differs
+
+pub inv-permute-columns : BothShutOut (permutes (permutingColumns true)) slice
+unfolding applies
+inv-permute-columns = both (permutes (permutingColumns true)) slice twoColumns refl exchanged-differs
+
+-- without the tests: idle; and the same always
+abbrev applied : Bool × Permuted → Column
+applied x = onColumns (x .1 .0) (x .1 .1 .0) (rowsPermuted (inOrder (x .0) (held (x .1 .1 .1 .0) (x .1 .1 .1 .1 .0)))) (slice (x .1))
+
+pub apply-to-rows : Strong applied (ShutsOut applied (λ x. slice (x .1)))
+unfolding applies
+apply-to-rows =
+    strong applied (false, twoRows) (false, (0, (0, (0, ([], []))))) none-differs (shut-out applied (λ x. slice (x .1)) (false, twoRows) exchanged-differs)
+
+-- ---- the tests: the same always; and the list untested
+
+abbrev refusal : ℕ × Permuted → ℕ
+refusal x = permutingRefusal (x .0) (x .1 .0) (x .1 .1 .0) (x .1 .1 .1 .0) (x .1 .1 .1 .1 .0) (slice (x .1))
+
+pub permuting-refusal : Strong refusal (ShutsOut refusal (λ x. permutingRefusal (x .0) (x .1 .0) (x .1 .1 .0) 0 (x .1 .1 .1 .1 .0) (slice (x .1))))
+unfolding applies
+permuting-refusal =
+    strong refusal (2, twoRows) (1, twoRows) (λ d. omega (arith, d))
+    (shut-out refusal (λ x. permutingRefusal (x .0) (x .1 .0) (x .1 .1 .0) 0 (x .1 .1 .1 .1 .0) (slice (x .1))) (1, twoRows) (λ d. omega (arith, d)))
+
+-- bound, most, count, store: the same always; and the pairs unread
+abbrev isGood : ℕ × (ℕ × (ℕ × List ℕ)) → Bool
+isGood x = goodList (x .0) (x .1 .0) (x .1 .1 .0) (x .1 .1 .1)
+
+pub is-good-list : Strong isGood (ShutsOut isGood (λ x. holds (x .1 .1 .0) (x .1 .1 .1)))
+unfolding applies
+is-good-list =
+    strong isGood (2, (2, (1, swap))) (1, (2, (1, swap))) (λ d. let z : _≡_ {A = ℕ} 0 1 = cc in omega arith)
+    (shut-out isGood (λ x. holds (x .1 .1 .0) (x .1 .1 .1)) (1, (2, (1, swap))) (λ d. let z : _≡_ {A = ℕ} 0 1 = cc in omega arith))
+
+-- ---- the sign: the same always; and one pair too many
+
+pub determinant : Strong signOf (ShutsOut signOf (λ pairs. signOf (pairs + 1)))
+unfolding applies
+determinant =
+    strong signOf 0 1 (λ d. let z : _≡_ {A = ℕ} 0 1 = cc in omega arith) (shut-out signOf (λ pairs. signOf (pairs + 1)) 0 (λ d. let z : _≡_ {A = ℕ} 0 1 = cc in omega arith))
+
+-- ---- appending: the same always; and nothing written
+
+abbrev Append : Type 0
+Append = ℕ × (ℕ × (ℕ × (ℕ × List ℕ)))
+
+abbrev appends : Append → Appending
+appends x = appending (x .0) (x .1 .0) (x .1 .1 .0) (x .1 .1 .1 .0) (x .1 .1 .1 .1)
+
+-- the pair (0, 1) for two rows
+abbrev fresh : Append
+fresh = (2, (0, (1, (0, replicate 128 0))))
+
+pub append-permutation : Strong appends ((number : Append → ℕ) → ShutsOut appends (λ x. record { number = number x; pairs = x .1 .1 .1 .0; store = x .1 .1 .1 .1 }))
+unfolding applies
+append-permutation =
+    strong appends fresh (0, (0, (1, (0, [])))) (λ d. omega (arith, ap (λ (o : Appending). o .number) d))
+    (λ number. shut-out appends (λ x. record { number = number x; pairs = x .1 .1 .1 .0; store = x .1 .1 .1 .1 }) fresh (λ d. omega (arith, ap (λ (o : Appending). o .pairs) d)))
