@@ -1,1 +1,1 @@
-// Document 01's table, "Figures to meet", over the public calls' own outcomes: it has no code, only proofs.
+// Document 01's table, "Figures to meet", and the strength of the contracts, over the public calls: no code, only meanings and proofs.
