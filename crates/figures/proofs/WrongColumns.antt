@@ -182,7 +182,7 @@ step-columns =
     two stepsAll (λ x. x .1 .1 .1) ((0, (n0 ∷ n1 ∷ [], 0)), (2, (1, n1 ∷ n0 ∷ []))) ((0, (n0 ∷ n1 ∷ [], 0)), (2, (1, n1 ∷ n0 ∷ []))) ((0, ([], 0)), (0, (0, []))) second-differs
     (some-none n1 (-n1 ∷ []))
 
--- column (2, 1): the multiplier is one half of it
+-- columns (1, 1) and (1, 0): the multiplier is 1, and the last entry becomes -1
 abbrev eliminates : ℕ × Sized → Column
 eliminates x = onColumns (x .1 .0) (x .1 .1 .0) (eliminated (x .0)) (x .1 .1 .1)
 
