@@ -15,12 +15,12 @@ use Rattle.blas.proofs.Walk.{drop-next}
 use Rattle.panel_file.specs.File.{littleEndian, fieldAt, headed}
 
 -- ---- a field by its first byte and the rest
-field-next : (width : ℕ) (s : List ℕ) (at next : ℕ) → at < length s → next ≡ at + 1 → fieldAt (suc width) s at ≡ getD s at 0 + 256 * fieldAt width s next
+pub field-next : (width : ℕ) (s : List ℕ) (at next : ℕ) → at < length s → next ≡ at + 1 → fieldAt (suc width) s at ≡ getD s at 0 + 256 * fieldAt width s next
 unfolding fieldAt littleEndian
 field-next width s at next h e =
     ap (λ (l : List ℕ). littleEndian (take (suc width) l)) (drop-next s at 0 h) ∙ ap (λ (k : ℕ). getD s at 0 + 256 * littleEndian (take width (drop k s))) (sym e)
 
-field-none : (s : List ℕ) (at : ℕ) → fieldAt 0 s at ≡ 0
+pub field-none : (s : List ℕ) (at : ℕ) → fieldAt 0 s at ≡ 0
 unfolding fieldAt littleEndian
 field-none s at = refl
 
@@ -74,12 +74,12 @@ pub bits-finite : (b : ℕ) → not (eqb (b % 0x8000_0000_0000_0000 / 0x10_0000_
 unfolding ofBits
 bits-finite b = sym (fields-finite (leb (2 ^ 63) b) (b % 0x8000_0000_0000_0000 / 0x10_0000_0000_0000) (b % 2 ^ 52))
 
--- a finite number's bits are no NaN's, which `from_bits` asks
-pub finite-number : (b : ℕ) → finite (ofBits binary64 b) ≡ true → T (not (nanBits binary64 b))
+-- a finite number is no NaN, and its bits are no NaN's: what `to_bits` and `from_bits` ask
+pub no-nan : (x : Float) → finite x ≡ true → T (not (isNan x))
 unfolding isNan
-finite-number b e = subst (λ (t : Bool). T (not t)) (sym (nanBits-is binary64 b)) (go (ofBits binary64 b) e)
-  where
-    go : (x : Float) → finite x ≡ true → T (not (isNan x))
-    go nan e = absurd (false≢true e)
-    go (inf s) e = tt
-    go (fin s m e) d = tt
+no-nan nan e = absurd (false≢true e)
+no-nan (inf s) e = tt
+no-nan (fin s m e) d = tt
+
+pub finite-number : (b : ℕ) → finite (ofBits binary64 b) ≡ true → T (not (nanBits binary64 b))
+finite-number b e = subst (λ (t : Bool). T (not t)) (sym (nanBits-is binary64 b)) (no-nan (ofBits binary64 b) e)

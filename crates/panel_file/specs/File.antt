@@ -1,8 +1,9 @@
 -- Document 01, "Ranking and program": the panel file as a list of bytes. "Bytes `LXP`, 16-bit version 1, one byte n; then n·n matrix numbers by column
 -- and n readings, all little-endian, floats by their bits."
-use mathlib.Core.Bool.{Bool, _&&_}
+use mathlib.Core.Path.{_≡_}
+use mathlib.Core.Bool.{Bool, true, _&&_}
 use mathlib.Core.List.{List, [], _∷_}
-use Prim.Native.Nat.{ℕ, _+_, _*_, _/_, _%_}
+use Prim.Native.Nat.{ℕ, _+_, _*_, _/_, _%_, _<_}
 use lib.Dec.{leb, eqb}
 use lib.ListN.{length, getD, take, drop}
 use lib.Ieee.{Float, binary64, ofBits}
@@ -51,3 +52,19 @@ matrixOf n bytes = listOf (n * n) (λ k. numberAt bytes (0 + k))
 
 abbrev pub readingsOf : ℕ → List ℕ → Column
 readingsOf n bytes = listOf n (λ k. numberAt bytes (n * n + k))
+
+-- ---- the file of a crossing
+
+-- each number of a list is a byte, as those of every slice of bytes are
+abbrev pub AllBytes : List ℕ → Type 0
+AllBytes bytes = (k : ℕ) → getD bytes k 0 < 256
+
+-- The bytes are the file of a crossing of n pads: each is a byte, they are as many as the size asks for, and what is said above reads them as this size, this
+-- matrix and these readings. The reader goes from the bytes to the crossing, the writer from the crossing to the bytes.
+pub record IsFile (bytes : List ℕ) (n : ℕ) (matrix readings : Column) : Type 0 where
+  pub each-byte : AllBytes bytes
+  pub head : headed bytes ≡ true
+  pub pads : padsOf bytes ≡ n
+  pub whole : length bytes ≡ fileLength n
+  pub matrix-read : matrixOf n bytes ≡ matrix
+  pub readings-read : readingsOf n bytes ≡ readings
