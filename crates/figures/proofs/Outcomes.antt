@@ -70,3 +70,19 @@ TwoShutOut meaning wrong = Strong meaning (ShutsOut meaning wrong)
 -- wrong at x, and two inputs with different outcomes
 pub two : {Input Given : Type 0} (meaning wrong : Input → Given) (x y z : Input) → (meaning x ≡ wrong x → ⊥) → (meaning y ≡ meaning z → ⊥) → TwoShutOut meaning wrong
 two meaning wrong x y z wrong-there differ = strong meaning y z differ (shut-out meaning wrong x wrong-there)
+
+-- ---- a call whose contract is a relation between its input and its outcome
+
+module _ {Input Given : Type 0} (allows : Input → Given → Type 0) where
+  -- a program that meets the contract on every input
+  abbrev pub Keeps : (Input → Given) → Type 0
+  Keeps program = (x : Input) → allows x (program x)
+
+  -- one outcome; no program that always gives the same; and no `wrong` one
+  abbrev pub StrongBy : Type 0 → Type 0
+  StrongBy Other = ((p q : Input → Given) → Keeps p → Keeps q → (x : Input) → p x ≡ q x) × (((always : Given) → Keeps (λ _. always) → ⊥) × Other)
+
+  -- at two inputs it allows different outcomes
+  pub strong-by : {Other : Type 0} → ((x : Input) (o q : Given) → allows x o → allows x q → o ≡ q) → (x y : Input) (o q : Given) → allows x o → allows y q → (o ≡ q → ⊥) → Other → StrongBy Other
+  strong-by one x y o q first second differ other =
+      ((λ p r keeps holds z. one z (p z) (r z) (keeps z) (holds z)), ((λ always keeps. differ (one x o always first (keeps x) ∙ one y always q (keeps y) second)), other))
