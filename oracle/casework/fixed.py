@@ -109,6 +109,14 @@ def added():
     yield adding(64, doubles(*[0.0] * 4096), doubles(*[1.0] * 64))              # the longest slice of all
 
 
+# ---- a given diagonal whose last quotient overflows: it is not formed
+
+def given():
+    small, large = doubles(2.0 ** -1000), 2.0 ** 100
+    yield Case(11, 0, 1, 1, [doubles(1.0), small, doubles(large), spare(1)])
+    yield Case(11, 0, 2, 1, [doubles(1.0, 0.0, 0.0, 1.0), small, doubles(1.0, large), spare(2)])
+
+
 # ---- one fault at a time
 
 SIZES = (0, 65, 2 ** 63, 2 ** 64 - 1)
@@ -118,7 +126,8 @@ TWOS = ((3, 3), (63, 0), (0, 64), (64, 0), (100, 100), (2 ** 63, 1), (1, 2 ** 64
 
 
 def changed(case, at, items):
-    return Case(case.op, case.m, case.n, case.k, case.slices[:at] + [items] + case.slices[at + 1:])
+    k = len(items) if isinstance(items, bytes) else case.k
+    return Case(case.op, case.m, case.n, k, case.slices[:at] + [items] + case.slices[at + 1:])
 
 
 def with_item(items, at, value):
@@ -130,7 +139,7 @@ def with_item(items, at, value):
 def faults_of(case):
     """The case with each size, each length, each number and each part of the swap list wrong, one at a time."""
     op = OPS[case.op]
-    for name in op.sizes:
+    for name in op.free:
         for size in SIZES:
             bad = changed(case, 0, case.slices[0])
             setattr(bad, name, size)
@@ -177,7 +186,41 @@ def good(op):
         11: lambda: Case(11, 0, 3, 2, [matrix, doubles(2.0), b, x]),
         18: lambda: Case(18, 3, 0, 0, [*list_, array('Q', [5, 2])]),
         19: lambda: Case(19, 0, 3, 0, [doubles(2.0, -2.0, 5.0), array('Q', [7, 8, 9])]),
+        21: lambda: writing(2, doubles(4.0, -0.0, 2.0 ** -1074, -8.0), doubles(5.0, 0.1), 57),
     }.get(op, lambda: Case(op, 0, 3, 2, [matrix, b, x]) if op < 14 else Case(op, 4, 3, 0, [*list_, tall]))()
+
+
+def crowded():
+    """One good pair more than min(m, n), in each call on factors."""
+    for op in range(3, 9):
+        yield changed(changed(good(op), 1, swap_store(0, 1, 1, 2, 0, 2, 0, 1)), 2, pairs(4))
+
+
+def writing(n, matrix, readings, room):
+    """A crossing to write into so many bytes."""
+    return Case(21, 0, n, room, [matrix, readings, bytes(range(200, 256)) * (room // 56) + bytes(range(room % 56))])
+
+
+def written():
+    """Slices that are too short, fit and are longer; signed zeros, the ends of the format; faults behind each other."""
+    matrix, readings = doubles(0.0, 1.0, -1.0, 0.5), doubles(5.0, 8.0)
+    for room in (0, 1, 5, 6, 7, 46, 53, 54, 55, 61, 62, 63, 64, 1000):
+        yield writing(2, matrix, readings, room)
+    for x in (0.0, -0.0, 2.0 ** -1074, -(2.0 ** -1074), 2.0 ** -1022, (2.0 - 2.0 ** -52) * 2.0 ** 1023, -(2.0 - 2.0 ** -52) * 2.0 ** 1023, 0.1):
+        yield writing(1, doubles(x), doubles(1.0), 22)
+        yield writing(1, doubles(1.0), doubles(x), 23)
+    for x in floats.NOT_FINITE[:3]:
+        yield writing(1, doubles(x), doubles(1.0), 22)
+        yield writing(1, doubles(1.0), doubles(x), 22)
+        yield writing(1, doubles(1.0), doubles(x), 21)                                # 3 before 5
+        yield writing(0, doubles(x), doubles(x), 22)                                  # 1 before both
+    yield writing(0, doubles(), doubles(), 6)
+    yield writing(3, matrix, readings, 200)
+    yield writing(2, readings, matrix, 200)
+    yield writing(2 ** 32, matrix, readings, 200)
+    r = random.Random('63 pads to write')
+    yield writing(63, floats.unit(r, 63 * 63), floats.unit(r, 63), 6 + 8 * 63 * 64)
+    yield writing(64, floats.unit(r, 64 * 64), floats.unit(r, 64), 8 * LONGEST)       # six bytes too short
 
 
 def files():
@@ -209,7 +252,7 @@ def largest():
     for op, make in MAKERS.items():
         r = random.Random(f'largest {op}')
         if op in SQUARE:
-            if op != 20:
+            if op not in (20, 21):
                 yield make(r, op, 64, 1)
             if op in (3, 12):
                 yield make(r, op, 63, 2)
@@ -234,7 +277,7 @@ def fixed():
     """All of them, as generators: makers ask the oracle."""
     for _, case, _ in table():
         yield done(case)
-    for case in added():
+    for case in (*added(), *given(), *crowded()):
         yield done(case)
     for op in OPS:
         if op == 20:
@@ -244,6 +287,8 @@ def fixed():
             yield done(good(op))
             for bad in faults_of(good(op)):
                 yield done(bad)
+    for case in written():
+        yield done(case)
     yield from largest()
 
 

@@ -10,7 +10,7 @@ from .wire import Case, FLOATS, LONGEST, OPS, unhex
 
 # how often each op comes in a round
 TURNS = {1: 3, 2: 3, 3: 3, 4: 2, 5: 1, 6: 1, 7: 3, 8: 3, 9: 2, 10: 2, 11: 2, 12: 3, 13: 3,
-         14: 3, 15: 3, 16: 3, 17: 3, 18: 2, 19: 1, 20: 2}
+         14: 3, 15: 3, 16: 3, 17: 3, 18: 2, 19: 1, 20: 2, 21: 2}
 ROUND = [(op, turn) for turn in range(max(TURNS.values())) for op in TURNS if turn < TURNS[op]]
 
 JUNK = [0, 1, 63, 64, 65, 255, 2 ** 32, 2 ** 63, 2 ** 64 - 1]
@@ -168,16 +168,24 @@ def file_case(file):
     return Case(20, 0, 0, len(file), [file])
 
 
+def make_write(r, op, n, k):
+    """A crossing of any finite numbers, and a slice that fits, is longer, or (64 pads) is as long as a case may have it."""
+    lent = r.randbytes(6 + 8 * (n * n + n) + r.choice((0, 0, 1, 2, 7, 8, 9, 40)))[:8 * LONGEST]
+    return Case(op, 0, n, len(lent), [floats.numbers(r, n * n), floats.numbers(r, n), lent])
+    yield
+
+
 MAKERS = {1: make_factor, 2: make_add, 3: make_solve, 4: make_square, 5: make_square, 6: make_square, 7: make_l_or_u, 8: make_l_or_u,
           9: make_triangular, 10: make_triangular, 11: make_triangular, 12: make_triangular, 13: make_triangular,
-          14: make_permute, 15: make_permute, 16: make_permute, 17: make_permute, 18: make_append, 19: make_rank, 20: make_file}
-SQUARE = (3, 4, 5, 6, 9, 10, 11, 12, 13, 19, 20)      # ops whose two sizes are the matrix's and the right-hand columns'
+          14: make_permute, 15: make_permute, 16: make_permute, 17: make_permute, 18: make_append, 19: make_rank, 20: make_file,
+          21: make_write}
+SQUARE = (3, 4, 5, 6, 9, 10, 11, 12, 13, 19, 20, 21)      # ops whose two sizes are the matrix's and the right-hand columns'
 
 
 # ---- faults: each changes a good case in place; the rules say what the changed case gives
 
 def size_fault(r, c):
-    name = r.choice(OPS[c.op].sizes)
+    name = r.choice(OPS[c.op].free)
     v = getattr(c, name)
     setattr(c, name, r.choice([0, 65, 65, 66, 64, 128, 2 ** 16 + v, 2 ** 32, 2 ** 32 + v, 2 ** 63, 2 ** 63 + v, 2 ** 64 - 1, 2 ** 64 - v,
                                v + 1, v + 1, v - 1]) % 2 ** 64)
@@ -187,6 +195,11 @@ def length_fault(r, c):
     at = r.choice([i for i, (name, _) in enumerate(OPS[c.op].slices) if name not in ('pairs', 'diagonal', 'two numbers')])
     items = c.slices[at]
     how = r.randrange(6)
+    if isinstance(items, bytes):
+        fit = 6 + 8 * (len(c.part('matrix')) + len(c.part('readings')))
+        c.slices[at] = (items + items)[:r.choice((0, 6, fit - 8, fit - 1, fit - 1, fit, fit + 1, len(items) - 1))][:8 * LONGEST]
+        c.k = len(c.slices[at])
+        return
     if how < 2:
         items = items[:-1]
     elif how < 4:

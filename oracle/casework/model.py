@@ -7,7 +7,7 @@ import struct
 import sys
 
 TAKES = {1: 'FFW', 2: 'FFWW', 3: 'FWWFF', 4: 'FWWF', 5: 'FWW', 6: 'FWW', 7: 'FWWF', 8: 'FWWF', 9: 'FFF', 10: 'FFF', 11: 'FFFF', 12: 'FFF',
-         13: 'FFF', 14: 'WWF', 15: 'WWF', 16: 'WWF', 17: 'WWF', 18: 'WWW', 19: 'FW', 20: 'W'}
+         13: 'FFF', 14: 'WWF', 15: 'WWF', 16: 'WWF', 17: 'WWF', 18: 'WWW', 19: 'FW', 20: 'W', 21: 'FFW'}
 
 
 class Refused(Exception):
@@ -421,6 +421,25 @@ def panel_file(m, n, k, items):
     return f'pads {pads}\n' + ''.join(f'{pad} {text([loads[pad - 1]])}\n' for pad in order(loads)),
 
 
+def write_file(m, n, k, matrix, readings, items):
+    size(n, 1)
+    length(matrix, n * n), length(readings, n)
+    data = bytearray(struct.pack(f'<{len(items)}Q', *items)[:k])
+    count = 6 + 8 * n * (n + 1)
+    refuse(3, k < count)
+    numbers(matrix), numbers(readings)
+    data[:6] = [76, 88, 80, 1, 0, n]
+    for i, x in enumerate(matrix + readings):
+        bits, = struct.unpack('<Q', struct.pack('<d', x))
+        for j in range(8):
+            data[6 + 8 * i + j] = bits >> 8 * j & 255
+    return [count], data.hex()
+
+
+def write_left(number, m, n, k, matrix, readings, items):
+    return '-', struct.pack(f'<{len(items)}Q', *items)[:k].hex()
+
+
 def last_left(number, *case):
     """The lent result is the last slice: +0.0 after an overflow, else as it was."""
     return [0.0] * len(case[-1]) if number == 7 else case[-1],
@@ -434,7 +453,7 @@ CALLS = {
     14: (permute(False, False), last_left), 15: (permute(False, True), last_left),
     16: (permute(True, False), last_left), 17: (permute(True, True), last_left),
     18: (append, lambda number, m, n, k, swaps, count, two: (count, swaps)), 19: (rank, last_left),
-    20: (panel_file, lambda number, *case: (f'refused {number}\n',)),
+    20: (panel_file, lambda number, *case: (f'refused {number}\n',)), 21: (write_file, write_left),
 }
 
 

@@ -304,6 +304,26 @@ def file_made(c):
     return 0, printed(f'pads {n}', *(f'{pad} {hexes(loads[pad - 1:pad])}' for pad in ranks(loads)))
 
 
+# ---- 21: writing a panel file (document 02, 1/13)
+
+def write_tests(c):
+    matrix, readings, lent = c.slices
+    yield 1, outside(1, c.n)
+    yield 3, len(matrix) != c.n ** 2 or len(readings) != c.n or len(lent) < 6 + 8 * (c.n ** 2 + c.n)
+    yield 5, not_finite(matrix, readings)
+
+
+def write_left(c):
+    return ['-', c.slices[2].hex()]
+
+
+def write_made(c):
+    matrix, readings, lent = c.slices
+    file = b'LXP' + struct.pack('<HB', 1, c.n) + struct.pack(f'<{len(matrix)}d', *matrix) + struct.pack(f'<{len(readings)}d', *readings)
+    return 0, [str(len(file)), (file + lent[len(file):]).hex()]
+    yield       # a generator that asks nothing
+
+
 # ---- all calls
 
 RULES = {
@@ -320,6 +340,7 @@ RULES = {
     18: (append_tests, append_left, append_made),
     19: (rank_tests, rank_left, rank_made),
     20: (file_tests, None, file_made),
+    21: (write_tests, write_left, write_made),
 }
 
 

@@ -17,8 +17,10 @@ class Op:
 
     def __init__(self, name, sizes, *slices):
         self.name, self.sizes = name, sizes
-        self.slices = [(s, WORDS if s in ('swaps', 'pairs', 'two numbers', 'ranks0') else BYTES if s == 'file' else FLOATS)
+        self.slices = [(s, WORDS if s in ('swaps', 'pairs', 'two numbers', 'ranks0') else BYTES if s in ('file', 'lent bytes') else FLOATS)
                        for s in slices]
+        # the sizes that may be anything: k is the number of bytes where a slice has bytes
+        self.free = sizes.replace('k', '') if BYTES in (kind for _, kind in self.slices) else sizes
 
 
 OPS = {
@@ -42,11 +44,12 @@ OPS = {
     18: Op('append to a swap list', 'm', 'swaps', 'pairs', 'two numbers'),
     19: Op('rank', 'n', 'loads', 'ranks0'),
     20: Op('panel file', 'k', 'file'),
+    21: Op('write a panel file', 'nk', 'matrix', 'readings', 'lent bytes'),
 }
 
 
 class Case:
-    """One case: slices are arrays of doubles or of 64-bit numbers, in a panel file's case the file's bytes.
+    """One case: slices are arrays of doubles or of 64-bit numbers, a panel file's or lent bytes as bytes.
     `fresh` (adding a column only) is the whole matrix that the factors and the column came from, where they did."""
     __slots__ = ('op', 'm', 'n', 'k', 'slices', 'fresh')
 

@@ -74,6 +74,16 @@ WRONG = [
     ("tests the diagonal before factoring's overflow", '    overflow(flat_of(pads, pads, t))\n    zero_diagonal(pads, t)\n',
      '    zero_diagonal(pads, t)\n    overflow(flat_of(pads, pads, t))\n'),
     ("forgets the solve's overflow", '    overflow(loads)\n', ''),
+    ('writes the greatest byte first', 'data[6 + 8 * i + j]', 'data[13 + 8 * i - j]'),
+    ('writes the version the other way round', '[76, 88, 80, 1, 0, n]', '[76, 88, 80, 0, 1, n]'),
+    ('writes the readings before the matrix', 'enumerate(matrix + readings)', 'enumerate(readings + matrix)'),
+    ('writes +0.0 for -0.0', "struct.pack('<d', x))\n        for j", "struct.pack('<d', x + 0.0))\n        for j"),
+    ('writes into a slice one byte too short', 'refuse(3, k < count)', 'refuse(3, k + 1 < count)\n    data += bytes(1)'),
+    ('refuses a slice that just fits', 'refuse(3, k < count)', 'refuse(3, k <= count)'),
+    ('writes readings that are not finite', "numbers(matrix), numbers(readings)\n    data", 'numbers(matrix)\n    data'),
+    ('tests the numbers to write before the slice', "    refuse(3, k < count)\n    numbers(matrix), numbers(readings)\n",
+     "    numbers(matrix), numbers(readings)\n    refuse(3, k < count)\n"),
+    ('clears what follows the written file', '    return [count], data.hex()', '    data[count:] = bytes(len(data) - count)\n    return [count], data.hex()'),
 ]
 
 # one rounding of the exact product and sum

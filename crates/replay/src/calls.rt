@@ -1,6 +1,7 @@
 // The public calls: each is run on exactly the slices of its case, and its line is put into the text.
 use crate::text::put;
 use crate::text::put_bar;
+use crate::text::put_bytes;
 use crate::text::put_float;
 use crate::text::put_floats;
 use crate::text::put_shown;
@@ -12,6 +13,7 @@ use lu::Det;
 use lu::Factored;
 use lu::Invertible;
 use lu::Record;
+use panel_file::Written;
 use permutation_sequence::Appended;
 use refusals::Answer;
 
@@ -282,4 +284,26 @@ pub fn panel_answer(text: &mut [u8], from: usize, file: &[u8]) -> usize {
     let at = put(text, from, digit_of(&answer[..n]));
     let bar = put_bar(text, at);
     put_shown(text, bar, &answer[..n])
+}
+
+// Op 21.
+pub fn write_file(
+    text: &mut [u8],
+    from: usize,
+    n: usize,
+    matrix: &[f64],
+    readings: &[f64],
+    out: &mut [u8],
+) -> usize {
+    match panel_file::write(n, matrix, readings, out) {
+        Written::Bytes(count) => {
+            let at = put_word(text, from, b"0 | ");
+            let end = put_whole(text, at, count);
+            put_bytes(text, end, out)
+        }
+        Written::Refused(number) => {
+            let end = put_none(text, from, number);
+            put_bytes(text, end, out)
+        }
+    }
 }

@@ -324,6 +324,14 @@ pub fn rank(
     from
 }
 
+// Reads a slice of k bytes, eight to an item. Where its items hold fewer, `going` becomes false.
+fn read_bytes(k: usize, bytes: &mut [u8], going: &mut bool) {
+    let count = read_items(bytes, going);
+    if (count < k / 8) | ((count == k / 8) & (k % 8 != 0)) {
+        *going = false;
+    }
+}
+
 // Op 20. The file has as many bytes as its case says, at most those of its items.
 pub fn panel_answer(
     text: &mut [u8],
@@ -332,10 +340,7 @@ pub fn panel_answer(
     bytes: &mut [u8],
     going: &mut bool,
 ) -> usize {
-    let count = read_items(bytes, going);
-    if (count < k / 8) | ((count == k / 8) & (k % 8 != 0)) {
-        *going = false;
-    }
+    read_bytes(k, bytes, going);
     if !*going {
         return from;
     }
@@ -343,4 +348,40 @@ pub fn panel_answer(
         return from;
     }
     calls::panel_answer(text, from, &bytes[..k])
+}
+
+// What op 21 takes behind the readings: the bytes that are lent, as many as its case says.
+fn behind_readings(
+    text: &mut [u8],
+    from: usize,
+    sizes: Sizes,
+    matrix: &[f64],
+    readings: &[f64],
+    bytes: &mut [u8],
+    going: &mut bool,
+) -> usize {
+    let k = sizes.k;
+    read_bytes(k, bytes, going);
+    if !*going {
+        return from;
+    }
+    if bytes.len() < k {
+        return from;
+    }
+    calls::write_file(text, from, sizes.n, matrix, readings, &mut bytes[..k])
+}
+
+// Op 21.
+pub fn write_file(
+    text: &mut [u8],
+    from: usize,
+    sizes: Sizes,
+    a: &mut [f64],
+    b: &mut [f64],
+    bytes: &mut [u8],
+    going: &mut bool,
+) -> usize {
+    let entries = read_floats(a, bytes, going);
+    let count = read_floats(b, bytes, going);
+    behind_readings(text, from, sizes, &a[..entries], &b[..count], bytes, going)
 }

@@ -65,6 +65,7 @@ fn one_case(
         18 => cases::append(text, at, sizes, swaps, bytes, going),
         19 => cases::rank(text, at, sizes, a, swaps, bytes, going),
         20 => cases::panel_answer(text, at, sizes.k, bytes, going),
+        21 => cases::write_file(text, at, sizes, a, b, bytes, going),
         _ => {
             *going = false;
             at

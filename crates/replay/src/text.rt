@@ -104,3 +104,26 @@ pub fn put_shown(text: &mut [u8], from: usize, word: &[u8]) -> usize {
     }
     at
 }
+
+// A byte as a number.
+fn wide(byte: u8) -> u64 {
+    byte as u64
+}
+
+// Puts the two small hex digits of a byte.
+fn put_byte(text: &mut [u8], at: usize, byte: u8) -> usize {
+    let mut digits = [0u8; 16];
+    let n = io::hex(wide(byte), 2, &mut digits);
+    put_word(text, at, &digits[..n])
+}
+
+// Puts a part of bytes, with its bar and nothing between.
+pub fn put_bytes(text: &mut [u8], from: usize, part: &[u8]) -> usize {
+    let mut at = put_bar(text, from);
+    let mut k = 0;
+    while k < part.len() {
+        at = put_byte(text, at, part[k]);
+        k += 1;
+    }
+    at
+}
