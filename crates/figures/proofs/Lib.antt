@@ -4,3 +4,4 @@ pub mod WrongAnswers
 pub mod WrongColumns
 pub mod WrongFiles
 pub mod WrongSwaps
+pub mod WrongPrograms

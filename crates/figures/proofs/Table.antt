@@ -3,7 +3,7 @@ use mathlib.Core.Path.{_≡_, ap, ap₂}
 use mathlib.Core.List.{List, [], _∷_, _++_, map}
 use Rattle.solve.proofs.Figures.{transposed-lower, given-diagonal}
 use Rattle.ranking.proofs.Figures.{one-three-three}
-use Rattle.lu.proofs.Figures.{figures}
+use Rattle.from_factors.proofs.Figures.{figures}
 use Rattle.figures.specs.Table.{Shown, by-lu, by-solve, by-ranking, marked}
 
 -- THEOREM. Every line holds.

@@ -21,20 +21,20 @@ use Rattle.solve.specs.Triangular.{lowerRow, upperRow, keptRow, transposedLower
 use Rattle.solve.specs.Calls.{sizesOutside, lengthsFit, numbersFinite, zeroFrom, zeroOnDiagonal, refusalOf, solving}
 use Rattle.ranking.specs.Ranking.{Ranking, ranking, rankingRefusal}
 use Rattle.ranking.proofs.Figures.{one-three-three}
-use Rattle.lu.specs.declared.Asks.{Asks}
+use Rattle.from_factors.specs.declared.Asks.{Asks}
 use Rattle.lu.specs.declared.Record.{Record}
-use Rattle.lu.specs.declared.Det.{Det}
-use Rattle.lu.specs.declared.Det.the-variants.{Number, Refused}
-use Rattle.lu.specs.declared.Invertible.{Invertible}
-use Rattle.lu.specs.declared.Invertible.the-variants.{Is}
+use Rattle.from_factors.specs.declared.Det.{Det}
+use Rattle.from_factors.specs.declared.Det.the-variants.{Number, Refused}
+use Rattle.from_factors.specs.declared.Invertible.{Invertible}
+use Rattle.from_factors.specs.declared.Invertible.the-variants.{Is}
 use Rattle.lu.specs.Factoring.{storeOf, recordOf, numbersOf, factoring}
 use Rattle.lu.specs.Adding.{adding}
-use Rattle.lu.specs.Taken.{takenRefusal}
-use Rattle.lu.specs.Triangles.{lowerOf, upperOf, lowerFactor, upperFactor, lowering, uppering}
-use Rattle.lu.specs.Solving.{solved, solvedAll, unitColumn, inverting}
-use Rattle.lu.specs.Solving.{solving as lu-solving}
-use Rattle.lu.specs.Determinant.{timesDiagonal, diagonalProduct, determinantOf, numberOr7, determining, inverseTest}
-use Rattle.lu.proofs.Figures.{computes, n0, n1, n2, n4, n8}
+use Rattle.from_factors.specs.Taken.{takenRefusal}
+use Rattle.from_factors.specs.Triangles.{lowerOf, upperOf, lowerFactor, upperFactor, lowering, uppering}
+use Rattle.from_factors.specs.Solving.{solved, solvedAll, unitColumn, inverting}
+use Rattle.from_factors.specs.Solving.{solving as lu-solving}
+use Rattle.from_factors.specs.Determinant.{timesDiagonal, diagonalProduct, determinantOf, numberOr7, determining, inverseTest}
+use Rattle.from_factors.proofs.Figures.{computes, n0, n1, n2, n4, n8}
 use Rattle.figures.proofs.Outcomes.{OneOutcome, one-outcome, ShutsOut, shut-out, BothShutOut, both, Strong, strong}
 
 -- ---- the triangular solves
@@ -198,7 +198,7 @@ taken-refusal =
     (shut-out refusalBy (λ x. takenRefusal (x .0) (x .1 .0) (x .1 .1 .0) (storeOf [])) (asks, (recordOf 2 2 1, (n2 ∷ n0 ∷ n0 ∷ n1 ∷ [], storeOf ((0, 1) ∷ []))))
     (λ d. omega (arith, d)))
 
--- factoring, building up and adding: one outcome. What they shut out is in lu/proofs/WrongPrograms; building up has factoring's meaning.
+-- factoring, building up and adding: one outcome. What they shut out is in WrongPrograms; building up has factoring's meaning.
 pub factor : OneOutcome (λ (x : ℕ × (ℕ × (Column × (Column × List ℕ)))). factoring (x .0) (x .1 .0) (x .1 .1 .0) (x .1 .1 .1 .0) (x .1 .1 .1 .1))
 factor = one-outcome (λ (x : ℕ × (ℕ × (Column × (Column × List ℕ)))). factoring (x .0) (x .1 .0) (x .1 .1 .0) (x .1 .1 .1 .0) (x .1 .1 .1 .1))
 

@@ -19,7 +19,7 @@ use Rattle.store.specs.Steps.{swapInAll, rowsSwapped, columnsSwapped, stepColum
 use Rattle.refusals.specs.declared.Answer.{Answer}
 use Rattle.refusals.specs.declared.Answer.the-variants.{Done, Refused}
 use Rattle.refusals.specs.Refusals.{firstOf, outside, answerOf, Outcome, seventh}
-use Rattle.lu.proofs.Figures.{n0, n1, n2, n4, n8}
+use Rattle.from_factors.proofs.Figures.{n0, n1, n2, n4, n8}
 use Rattle.figures.proofs.Outcomes.{TwoShutOut, two}
 
 -- a name for all that has to unfold for these calls to compute

@@ -21,8 +21,8 @@ use Rattle.panel_file.specs.declared.Written.{Written}
 use Rattle.panel_file.specs.declared.Written.the-variants.{Bytes, Refused as NotWritten}
 use Rattle.panel_file.proofs.Writes.{Fit, not-refused, outcome-refused}
 use Rattle.panel_file.proofs.Crossings.{one-writing}
-use Rattle.lu.specs.declared.Det.{Det}
-use Rattle.lu.specs.declared.Det.the-variants.{Number, Refused}
+use Rattle.from_factors.specs.declared.Det.{Det}
+use Rattle.from_factors.specs.declared.Det.the-variants.{Number, Refused}
 use Rattle.panel.specs.Text.{written, decimal, refusedText}
 use Rattle.panel.specs.Ordering.{Ordering, ordering, stiffness, textOf}
 use Rattle.figures.proofs.Outcomes.{ShutsOut, shut-out, Strong, strong, TwoShutOut, two, Keeps, StrongBy, strong-by}

@@ -14,7 +14,7 @@ use Rattle.refusals.specs.Refusals.{firstOf, outside, Outcome, tested}
 use Rattle.permutation_sequence.specs.SwapList.{pairsOf, holds, held, withPair, goodPair, goodPairs, goodList}
 use Rattle.permutation_sequence.specs.Permute.{permutedBy, rowsPermuted, inOrder, signOf}
 use Rattle.permutation_sequence.specs.Calls.{permutingRefusal, permuting, permutingRows, permutingColumns, appendingRefusal, Appending, appending}
-use Rattle.lu.proofs.Figures.{n0, n1, n2}
+use Rattle.from_factors.proofs.Figures.{n0, n1, n2}
 use Rattle.figures.proofs.Outcomes.{ShutsOut, shut-out, BothShutOut, both, Strong, strong}
 
 -- a name for all that has to unfold for a list to be tested and applied

@@ -1,5 +1,5 @@
--- Document 01's table, "Figures to meet": all marked lines as one list. A line is a call's own outcome and what the document gives for it; those of `lu` stand in
--- lu/proofs/Figures.
+-- Document 01's table, "Figures to meet": all marked lines as one list. A line is a call's own outcome and what the document gives for it; those of `lu` and `from_factors` stand in
+-- from_factors/proofs/Figures.
 use mathlib.Core.Bool.{true, false}
 use mathlib.Core.List.{List, [], _∷_, _++_, map}
 use lib.IntN.{pos}
@@ -8,7 +8,7 @@ use Rattle.refusals.specs.Refusals.{Outcome}
 use Rattle.solve.specs.declared.Pass.the-variants.{GivenDiagonal, TransposedLower}
 use Rattle.solve.specs.Calls.{solving}
 use Rattle.ranking.specs.Ranking.{Ranking, ranking}
-use Rattle.lu.proofs.Figures.{Given, table, n0, n1, n2, n4, n8}
+use Rattle.from_factors.proofs.Figures.{Given, table, n0, n1, n2, n4, n8}
 
 -- what a call gives: one of `lu`, a triangular solve, the ranking
 pub data Shown : Type 0 where

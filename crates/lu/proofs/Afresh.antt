@@ -2,33 +2,29 @@
 -- same record, factors and swap store, bit for bit: about the calls' own outcomes. The eliminations are one (`widened`); of the widened factors
 -- only the new column can fail to be finite; and the store takes the next pair over two of its zeros. Assumes nothing.
 use mathlib.Core.Path.{_≡_, refl, sym, ap, ap₂, _∙_}
-use mathlib.Core.Bool.{Bool, true, false, not, cond, _&&_, _||_}
-use mathlib.Core.List.{List, [], _∷_, _++_}
-use Prim.Native.Nat.{ℕ, _+_, _-_, _*_, _≤_, _<_, min}
+use mathlib.Core.Bool.{Bool, true, false, _&&_}
+use mathlib.Core.List.{List, [], _++_}
+use Prim.Native.Nat.{ℕ, _+_, _-_, _*_, _<_, min}
 use native.Mathlib.Nat.{suc-mul}
 use native.Mathlib.Numerals.{add-one}
 use native.Mathlib.Omega.{arith}
-use borrow.Author.Tests.{eqb-true, eq-eqb, ne-eqb, le-ltb}
-use lib.Dec.{ltb, eqb}
-use lib.ListN.{length, take, drop, replicate, length-append, length-drop}
-use lib.Seq.{take-at, drop-at, getD-at, drop-drop}
+use borrow.Author.Tests.{eq-eqb, le-ltb}
+use lib.ListN.{length, length-append}
+use lib.Seq.{take-at, getD-at}
 use Rattle.blas.specs.Column.{Column, allFinite}
-use Rattle.blas.proofs.Choice.{test-cases, cond-cases, cond-both}
 use Rattle.blas.proofs.Finite.{finite-append}
-use Rattle.store.specs.Columns.{columns, flat, HasRows, isMatrix}
-use Rattle.store.specs.Steps.{Matrix, column, swapInAll}
-use Rattle.store.proofs.Columns.{sized, is-matrix, length-columns, columns-rows, columns-flat, length-flat, columns-front, columns-snoc, flat-snoc}
+use Rattle.store.specs.Columns.{columns, flat}
+use Rattle.store.specs.Steps.{column, swapInAll}
+use Rattle.store.proofs.Columns.{is-matrix, columns-flat, columns-front, columns-snoc, flat-snoc}
 use Rattle.store.proofs.Steps.{length-swapInAll}
-use Rattle.refusals.specs.Refusals.{firstOf, outside}
-use Rattle.refusals.proofs.Tests.{Inside, not-outside}
-use Rattle.permutation_sequence.specs.SwapList.{Swaps, pairsOf, goodList}
+use Rattle.refusals.specs.Refusals.{firstOf}
+use Rattle.refusals.proofs.Tests.{not-outside}
 use Rattle.permutation_sequence.proofs.Finite.{exchange-finite}
-use Rattle.lu.specs.declared.Record.{Record}
-use Rattle.lu.specs.Elimination.{Factors, recordSwap, unfactored, eliminate}
-use Rattle.lu.specs.Factoring.{numbersOf, storeOf, factoringRefusal, Factoring, recordOf, settled, factoring}
+use Rattle.lu.specs.Elimination.{Factors, eliminate}
+use Rattle.lu.specs.Factoring.{storeOf, factoringRefusal, Factoring, recordOf, settled, factoring}
 use Rattle.lu.specs.Adding.{reduced, addColumn, earlyRefusal, addingRefusal, written, factorsIn, addingSettled, adding}
 use Rattle.lu.specs.Own.{ownRow, ownColumn}
-use Rattle.lu.proofs.Own.{joined, adding-joins}
+use Rattle.lu.proofs.Own.{adding-joins}
 use Rattle.lu.proofs.Recorded.{rising-good}
 use Rattle.lu.proofs.Shape.{factorsOf, ok, size, shape, wide, shape-f, size-f, rising, few, accepted-is}
 use Rattle.lu.proofs.Swaps.{length-store, pairs-store, written-store, record-more}

@@ -2,23 +2,23 @@
 -- means that factoring the whole is. At the level of the calls' outcomes, by `adding-afresh` and `finite-front`. Assumes nothing.
 use mathlib.Core.Path.{_≡_, refl, sym, ap, ap₂, subst, _∙_}
 use mathlib.Core.Bool.{Bool, true, false, cond, false≢true}
-use mathlib.Core.List.{List, [], _∷_, _++_}
-use Prim.Native.Nat.{ℕ, _+_, _-_, _*_, _≤_, _<_, min}
+use mathlib.Core.List.{List, [], _++_}
+use Prim.Native.Nat.{ℕ, _+_, _-_, _*_, _≤_, _<_}
 use native.Mathlib.Nat.{suc-mul, min-zero, mul-le-mul-right, add-sub-cancel-left}
 use native.Mathlib.Numerals.{add-one}
 use native.Mathlib.Omega.{arith}
 use borrow.Author.Tests.{eqb-true, eq-eqb}
 use lib.Dec.{eqb}
-use lib.ListN.{length, take, drop, replicate, length-append, length-replicate, length-drop, take-append-drop}
+use lib.ListN.{length, take, drop, replicate, length-replicate, length-drop, take-append-drop}
 use lib.Seq.{take-add, take-at, take-all, length-take-le}
 use Rattle.blas.specs.Each.{turnsFrom}
 use Rattle.blas.specs.Column.{Column, allFinite, zeros}
 use Rattle.blas.proofs.Choice.{test-cases, and-first, and-second}
 use Rattle.blas.proofs.Finite.{finite-append}
-use Rattle.store.specs.Columns.{columns, flat, HasRows, isMatrix}
+use Rattle.store.specs.Columns.{columns, flat, HasRows}
 use Rattle.store.specs.Steps.{Matrix}
 use Rattle.store.proofs.Columns.{sized, is-matrix, columns-rows, columns-split}
-use Rattle.refusals.specs.Refusals.{firstOf, outside}
+use Rattle.refusals.specs.Refusals.{firstOf}
 use Rattle.refusals.proofs.Tests.{not-outside}
 use Rattle.lu.specs.declared.Record.{Record}
 use Rattle.lu.specs.declared.Added.{Added}
@@ -26,7 +26,7 @@ use Rattle.lu.specs.declared.Factored.{Factored}
 use Rattle.lu.specs.declared.Factored.the-variants.{Accepted as Done, Refused as Seventh}
 use Rattle.lu.specs.Held.{AllAdded}
 use Rattle.lu.specs.declared.Added.the-variants.{Accepted, Refused}
-use Rattle.lu.specs.Elimination.{Factors, unfactored, eliminate}
+use Rattle.lu.specs.Elimination.{unfactored, eliminate}
 use Rattle.lu.specs.Factoring.{numbersOf, storeOf, factoringRefusal, Factoring, settled, factoring, factoredOf}
 use Rattle.lu.specs.Adding.{adding, addedOf}
 use Rattle.lu.proofs.Afresh.{adding-afresh}

@@ -1,12 +1,10 @@
 -- A packed diagonal number is zero exactly when its step was skipped: the step leaves its pivot there, and later steps exchange only rows below it.
 -- Assumes nothing.
 use mathlib.Core.Path.{_≡_, refl, sym, ap, _∙_}
-use mathlib.Core.Bool.{Bool, true, false}
 use Prim.Native.Nat.{ℕ, zero, suc, _+_, _-_, _≤_, _<_, min}
 use native.Mathlib.Omega.{arith}
 use lib.ListN.{length}
 use lib.Ieee.{Float, nan}
-use Rattle.blas.specs.Each.{turnsFrom}
 use Rattle.blas.specs.Numbers.{isZero}
 use Rattle.blas.specs.Column.{Column, entry}
 use Rattle.blas.proofs.Exchange.{exchanged-above}

@@ -2,13 +2,13 @@
 -- exchange of two rows in the older columns, and the next pair. So only the new column changes and, with a swap, two rows of the older ones.
 -- By the step on the last column. Assumes nothing.
 use mathlib.Core.Path.{_≡_, refl, sym, ap, ap₂, _∙_}
-use mathlib.Core.Bool.{Bool, true, false, cond}
+use mathlib.Core.Bool.{true, false, cond}
 use mathlib.Core.List.{[], _∷_, _++_}
-use Prim.Native.Nat.{ℕ, zero, suc, _+_, _≤_, _<_, min}
+use Prim.Native.Nat.{ℕ, zero, suc, _+_, _≤_}
 use native.Mathlib.Omega.{arith}
-use borrow.Author.Tests.{ltb-true, ltb-false, eq-eqb}
-use lib.Dec.{ltb, eqb}
-use lib.ListN.{length, getD, set, drop, drop-of-length-le, length-append, List·getD-eq-default}
+use borrow.Author.Tests.{ltb-false, eq-eqb}
+use lib.Dec.{ltb}
+use lib.ListN.{length, set, drop-of-length-le, length-append, List·getD-eq-default}
 use lib.Seq.{getD-append-seam, set-append-seam}
 use lib.Ieee.{nan, eq, binary64, div}
 use Rattle.blas.specs.Each.{turnsFrom}
@@ -18,11 +18,9 @@ use Rattle.blas.proofs.Choice.{cond-cases, test-cases}
 use Rattle.blas.proofs.Each.{each-id, each-stop}
 use Rattle.blas.proofs.Exchange.{exchanged-self}
 use Rattle.blas.specs.Column.{scaleFrom}
-use Rattle.store.specs.Columns.{HasRows}
-use Rattle.store.specs.Steps.{Matrix, column, swapInAll, stepColumn, stepColumns, eliminated}
+use Rattle.store.specs.Steps.{Matrix, column, swapInAll, stepColumns, eliminated}
 use Rattle.store.proofs.Steps.{length-swapInAll, length-stepColumn}
 use Rattle.permutation_sequence.specs.SwapList.{Swaps}
-use Rattle.permutation_sequence.specs.Permute.{permute}
 use Rattle.permutation_sequence.proofs.Permute.{length-permute}
 use Rattle.lu.specs.Elimination.{Factors, recordSwap, multipliers, scaled, pivotStep, step}
 use Rattle.lu.specs.Adding.{widen, update, reduced, addColumn}

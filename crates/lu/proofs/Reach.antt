@@ -1,28 +1,25 @@
 -- DEMAND 3, any number of times. Whatever was reached by an accepted factoring and accepted adding is what factoring its columns afresh gives; every
 -- front of an accepted matrix is accepted. By induction on how it was reached (`adding-afresh`) and on the columns behind the front. Assumes nothing.
-use mathlib.Core.Path.{_≡_, refl, sym, ap, ap₂, subst, _∙_}
-use mathlib.Core.Bool.{Bool, true, false, cond, _&&_}
+use mathlib.Core.Path.{_≡_, refl, sym, ap, subst, _∙_}
+use mathlib.Core.Bool.{true}
 use mathlib.Core.List.{List, [], _∷_, _++_, append-assoc, append-nil}
-use Prim.Native.Nat.{ℕ, zero, suc, _+_, _*_, _≤_, _<_}
-use native.Mathlib.Nat.{suc-mul}
-use native.Mathlib.Numerals.{add-one}
+use Prim.Native.Nat.{ℕ, _+_, _*_, _<_}
 use native.Mathlib.Omega.{arith}
 use borrow.Author.Tests.{eq-eqb}
 use lib.ListN.{length, replicate, length-append, length-replicate, List·getD-append}
 use lib.Seq.{getD-append-seam}
 use Rattle.blas.specs.Column.{Column, allFinite, zeros}
 use Rattle.blas.proofs.Choice.{and-first}
-use Rattle.store.specs.Columns.{columns, flat, HasRows, isMatrix}
-use Rattle.store.specs.Steps.{Matrix, column}
-use Rattle.store.proofs.Columns.{sized, is-matrix}
+use Rattle.store.specs.Columns.{columns, flat, HasRows}
+use Rattle.store.specs.Steps.{Matrix}
+use Rattle.store.proofs.Columns.{is-matrix}
 use Rattle.refusals.specs.Refusals.{firstOf}
-use Rattle.refusals.proofs.Tests.{Inside, not-outside}
+use Rattle.refusals.proofs.Tests.{not-outside}
 use Rattle.lu.specs.Elimination.{Factors, eliminate}
 use Rattle.lu.specs.Factoring.{factoringRefusal, Factoring, settled, factoring}
-use Rattle.lu.specs.Adding.{addColumn, adding}
+use Rattle.lu.specs.Adding.{adding}
 use Rattle.lu.proofs.Afresh.{finite-added, adding-afresh}
-use Rattle.lu.proofs.Shape.{factorsOf, acceptedAs, no-refusal, ok, size, accepted-is}
-use Rattle.lu.proofs.Told.{Passed}
+use Rattle.lu.proofs.Shape.{factorsOf, acceptedAs, no-refusal, ok, accepted-is}
 use Rattle.lu.proofs.Widen.{widened}
 
 -- ---- which slices factoring is to fill does not matter

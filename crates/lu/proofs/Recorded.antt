@@ -1,7 +1,7 @@
 -- The swaps that factoring records: pairs (i, p) with i < p < m and i rising, at most one a step, so that they pass refusal 4. By the steps.
 -- Assumes nothing.
-use mathlib.Core.Path.{_≡_, refl, sym, ap, _∙_}
-use mathlib.Core.Bool.{true, _&&_}
+use mathlib.Core.Path.{_≡_, refl}
+use mathlib.Core.Bool.{true}
 use mathlib.Core.List.{[], _∷_, _++_}
 use Prim.Native.Nat.{ℕ, zero, suc, _≤_, _<_, min}
 use native.Mathlib.Omega.{arith}
@@ -13,7 +13,7 @@ use Rattle.blas.proofs.Choice.{cond-cases}
 use Rattle.blas.proofs.Pivot.{pivot-from, pivot-to}
 use Rattle.store.specs.Columns.{HasRows}
 use Rattle.store.specs.Steps.{Matrix, column}
-use Rattle.permutation_sequence.specs.SwapList.{Swaps, pairsOf, goodPair, goodPairs, goodList}
+use Rattle.permutation_sequence.specs.SwapList.{Swaps, goodPair, goodPairs, goodList}
 use Rattle.permutation_sequence.proofs.SwapList.{goods-snoc, is-good}
 use Rattle.lu.specs.Elimination.{Factors, recordSwap, pivotStep, step, unfactored, eliminate}
 use Rattle.lu.specs.Factoring.{storeOf}

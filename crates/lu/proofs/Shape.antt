@@ -1,7 +1,7 @@
 -- What the elimination's factors are like, and how they stand in the outcome of an accepted factoring: as many columns as the matrix has, each of m
 -- entries, and rising pairs that fit the store. Assumes nothing.
-use mathlib.Core.Path.{_≡_, refl, sym, ap, _∙_}
-use mathlib.Core.Bool.{true, false}
+use mathlib.Core.Path.{_≡_, ap, _∙_}
+use mathlib.Core.Bool.{true}
 use mathlib.Core.List.{List}
 use Prim.Native.Nat.{ℕ, _*_, _≤_, min}
 use native.Mathlib.Omega.{arith}
@@ -13,7 +13,6 @@ use Rattle.blas.proofs.Choice.{test-cases, cond-cases}
 use Rattle.store.specs.Columns.{columns, flat, HasRows}
 use Rattle.store.specs.Steps.{Matrix}
 use Rattle.store.proofs.Columns.{sized, length-columns, columns-rows, length-flat}
-use Rattle.refusals.proofs.Tests.{Inside}
 use Rattle.lu.specs.Elimination.{Factors, unfactored, eliminate}
 use Rattle.lu.specs.Factoring.{storeOf, factoringRefusal, Factoring, recordOf, settled, factoring}
 use Rattle.lu.proofs.Recorded.{Rising, eliminate-rising, rising-few}

@@ -10,13 +10,12 @@ use native.Mathlib.Omega.{arith}
 use borrow.Author.Tests.{lt-ltb, le-ltb}
 use borrow.Rule.Slice.PartMut.{midOf, putMid, same-len-mid}
 use lib.Dec.{ltb}
-use lib.ListN.{length, getD, set, take, drop, length-append, length-drop, take-append-drop, List·getD-append}
+use lib.ListN.{length, getD, set, take, drop, length-drop, take-append-drop, List·getD-append}
 use lib.Seq.{set-at, getD-at, set-getD, take-all, length-take-le}
 use lib.Ieee.{Float, nan}
 use Rattle.blas.specs.Each.{eachFrom, turnsFrom}
 use Rattle.blas.specs.Numbers.{isZero}
 use Rattle.blas.specs.Column.{Column, entry, swapRows, copied}
-use Rattle.blas.proofs.Choice.{cond-cases}
 use Rattle.blas.proofs.Each.{each-snoc, each-same}
 use Rattle.blas.proofs.Rows.{copied-whole}
 use Rattle.store.specs.Columns.{columns, flat, isMatrix, onColumns}

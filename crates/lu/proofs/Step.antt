@@ -1,18 +1,17 @@
 -- One step of the elimination, column by column, and that it keeps the shape of the matrix. Assumes nothing.
-use Prim.Native.Nat.{ℕ, zero, suc, _+_, _≤_, _<_}
+use Prim.Native.Nat.{ℕ, zero, suc, _+_, _<_}
 use native.Mathlib.Nat.{zero-add, add-zero}
 use borrow.Author.Tests.{eqb-true, eqb-false}
 use lib.Dec.{eqb}
-use native.Mathlib.Numerals.{add-one}
 use native.Mathlib.Omega.{arith}
 use mathlib.Core.Path.{_≡_, refl, sym, ap, _∙_}
-use mathlib.Core.Bool.{Bool, true, false, cond}
+use mathlib.Core.Bool.{Bool, true, false}
 use mathlib.Core.List.{[], _∷_, _++_}
-use lib.ListN.{length, getD, set, length-set, length-append, List·getD-append}
+use lib.ListN.{length, set, length-set, List·getD-append}
 use lib.Seq.{getD-set-same, getD-set-other, set-append-left}
-use lib.Ieee.{nan, binary64, div}
+use lib.Ieee.{nan}
 use Rattle.blas.specs.Each.{eachFrom, turnsFrom}
-use Rattle.blas.specs.Numbers.{one64, isZero}
+use Rattle.blas.specs.Numbers.{isZero}
 use Rattle.blas.specs.Column.{Column, entry, pivotRow, swapRows}
 use Rattle.blas.proofs.Choice.{test-cases, cond-cases}
 use Rattle.blas.proofs.Each.{each-at, each-before, each-snoc}
@@ -21,7 +20,7 @@ use Rattle.blas.proofs.Rows.{length-scale, entry-scale-before}
 use Rattle.store.specs.Columns.{HasRows}
 use Rattle.store.specs.Steps.{Matrix, column, swapInAll, stepColumn, stepColumns, eliminated}
 use Rattle.store.proofs.Steps.{length-swapInAll, rows-swapInAll, length-eliminated, rows-eliminated}
-use Rattle.lu.specs.Elimination.{Factors, recordSwap, multipliers, scaled, pivotStep, step}
+use Rattle.lu.specs.Elimination.{Factors, multipliers, scaled, pivotStep, step}
 
 -- ---- step i's pivot row, whether the step is skipped, and the column that it leaves at i
 abbrev pub pivotAt : ℕ → Factors → ℕ

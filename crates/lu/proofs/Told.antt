@@ -1,8 +1,8 @@
 -- Factoring's outcomes, each from what the tests on the way to it found. Assumes nothing.
 use mathlib.Core.Path.{_≡_, refl, sym, ap, _∙_}
-use mathlib.Core.Bool.{Bool, true, false, not, cond, _&&_, _||_}
-use mathlib.Core.List.{List, [], _∷_}
-use Prim.Native.Nat.{ℕ, _*_, _≤_, _<_}
+use mathlib.Core.Bool.{true, false, not, _&&_, _||_}
+use mathlib.Core.List.{List, []}
+use Prim.Native.Nat.{ℕ}
 use borrow.Author.Tests.{eqb-true, eq-eqb, ne-eqb, not-false}
 use lib.Dec.{eqb}
 use lib.ListN.{length, replicate}
@@ -10,14 +10,13 @@ use Rattle.blas.specs.Column.{Column, allFinite, zeros}
 use Rattle.blas.proofs.Choice.{and-first, and-second}
 use Rattle.store.specs.Columns.{columns, flat, isMatrix}
 use Rattle.store.proofs.Columns.{flat-columns}
-use Rattle.refusals.specs.Refusals.{firstOf, outside}
+use Rattle.refusals.specs.Refusals.{outside}
 use Rattle.refusals.proofs.Tests.{first-none, neither, Inside, inside}
 use Rattle.lu.specs.declared.Factored.{Factored}
 use Rattle.lu.specs.declared.Factored.the-variants.{Accepted, Refused}
 use Rattle.lu.specs.Elimination.{Factors, eliminate}
 use Rattle.lu.specs.Factoring.{numbersOf, storeOf, factoringRefusal, factoring, recordOf, settled, factoredOf}
 use Rattle.lu.specs.Held.{Held}
-use Rattle.lu.proofs.Swaps.{length-store}
 
 module _ (m n : ℕ) (a out : Column) (store : List ℕ) where
   -- what is known where factoring is not refused before the work

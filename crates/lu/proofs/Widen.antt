@@ -13,17 +13,16 @@ use lib.ListN.{length, List·getD-append, length-append}
 use lib.Ieee.{nan, neg}
 use Rattle.blas.specs.Each.{turnsFrom}
 use Rattle.blas.specs.Numbers.{isZero}
-use Rattle.blas.specs.Column.{Column, entry, exchanged, swapRows}
+use Rattle.blas.specs.Column.{Column, entry, swapRows}
 use Rattle.blas.proofs.Choice.{cond-cases, cond-both, cond-map}
 use Rattle.blas.proofs.Exchange.{exchanged-self, exchanged-above}
 use Rattle.blas.proofs.Pivot.{pivot-from, pivot-to, pivot-zero}
 use Rattle.blas.proofs.Rows.{axpy-swap}
 use Rattle.store.specs.Columns.{HasRows}
 use Rattle.store.specs.Steps.{Matrix, column, stepColumn}
-use Rattle.store.proofs.Steps.{length-stepColumn}
 use Rattle.permutation_sequence.specs.SwapList.{Swaps}
 use Rattle.permutation_sequence.specs.Permute.{permutedBy, permute}
-use Rattle.permutation_sequence.proofs.Permute.{permute-append, length-permute}
+use Rattle.permutation_sequence.proofs.Permute.{permute-append}
 use Rattle.lu.specs.Elimination.{Factors, recordSwap, pivotStep, step, unfactored, eliminate}
 use Rattle.lu.specs.Adding.{widen, update, reduced, addColumn}
 use Rattle.lu.proofs.Step.{pivotAt, skipped, packed, packed-diagonal, step-left, step-here, pivotStep-snoc, turns-last, steps, steps-next, length-steps, rows-steps}

@@ -1,5 +1,5 @@
 -- Adding's outcomes, each from what the code found and left on the way to it. Assumes nothing.
-use mathlib.Core.Path.{_≡_, refl, sym, ap, ap₂, _∙_}
+use mathlib.Core.Path.{_≡_, refl, sym, ap, _∙_}
 use mathlib.Core.Bool.{Bool, true, false, not, cond, _&&_, _||_}
 use mathlib.Core.List.{List, [], _∷_, _++_}
 use Prim.Native.Nat.{ℕ, _+_, _-_, _*_, _≤_, _<_, min}
@@ -7,15 +7,15 @@ use native.Mathlib.Omega.{arith}
 use borrow.Author.Tests.{eqb-true, eqb-false, ltb-false, eq-eqb, ne-eqb, not-false}
 use borrow.Rule.Slice.PartMut.{midOf, putMid, same-len-mid}
 use lib.Dec.{ltb, eqb}
-use lib.ListN.{length, take, drop}
+use lib.ListN.{length, take}
 use lib.Seq.{getD-at}
 use Rattle.blas.specs.Column.{Column, allFinite, zeros}
 use Rattle.blas.proofs.Choice.{test-cases, cond-cases, and-first, and-second}
 use Rattle.store.specs.Columns.{columns, flat, isMatrix, onColumns}
-use Rattle.store.specs.Steps.{Matrix, column, swapInAll, rowsSwapped}
+use Rattle.store.specs.Steps.{column, swapInAll, rowsSwapped}
 use Rattle.store.proofs.Columns.{sized, same-matrix, length-columns, columns-rows, column-length, flat-columns, flat-snoc, on-columns}
 use Rattle.store.proofs.Steps.{length-swapInAll, length-rowsSwapped, rows-rowsSwapped}
-use Rattle.refusals.specs.Refusals.{firstOf, outside}
+use Rattle.refusals.specs.Refusals.{outside}
 use Rattle.refusals.proofs.Tests.{first-none, neither, Inside, inside}
 use Rattle.permutation_sequence.specs.SwapList.{pairsOf, withPair, goodList}
 use Rattle.permutation_sequence.proofs.SwapList.{good}

@@ -1,6 +1,6 @@
 -- Document 01, "Elimination", on the columns of a matrix, over all floats, finite or not.
 use mathlib.Core.Bool.{cond}
-use mathlib.Core.List.{List, [], _∷_, _++_}
+use mathlib.Core.List.{[], _∷_, _++_}
 use Prim.Native.Nat.{ℕ, _+_, min}
 use lib.Dec.{eqb}
 use lib.ListN.{length, set}

@@ -1,5 +1,5 @@
 -- What factoring answers and leaves, on every input: document 01, "Sizes", "Refusal numbers" and "Elimination".
-use mathlib.Core.Bool.{Bool, not, cond, _&&_, _||_}
+use mathlib.Core.Bool.{not, cond, _&&_, _||_}
 use mathlib.Core.List.{List, [], _∷_, _++_}
 use Prim.Native.Nat.{ℕ, _-_, _*_}
 use lib.Dec.{eqb}

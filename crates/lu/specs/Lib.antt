@@ -3,7 +3,3 @@ pub mod Factoring
 pub mod Held
 pub mod Adding
 pub mod Own
-pub mod Taken
-pub mod Triangles
-pub mod Solving
-pub mod Determinant

@@ -8,10 +8,10 @@ use Rattle.blas.specs.Column.{Column, zeros}
 use Rattle.lu.specs.declared.Record.{Record}
 use Rattle.lu.specs.declared.Factored.{Factored}
 use Rattle.lu.specs.declared.Factored.the-variants.{Accepted, Refused}
-use Rattle.lu.specs.declared.Det.{Det}
-use Rattle.lu.specs.declared.Det.the-variants.{Refused as NoNumber}
+use Rattle.from_factors.specs.declared.Det.{Det}
+use Rattle.from_factors.specs.declared.Det.the-variants.{Refused as NoNumber}
 use Rattle.lu.specs.Factoring.{Factoring, factoring, factoredOf}
-use Rattle.lu.specs.Determinant.{determining}
+use Rattle.from_factors.specs.Determinant.{determining}
 use Rattle.panel_file.specs.File.{padsOf, matrixOf}
 use Rattle.panel.specs.Ordering.{factored, fileRefusal, stiffnessOf, stiffness}
 use Rattle.panel.proofs.Ordering.{told-accepted, told-refused, Read}

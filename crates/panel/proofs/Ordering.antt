@@ -19,9 +19,9 @@ use Rattle.lu.specs.declared.Record.{Record}
 use Rattle.lu.specs.declared.Factored.{Factored}
 use Rattle.lu.specs.declared.Factored.the-variants.{Accepted, Refused}
 use Rattle.lu.specs.Factoring.{Factoring, factoring, factoredOf}
-use Rattle.lu.specs.Solving.{solving}
-use Rattle.lu.specs.Solving.{solveAsks, solvedBy}
-use Rattle.lu.specs.Taken.{takenRefusal}
+use Rattle.from_factors.specs.Solving.{solving}
+use Rattle.from_factors.specs.Solving.{solveAsks, solvedBy}
+use Rattle.from_factors.specs.Taken.{takenRefusal}
 use Rattle.store.specs.Columns.{columns}
 use Rattle.refusals.specs.Refusals.{seventh, tested}
 use Rattle.ranking.specs.Ranking.{ranked, padsTo, rankingRefusal, ranking}

@@ -19,8 +19,8 @@ use Rattle.lu.specs.declared.Record.{Record}
 use Rattle.store.specs.Columns.{flat}
 use Rattle.lu.specs.Elimination.{Factors}
 use Rattle.lu.specs.Factoring.{Factoring, factoringRefusal, settled, factoring}
-use Rattle.lu.specs.Taken.{takenRefusal}
-use Rattle.lu.specs.Solving.{solving}
+use Rattle.from_factors.specs.Taken.{takenRefusal}
+use Rattle.from_factors.specs.Solving.{solving}
 use Rattle.panel.specs.declared.Order.{Order}
 use Rattle.panel.specs.declared.Order.the-variants.{Pads, Refused}
 use Rattle.panel.specs.Text.{written, padsText, refusedText}

@@ -13,10 +13,10 @@ use Rattle.ranking.specs.Ranking.{IsPad, ranked, padsTo}
 use Rattle.panel_file.specs.File.{padsOf, matrixOf, readingsOf}
 use Rattle.panel_file.specs.Reading.{readingRefusal}
 use Rattle.lu.specs.Factoring.{Factoring, factoring}
-use Rattle.lu.specs.Solving.{solving}
-use Rattle.lu.specs.Determinant.{determining}
-use Rattle.lu.specs.declared.Det.{Det}
-use Rattle.lu.specs.declared.Det.the-variants.{Refused as NoNumber}
+use Rattle.from_factors.specs.Solving.{solving}
+use Rattle.from_factors.specs.Determinant.{determining}
+use Rattle.from_factors.specs.declared.Det.{Det}
+use Rattle.from_factors.specs.declared.Det.the-variants.{Refused as NoNumber}
 use Rattle.panel.specs.declared.Order.{Order}
 use Rattle.panel.specs.declared.Order.the-variants.{Pads, Refused}
 use Rattle.panel.specs.Text.{padsText, refusedText}

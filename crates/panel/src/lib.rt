@@ -11,7 +11,7 @@ ghost use Rattle.io.specs.Counts.{Counts};
 ghost use Rattle.io.specs.Digits.{digits, glyph as Digits·glyph};
 ghost use Rattle.panel.specs.Text.{written, decimal, lineOf, linesOf, padsText, refusedText};
 ghost use Rattle.panel.specs.Ordering.{loading, Shown, ordered, ordering, orderOf, stiffnessOf, stiffness, textOf};
-use lu::Det;
+use from_factors::Det;
 use lu::Factored;
 use panel_file::Panel;
 use refusals::Answer;
@@ -47,7 +47,7 @@ fn solve_loads(
     ensures { λ _. ⌜ length (now (x .exit)) ≡ length (now (x .entry)) ⌝ }
 {
     match lu::factor(a, n, n, factors, swaps) {
-        Factored::Accepted(told) => number_of(lu::solve(factors, swaps, told, b, 1, x)),
+        Factored::Accepted(told) => number_of(from_factors::solve(factors, swaps, told, b, 1, x)),
         Factored::Refused(number) => {
             blas::fill_zero(x);
             number
@@ -115,7 +115,7 @@ fn determinant_by(n: usize, a: &[f64], factors: &mut [f64], swaps: &mut [usize])
     ensures { λ r. ⌜ r ≡ stiffnessOf n (now (a .entry)) ⌝ }
 {
     match lu::factor(a, n, n, factors, swaps) {
-        Factored::Accepted(told) => lu::determinant(factors, swaps, told),
+        Factored::Accepted(told) => from_factors::determinant(factors, swaps, told),
         Factored::Refused(number) => Det::Refused(number),
     }
 }

@@ -8,10 +8,10 @@ use crate::text::put_shown;
 use crate::text::put_whole;
 use crate::text::put_wholes;
 use crate::text::put_word;
+use from_factors::Det;
+use from_factors::Invertible;
 use lu::Added;
-use lu::Det;
 use lu::Factored;
-use lu::Invertible;
 use lu::Record;
 use panel_file::Written;
 use permutation_sequence::Appended;
@@ -101,19 +101,19 @@ pub fn solve(
     k: usize,
     x: &mut [f64],
 ) -> usize {
-    let answer = lu::solve(factors, swaps, told, b, k, x);
+    let answer = from_factors::solve(factors, swaps, told, b, k, x);
     put_result(text, from, answer, x)
 }
 
 // The call of op 4, 7 or 8.
 fn run_matrix(op: u8, told: Record, factors: &[f64], swaps: &[usize], out: &mut [f64]) -> Answer {
     if op == 4 {
-        return lu::inverse(factors, swaps, told, out);
+        return from_factors::inverse(factors, swaps, told, out);
     }
     if op == 7 {
-        return lu::l(factors, swaps, told, out);
+        return from_factors::l(factors, swaps, told, out);
     }
-    lu::u(factors, swaps, told, out)
+    from_factors::u(factors, swaps, told, out)
 }
 
 // Ops 4, 7 and 8.
@@ -138,7 +138,7 @@ pub fn determinant(
     factors: &[f64],
     swaps: &[usize],
 ) -> usize {
-    match lu::determinant(factors, swaps, told) {
+    match from_factors::determinant(factors, swaps, told) {
         Det::Number(number) => {
             let at = put_word(text, from, b"0 | ");
             put_float(text, at, number)
@@ -155,7 +155,7 @@ pub fn is_invertible(
     factors: &[f64],
     swaps: &[usize],
 ) -> usize {
-    match lu::is_invertible(factors, swaps, told) {
+    match from_factors::is_invertible(factors, swaps, told) {
         Invertible::Is(yes) => {
             if yes {
                 return put_word(text, from, b"0 | 1");

@@ -1,12 +1,10 @@
 -- Refused as factoring is, built up to its outcome, or refusal 7 (`AllAdded`). Assumes nothing.
-use mathlib.Core.Path.{_≡_, sym, ap, _∙_}
-use native.Mathlib.Omega.{arith}
+use mathlib.Core.Path.{sym, ap, _∙_}
 use borrow.Author.Needs.{needs}
-use lib.ListN.{length, replicate}
+use lib.ListN.{replicate}
 use Rattle.lu.specs.Factoring.{numbersOf, storeOf}
 use Rattle.store.proofs.Columns.{sized}
 use Rattle.lu.proofs.Build.{cleared-refusal, built-seven, built-all}
-use Rattle.lu.proofs.Shape.{ok}
 use Rattle.lu.proofs.Told.{Passed, passed-by, promise-refused}
 use Rattle.lu.proofs.build_up.Statement.{statement}
 use Rattle.lu.proofs.build_up.Tie as tie

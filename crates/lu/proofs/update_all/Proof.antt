@@ -1,6 +1,6 @@
 -- The updates that are left from column i on give the whole. Assumes nothing.
-use Prim.Native.Nat.{_-_, _+_, _<_, min}
-use mathlib.Core.Path.{_≡_, refl, sym, ap, _∙_}
+use Prim.Native.Nat.{_-_, _+_, min}
+use mathlib.Core.Path.{_≡_, refl, sym, _∙_}
 use native.Mathlib.Omega.{arith}
 use borrow.Author.Needs.{needs}
 use lib.ListN.{length}

@@ -1,0 +1,9 @@
+pub mod Accepted
+pub mod Alone
+pub mod Answers
+pub mod Figures
+pub mod Signed
+pub mod Solved
+pub mod Taken
+pub mod Triangles
+pub mod Written

@@ -1,0 +1,24 @@
+-- The three passes one after the other (`passes-solve`). Assumes nothing.
+use borrow.Author.Needs.{needs}
+use Rattle.from_factors.proofs.Solved.{passes-solve}
+use Rattle.from_factors.proofs.solve_mut.Statement.{statement}
+use Rattle.from_factors.proofs.solve_mut.Tie as tie
+
+returns : tie.Need-returns
+returns c =
+    let at-solve-in-place2 = c .before .before in
+    let at-solve-in-place = at-solve-in-place2 .before .before .before .before in
+    let at-apply-to-rows = at-solve-in-place .before .before .before .before in
+    let at-start = at-apply-to-rows .before .before .before .before .before in
+    let n = at-start .args .told .rows in
+    passes-solve n _ n _ _ _ _ _ _ _ (at-start .pre .0 .0) (at-start .pre .0 .1) (at-start .pre .1) (at-apply-to-rows .apply-to-rows .ensures) (at-apply-to-rows .apply-to-rows .kept .0) (at-solve-in-place .solve-in-place .ensures) (at-solve-in-place .solve-in-place .kept .1 .1 .1 .0) (at-solve-in-place2 .solve-in-place2 .ensures)
+
+pub solve-mut-spec : {M : Type 1} → statement M
+solve-mut-spec =
+    tie.close
+    (tie.spec
+    (λ c κs. search needs)
+    (λ c κs. search needs)
+    (λ c κs. search needs)
+    (λ c. search needs)
+    returns)

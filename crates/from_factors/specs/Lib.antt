@@ -1,0 +1,4 @@
+pub mod Taken
+pub mod Triangles
+pub mod Solving
+pub mod Determinant

@@ -1,0 +1,55 @@
+-- Document 01, "Solving": solve and inverse from the factors, and what the two calls answer and leave on every input.
+use mathlib.Core.Bool.{true, not, _&&_}
+use mathlib.Core.List.{List}
+use Prim.Native.Nat.{ℕ}
+use lib.ListN.{set}
+use Rattle.blas.specs.Each.{eachFrom, listOf}
+use Rattle.blas.specs.Numbers.{one64}
+use Rattle.blas.specs.Column.{Column, allFinite, zeros}
+use Rattle.store.specs.Columns.{columns, flat, isMatrix}
+use Rattle.store.specs.Steps.{Matrix}
+use Rattle.refusals.specs.Refusals.{outside, Outcome, seventh, tested}
+use Rattle.permutation_sequence.specs.SwapList.{Swaps, pairsOf}
+use Rattle.permutation_sequence.specs.Permute.{permute}
+use Rattle.solve.specs.declared.Pass.the-variants.{Upper, GivenDiagonal}
+use Rattle.solve.specs.Triangular.{solvedColumn}
+use Rattle.lu.specs.declared.Record.{Record}
+use Rattle.from_factors.specs.declared.Asks.{Asks}
+use Rattle.from_factors.specs.Taken.{takenRefusal}
+
+-- "swap the right-hand rows by the list, first pair first; unit lower; then upper"
+unfoldable pub solved : ℕ → Matrix → Swaps → Column → Column
+solved n cs swaps b = solvedColumn Upper n cs (solvedColumn (GivenDiagonal one64) n cs (permute swaps b))
+
+-- each right-hand column by itself
+unfoldable pub solvedAll : ℕ → Matrix → Swaps → Matrix → Matrix
+solvedAll n cs swaps bs = eachFrom (λ j b. solved n cs swaps b) 0 bs
+
+-- the identity's columns
+unfoldable pub unitColumn : ℕ → ℕ → Column
+unitColumn n j = set (zeros n) j one64
+
+abbrev pub identity : ℕ → Matrix
+identity n = listOf n (unitColumn n)
+
+-- the right-hand sides solved by the factors of the record
+abbrev pub solvedBy : Record → Column → List ℕ → Matrix → Column
+solvedBy r factors store bs = flat (solvedAll (r .rows) (columns (r .rows) (r .rows) factors) (pairsOf (r .pairs) store) bs)
+
+-- ---- the calls
+
+abbrev pub solveAsks : ℕ → ℕ → Column → Column → Asks
+solveAsks n k b x = record { square = true; solves = true; sizes = not (outside 1 k); lengths = isMatrix n k b && isMatrix n k x; numbers = allFinite b }
+
+-- k right-hand columns b, and the slice for the solution, which held x
+unfoldable pub solving : Record → Column → List ℕ → ℕ → Column → Column → Outcome
+solving r factors store k b x =
+    tested (takenRefusal (solveAsks (r .rows) k b x) r factors store) x (seventh (solvedBy r factors store (columns (r .rows) k b)))
+
+abbrev pub inverseAsks : ℕ → Column → Asks
+inverseAsks n x = record { square = true; solves = true; sizes = true; lengths = isMatrix n n x; numbers = true }
+
+-- "solve with the identity"
+unfoldable pub inverting : Record → Column → List ℕ → Column → Outcome
+inverting r factors store x =
+    tested (takenRefusal (inverseAsks (r .rows) x) r factors store) x (seventh (solvedBy r factors store (identity (r .rows))))
