@@ -1,13 +1,16 @@
 -- The wrong programs that document 01 names for factoring ("Strength of the contracts") do not meet the contract: none whose outcome is the contract's on
 -- every input always gives 7, always leaves the identity as factors, or always copies its input, and it tells the number of swaps that the elimination
--- records; and none that adds the first column rightly and afterwards merely copies meets adding's. Shown at the table's first inputs, and by what an
--- accepted factoring is. Assumes nothing.
+-- records; none that adds the first column rightly and afterwards merely copies meets adding's; and none that takes the column off without swapping rows
+-- back, or always gives the same, meets removing's. Shown at the table's first inputs, by what an accepted factoring is, and at one more input. Assumes
+-- nothing.
 use mathlib.Core.Path.{_≡_, refl, sym, ap, _∙_}
+use mathlib.Core.Bool.{false}
 use mathlib.Core.List.{List, [], _∷_, _++_}
-use Prim.Native.Nat.{ℕ, _*_, _<_}
+use Prim.Native.Nat.{ℕ, _-_, _*_, _<_}
 use native.Mathlib.Omega.{arith}
 use lib.ListN.{length, getD, take, replicate}
-use lib.Ieee.{nan}
+use lib.IntN.{pos, negsuc}
+use lib.Ieee.{Float, nan, fin}
 use Rattle.blas.specs.Each.{listOf}
 use Rattle.blas.specs.Column.{Column, zeros}
 use Rattle.store.specs.Columns.{columns, flat}
@@ -16,9 +19,12 @@ use Rattle.from_factors.specs.declared.Det.the-variants.{Number}
 use Rattle.lu.specs.Elimination.{eliminate}
 use Rattle.lu.specs.Factoring.{storeOf, Factoring, recordOf, factoring}
 use Rattle.lu.specs.Adding.{adding}
+use Rattle.lu.specs.Removing.{lastPair, undoes, pairsBefore, removeColumn, goodUndoing, removingRefusal, erased, removingMade, removing}
+use Rattle.permutation_sequence.specs.SwapList.{withPair}
 use Rattle.from_factors.specs.Solving.{unitColumn, identity}
 use Rattle.from_factors.proofs.Accepted.{accepted-is}
-use Rattle.from_factors.proofs.Figures.{computes, n0, n1, n2, determinant, figures}
+use Rattle.from_factors.proofs.Figures.{computes, n0, n1, n2, n4, determinant, figures}
+use Rattle.figures.proofs.Outcomes.{TwoShutOut, two as shut-out-two}
 
 -- what a program for factoring gives for each input, and that it is what the contract gives
 abbrev pub Program : Type 0
@@ -100,3 +106,42 @@ not-a-copying-add p meets copies =
     sym (ap (λ (o : Factoring). o .factors) (meets r s two store ∙ there)) ∙ copies r s two store (omega arith) in
     let z : _≡_ {A = ℕ} 0 1 = cc in
     omega arith
+
+-- ---- removing
+abbrev Removal : Type 0
+Removal = Record × (Column × List ℕ)
+
+abbrev removes : Removal → Factoring
+removes x = removing (x .0) (x .1 .0) (x .1 .1)
+
+-- the factors of the columns (4, 2, 0) and (0, 1, 2): the second exchanged the rows 1 and 2; and no columns at all
+abbrev half : Float
+half = fin false 1 (negsuc 0)
+
+abbrev exchanged-rows : Removal
+exchanged-rows = (recordOf 3 2 1, (n4 ∷ n0 ∷ half ∷ n0 ∷ n2 ∷ half ∷ [], storeOf ((1, 2) ∷ [])))
+
+abbrev no-columns : Removal
+no-columns = (recordOf 3 0 0, ([], storeOf []))
+
+rows-back : removes exchanged-rows ≡ record { number = 0; told = recordOf 3 1 0; factors = n4 ∷ half ∷ n0 ∷ n0 ∷ n0 ∷ n0 ∷ []; store = storeOf [] }
+unfolding computes withPair lastPair undoes pairsBefore removeColumn goodUndoing removingRefusal erased removingMade removing
+rows-back = refl
+
+none-left : removes no-columns .number ≡ 1
+unfolding computes removingRefusal removing
+none-left = refl
+
+-- the column and its pair taken off, and the older columns left as they stand
+abbrev no-rows-back : Removal → Factoring
+no-rows-back x = record { number = removes x .number; told = removes x .told; factors = take ((x .0 .columns - 1) * x .0 .rows) (x .1 .0) ++ zeros (x .0 .rows); store = removes x .store }
+
+pub remove-column : TwoShutOut removes no-rows-back
+unfolding computes
+remove-column =
+    shut-out-two removes no-rows-back exchanged-rows exchanged-rows no-columns
+    (λ d.
+    let e : _≡_ {A = Column} (n4 ∷ half ∷ n0 ∷ n0 ∷ n0 ∷ n0 ∷ []) (n4 ∷ n0 ∷ half ∷ n0 ∷ n0 ∷ n0 ∷ []) = sym (ap (λ (o : Factoring). o .factors) rows-back) ∙ ap (λ (o : Factoring). o .factors) d in
+    let z : _≡_ {A = ℕ} 1 0 = cc in
+    omega arith)
+    (λ d. omega (arith, sym (ap (λ (o : Factoring). o .number) rows-back) ∙ ap (λ (o : Factoring). o .number) d ∙ none-left))

@@ -30,7 +30,7 @@ use Rattle.lu.specs.Elimination.{unfactored, eliminate}
 use Rattle.lu.specs.Factoring.{numbersOf, storeOf, factoringRefusal, Factoring, settled, factoring, factoredOf}
 use Rattle.lu.specs.Adding.{adding, addedOf}
 use Rattle.lu.proofs.Afresh.{adding-afresh}
-use Rattle.lu.proofs.Reach.{finite-front}
+use Rattle.lu.proofs.Front.{finite-front}
 use Rattle.lu.proofs.Shape.{factorsOf, acceptedAs, size-f, accepted-is}
 use Rattle.lu.proofs.Told.{Passed, passed}
 

@@ -32,7 +32,7 @@ abbrev pub joined : ℕ → ℕ → Factors → Column → Factors
 joined n p f x = record { columns = swapInAll n p (f .columns) ++ x ∷ []; swaps = recordSwap n p (f .swaps) }
 
 -- a row exchanged with itself, and recorded so, is none
-swap-none : (n : ℕ) (cs : Matrix) → swapInAll n n cs ≡ cs
+pub swap-none : (n : ℕ) (cs : Matrix) → swapInAll n n cs ≡ cs
 unfolding swapInAll
 swap-none n cs = each-id _ 0 cs (λ j c h. exchanged-self nan n c)
 

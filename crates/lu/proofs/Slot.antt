@@ -20,7 +20,8 @@ use Rattle.blas.proofs.Each.{each-snoc, each-same}
 use Rattle.blas.proofs.Rows.{copied-whole}
 use Rattle.store.specs.Columns.{columns, flat, isMatrix, onColumns}
 use Rattle.store.specs.Steps.{Matrix, column, swapInAll, rowsSwapped, stepColumn}
-use Rattle.store.proofs.Columns.{sized, is-matrix, length-columns, flat-columns, columns-front, columns-snoc, part-column, column-length, column-lent, on-flat, entry-at}
+use Rattle.store.proofs.Columns.{sized, is-matrix, length-columns, columns-rows, flat-columns, columns-front, columns-snoc, part-column, column-length, column-lent, on-flat, on-columns, entry-at}
+use Rattle.store.proofs.Steps.{length-rowsSwapped, rows-rowsSwapped}
 use Rattle.permutation_sequence.specs.SwapList.{Swaps, pairsOf, held, goodList}
 use Rattle.permutation_sequence.specs.Permute.{permute, rowsPermuted, inOrder}
 use Rattle.permutation_sequence.proofs.Permute.{rows-each}
@@ -118,13 +119,25 @@ updates-last cs x i (suc k) h =
     ap (turnsFrom (updatedAt (length cs)) (i + 1) k) (updated-last cs x i (omega arith)) ∙ updates-last cs (update cs i x) (i + 1) k (omega arith)
 
 -- ---- rows exchanged in the older columns alone
-pub older-swapped : (i p : ℕ) (cs : Matrix) (x : Column) → rowsSwapped i p 0 (length cs) (cs ++ x ∷ []) ≡ swapInAll i p cs ++ x ∷ []
+older-swapped : (i p : ℕ) (cs : Matrix) (x : Column) → rowsSwapped i p 0 (length cs) (cs ++ x ∷ []) ≡ swapInAll i p cs ++ x ∷ []
 unfolding rowsSwapped swapInAll
 older-swapped i p cs x =
     each-snoc (λ j c. cond (ltb j (length cs)) (swapRows i p c) c) 0 cs x (omega arith)
     ∙ ap₂ (λ (ds : Matrix) (y : Column). ds ++ y ∷ [])
     (each-same _ (λ j c. swapRows i p c) 0 cs (λ j c g u. rw (lt-ltb j (length cs) u)))
     (rw (le-ltb (length cs) (length cs) (omega arith)))
+
+-- the same in a store u that has x in its slot, v being the store afterwards
+pub older-exchanged : (m n p : ℕ) (u v : Column) (cs : Matrix) (x : Column) → length cs ≡ n → isMatrix m (n + 1) u ≡ true → columns m (n + 1) u ≡ cs ++ x ∷ []
+    → v ≡ onColumns m (n + 1) (rowsSwapped n p 0 n) u → columns m (n + 1) v ≡ swapInAll n p cs ++ x ∷ []
+older-exchanged m n p u v cs x wide fits is swapped =
+    let ds = columns m (n + 1) u in
+    ap (columns m (n + 1)) swapped
+    ∙ on-columns m (n + 1) (rowsSwapped n p 0 n) u fits (length-rowsSwapped n p 0 n ds ∙ length-columns m (n + 1) u)
+    (rows-rowsSwapped n m p 0 n ds (columns-rows m (n + 1) u (sized m (n + 1) u fits .size)))
+    ∙ ap (rowsSwapped n p 0 n) is
+    ∙ ap (λ (k : ℕ). rowsSwapped n p 0 k (cs ++ x ∷ [])) (sym wide)
+    ∙ older-swapped n p cs x
 
 -- ---- the whole reduction, from what the calls give: the raw column copied to the slot, permuted there, and updated
 module _ (m n pairs : ℕ) (s c : Column) (store : List ℕ) (fits : isMatrix m (n + 1) s ≡ true) (lc : length c ≡ m) (good : goodList m (min m n) pairs store ≡ true) where

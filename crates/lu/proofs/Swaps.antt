@@ -44,6 +44,15 @@ unfolding numbersOf
 numbers-snoc [] p = refl
 numbers-snoc (q ∷ swaps) p = ap (λ (s : List ℕ). q .0 ∷ q .1 ∷ s) (numbers-snoc swaps p)
 
+-- the pairs before the last
+pairs-front : (swaps : Swaps) (i p : ℕ) → pairsOf (length swaps) (storeOf (swaps ++ (i, p) ∷ [])) ≡ swaps
+unfolding storeOf
+pairs-front swaps i p =
+    let rest : List ℕ = replicate (128 - 2 * length (swaps ++ (i, p) ∷ [])) 0 in
+    ap (λ (s : List ℕ). pairsOf (length swaps) (s ++ rest)) (numbers-snoc swaps (i, p))
+    ∙ ap (pairsOf (length swaps)) (append-assoc (numbersOf swaps) (i ∷ p ∷ []) rest)
+    ∙ pairs-numbers swaps (i ∷ p ∷ rest)
+
 -- the next pair is written over two of the zeros
 module _ (swaps : Swaps) (i p : ℕ) (room : length swaps < 64) where
   pub store-snoc : withPair (length swaps) i p (storeOf swaps) ≡ storeOf (swaps ++ (i, p) ∷ [])
@@ -150,3 +159,25 @@ module _ (pairs i p : ℕ) (store : List ℕ) (room : 2 * pairs + 1 < length sto
   count-held =
       cond-both (λ (s : Swaps) (k : ℕ). length s ≡ k) (eqb p i) (λ e. length-pairs pairs store)
       (λ e. length-append (pairsOf pairs store) ((i, p) ∷ []) ∙ ap (λ (k : ℕ). k + 1) (length-pairs pairs store))
+
+-- the last pair of a store that holds nothing behind it becomes zero: the store of the pairs before it
+zeros-behind : (swaps : Swaps) → length swaps < 64 → storeOf (swaps ++ (0, 0) ∷ []) ≡ storeOf swaps
+unfolding storeOf
+zeros-behind swaps room =
+    let k = length swaps in
+    let left : 128 - 2 * length (swaps ++ (0, 0) ∷ []) ≡ 126 - 2 * k = omega (arith, length-append swaps ((0, 0) ∷ [])) in
+    let two : suc (suc (126 - 2 * k)) ≡ 128 - 2 * k = omega arith in
+    ap₂ (λ (s : List ℕ) (c : ℕ). s ++ replicate {A = ℕ} c 0) (numbers-snoc swaps (0, 0)) left
+    ∙ append-assoc (numbersOf swaps) (0 ∷ 0 ∷ []) (replicate (126 - 2 * k) 0)
+    ∙ ap (λ (c : ℕ). numbersOf swaps ++ replicate {A = ℕ} c 0) two
+
+pub store-erased : (swaps : Swaps) (i p : ℕ) → length swaps < 64 → withPair (length swaps) 0 0 (storeOf (swaps ++ (i, p) ∷ [])) ≡ storeOf swaps
+store-erased swaps i p room =
+    let more : Swaps = swaps ++ (i, p) ∷ [] in
+    let count : length more ≡ length swaps + 1 = length-append swaps ((i, p) ∷ []) in
+    let same : length more ≡ length (swaps ++ (0, 0) ∷ []) = count ∙ sym (length-append swaps ((0, 0) ∷ [])) in
+    let fits : 2 * length swaps + 1 < length (storeOf more) = omega (arith, length-store more (omega arith)) in
+    sym (written-next (length swaps) 0 0 (storeOf more) fits)
+    ∙ ap (λ (s : Swaps). written (s ++ (0, 0) ∷ []) (storeOf more)) (pairs-front swaps i p)
+    ∙ written-store more (swaps ++ (0, 0) ∷ []) (omega arith)
+    ∙ zeros-behind swaps room

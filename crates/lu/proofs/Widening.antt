@@ -13,8 +13,8 @@ use Rattle.blas.specs.Column.{Column, allFinite, zeros}
 use Rattle.blas.proofs.Choice.{test-cases, cond-cases, and-first, and-second}
 use Rattle.store.specs.Columns.{columns, flat, isMatrix, onColumns}
 use Rattle.store.specs.Steps.{column, swapInAll, rowsSwapped}
-use Rattle.store.proofs.Columns.{sized, same-matrix, length-columns, columns-rows, column-length, flat-columns, flat-snoc, on-columns}
-use Rattle.store.proofs.Steps.{length-swapInAll, length-rowsSwapped, rows-rowsSwapped}
+use Rattle.store.proofs.Columns.{sized, same-matrix, length-columns, column-length, flat-columns, flat-snoc}
+use Rattle.store.proofs.Steps.{length-swapInAll}
 use Rattle.refusals.specs.Refusals.{outside}
 use Rattle.refusals.proofs.Tests.{first-none, neither, Inside, inside}
 use Rattle.permutation_sequence.specs.SwapList.{pairsOf, withPair, goodList}
@@ -28,7 +28,7 @@ use Rattle.lu.specs.Held.{Recorded}
 use Rattle.lu.specs.Adding.{reduced, addColumn, earlyRefusal, addingRefusal, written, factorsIn, addingSettled, adding, addedOf}
 use Rattle.lu.specs.Own.{ownRow, ownColumn}
 use Rattle.lu.proofs.Own.{joined, adding-joins}
-use Rattle.lu.proofs.Slot.{older-flat, slot-lent, slot-part, older-swapped}
+use Rattle.lu.proofs.Slot.{older-flat, slot-lent, slot-part, older-exchanged}
 use Rattle.lu.proofs.Swaps.{written-record, count-held}
 
 module _ (r : Record) (s c : Column) (store : List ℕ) where
@@ -174,14 +174,8 @@ module _ (r : Record) (s c : Column) (store : List ℕ) where
         pub joins : (v : Column) (pairs' : ℕ) (store' : List ℕ) → allFinite (midOf (n * m) (n * m + m - n * m) u) ≡ true → length v ≡ length u
             → v ≡ onColumns m (n + 1) (rowsSwapped n p 0 n) u → Recorded n p (r .pairs) pairs' store store' → Promise (Accepted (recordOf m (n + 1) pairs')) v store'
         joins v pairs' store' ok kv swapped rec =
-            let cs = columns m (n + 1) u in
             let fits : isMatrix m (n + 1) u ≡ true = same-matrix m (n + 1) s u long ∙ passed-by .room in
-            let made : columns m (n + 1) v ≡ swapInAll n p (columns m n s) ++ ownColumn n x ∷ [] =
-            ap (columns m (n + 1)) swapped
-            ∙ on-columns m (n + 1) (rowsSwapped n p 0 n) u fits (length-rowsSwapped n p 0 n cs ∙ length-columns m (n + 1) u) (rows-rowsSwapped n m p 0 n cs (columns-rows m (n + 1) u (long ∙ size)))
-            ∙ ap (rowsSwapped n p 0 n) stepped
-            ∙ ap (λ (k : ℕ). rowsSwapped n p 0 k (columns m n s ++ ownColumn n x ∷ [])) (sym wide)
-            ∙ older-swapped n p (columns m n s) (ownColumn n x) in
+            let made : columns m (n + 1) v ≡ swapInAll n p (columns m n s) ++ ownColumn n x ∷ [] = older-exchanged m n p u v (columns m n s) (ownColumn n x) wide fits stepped swapped in
             promise-added (ownColumn n x) v p pairs' store' (row ∙ ap (ownRow n) in-slot) refl (ap allFinite (sym its-slot) ∙ ok) (kv ∙ long) made rec
 
 -- ---- what adding changes

@@ -3,3 +3,4 @@ pub mod Factoring
 pub mod Held
 pub mod Adding
 pub mod Own
+pub mod Removing

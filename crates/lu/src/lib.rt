@@ -1,19 +1,20 @@
 // LU decomposition with partial (row) pivoting: linalg/lu.rs of nalgebra 0.35.0, for f64 matrices that lie column after column. What is read off the
 // factors is in the crate `from_factors`.
 ghost use mathlib.Core.Path.{_≡_};
-ghost use mathlib.Core.Bool.{true};
+ghost use mathlib.Core.Bool.{true, _&&_};
 ghost use mathlib.Core.List.{[], _∷_, _++_};
 ghost use Prim.Native.Nat.{_+_, _*_, _<_, _≤_, min};
 ghost use lib.ListN.{length, replicate};
 ghost use Rattle.blas.specs.Each.{turnsFrom};
 ghost use Rattle.store.specs.Columns.{columns, isMatrix};
-ghost use Rattle.permutation_sequence.specs.SwapList.{goodList};
+ghost use Rattle.permutation_sequence.specs.SwapList.{pairsOf, goodList};
 ghost use Rattle.store.specs.Steps.{swapInAll, eliminated};
 ghost use Rattle.lu.specs.Elimination.{Factors, scaled, step, eliminate};
 ghost use Rattle.lu.specs.Factoring.{storeOf, factoringRefusal, factoring, factoredOf};
 ghost use Rattle.lu.specs.Held.{Held, Recorded, AllAdded};
 ghost use Rattle.lu.specs.Adding.{reduced, factorsIn, earlyRefusal, adding, addedOf};
 ghost use Rattle.lu.specs.Own.{updatedAt, ownRow, ownColumn};
+ghost use Rattle.lu.specs.Removing.{undoes, goodUndoing, removingRefusal, removing, removedOf};
 
 // What factoring tells beside the lent factors and swap store. Every call on factors takes the three together.
 pub struct Record {
@@ -273,6 +274,91 @@ pub fn add_column(s: &mut [f64], c: &[f64], swaps: &mut [usize], told: Record) -
         rows: m,
         columns: n + 1,
         pairs: now_pairs,
+    })
+}
+
+// What removing a column answers: the new record, or a refusal's number with the old record.
+pub enum Removed {
+    Accepted(Record),
+    Refused { number: usize, told: Record },
+}
+
+// Whether the last pair begins with the number of the last column.
+fn undoes_swap(swaps: &[usize], pairs: usize, last: usize) -> bool
+    requires { ⌜ (2 * pairs ≤ length (now swaps)) × (pairs ≤ 64) ⌝ }
+    ensures { λ r. ⌜ r ≡ undoes last (pairsOf pairs (now (swaps .entry))) ⌝ }
+{
+    if pairs == 0 {
+        return false;
+    }
+    swaps[2 * pairs - 2] == last
+}
+
+// Whether the list is good, and the last column, number `last`, can be taken off it.
+fn is_removable(swaps: &[usize], pairs: usize, m: usize, last: usize) -> bool
+    requires { ⌜ last < 64 ⌝ }
+    ensures { λ r. ⌜ r ≡ (goodList m (min m (last + 1)) pairs (now (swaps .entry)) && goodUndoing m last (pairsOf pairs (now (swaps .entry)))) ⌝ }
+{
+    if !permutation_sequence::is_good_list(swaps, pairs, m, store::min(m, last + 1)) {
+        return false;
+    }
+    if undoes_swap(swaps, pairs, last) {
+        return last <= swaps[2 * pairs - 1];
+    }
+    pairs <= store::min(m, last)
+}
+
+// The number of the refusal before the work, 0 for none.
+fn removing_refusal(s: &[f64], swaps: &[usize], told: Record) -> usize
+    ensures { λ r. ⌜ r ≡ removingRefusal told (now (s .entry)) (now (swaps .entry)) ⌝ }
+{
+    let m = told.rows;
+    let n = told.columns;
+    if refusals::outside(1, m) | refusals::outside(1, n) {
+        return 1;
+    }
+    let lengths = store::is_matrix(s, m, n) & (swaps.len() == 128);
+    let list = is_removable(swaps, told.pairs, m, n - 1);
+    let numbers = blas::all_finite(s);
+    refusals::first(
+        3,
+        !lengths,
+        refusals::first(4, !list, refusals::first(5, !numbers, 0)),
+    )
+}
+
+// Takes the last column off the factors in s: the factors before it was added, its slot zero.
+pub fn remove_column(s: &mut [f64], swaps: &mut [usize], told: Record) -> Removed
+    ensures { λ r. ⌜ r ≡ removedOf (removing told (now (s .entry)) (now (swaps .entry))) ⌝ }
+    ensures { λ _. ⌜ now (s .exit) ≡ removing told (now (s .entry)) (now (swaps .entry)) .factors ⌝ }
+    ensures { λ _. ⌜ now (swaps .exit) ≡ removing told (now (s .entry)) (now (swaps .entry)) .store ⌝ }
+{
+    let m = told.rows;
+    let columns = told.columns;
+    let pairs = told.pairs;
+    let number = removing_refusal(s, swaps, told);
+    if number != 0 {
+        return Removed::Refused { number, told };
+    }
+    let n = columns - 1;
+    let a = n * m;
+    let e = a + m;
+    blas::fill_zero(&mut s[a..e]);
+    if !undoes_swap(swaps, pairs, n) {
+        return Removed::Accepted(Record {
+            rows: m,
+            columns: n,
+            pairs,
+        });
+    }
+    let second = swaps[2 * pairs - 1];
+    store::swap_rows(s, m, n + 1, n, second, 0, n);
+    swaps[2 * pairs - 2] = 0;
+    swaps[2 * pairs - 1] = 0;
+    Removed::Accepted(Record {
+        rows: m,
+        columns: n,
+        pairs: pairs - 1,
     })
 }
 
