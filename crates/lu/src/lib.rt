@@ -335,7 +335,7 @@ pub fn remove_column(s: &mut [f64], swaps: &mut [usize], told: Record) -> Remove
 {
     let m = told.rows;
     let columns = told.columns;
-    let pairs = told.pairs;
+    let count = told.pairs;
     let number = removing_refusal(s, swaps, told);
     if number != 0 {
         return Removed::Refused { number, told };
@@ -344,21 +344,21 @@ pub fn remove_column(s: &mut [f64], swaps: &mut [usize], told: Record) -> Remove
     let a = n * m;
     let e = a + m;
     blas::fill_zero(&mut s[a..e]);
-    if !undoes_swap(swaps, pairs, n) {
+    if !undoes_swap(swaps, count, n) {
         return Removed::Accepted(Record {
             rows: m,
             columns: n,
-            pairs,
+            pairs: count,
         });
     }
-    let second = swaps[2 * pairs - 1];
+    let second = swaps[2 * count - 1];
     store::swap_rows(s, m, n + 1, n, second, 0, n);
-    swaps[2 * pairs - 2] = 0;
-    swaps[2 * pairs - 1] = 0;
+    swaps[2 * count - 2] = 0;
+    swaps[2 * count - 1] = 0;
     Removed::Accepted(Record {
         rows: m,
         columns: n,
-        pairs: pairs - 1,
+        pairs: count - 1,
     })
 }
 

@@ -13,6 +13,7 @@ use from_factors::Invertible;
 use lu::Added;
 use lu::Factored;
 use lu::Record;
+use lu::Removed;
 use panel_file::Written;
 use permutation_sequence::Appended;
 use refusals::Answer;
@@ -87,6 +88,20 @@ pub fn add_column(
     match lu::add_column(s, column, swaps, told) {
         Added::Accepted(new) => put_factors(text, from, 0, new.pairs, s, swaps),
         Added::Refused { number, told } => put_factors(text, from, number, told.pairs, s, swaps),
+    }
+}
+
+// Op 22.
+pub fn remove_column(
+    text: &mut [u8],
+    from: usize,
+    told: Record,
+    s: &mut [f64],
+    swaps: &mut [usize],
+) -> usize {
+    match lu::remove_column(s, swaps, told) {
+        Removed::Accepted(new) => put_factors(text, from, 0, new.pairs, s, swaps),
+        Removed::Refused { number, told } => put_factors(text, from, number, told.pairs, s, swaps),
     }
 }
 

@@ -91,6 +91,25 @@ pub fn add_column(
     )
 }
 
+// Op 22.
+pub fn remove_column(
+    text: &mut [u8],
+    from: usize,
+    sizes: Sizes,
+    s: &mut [f64],
+    swaps: &mut [usize],
+    bytes: &mut [u8],
+    going: &mut bool,
+) -> usize {
+    let entries = read_floats(s, bytes, going);
+    let list = read_wholes(swaps, bytes, going);
+    let told = read_told(sizes, bytes, going);
+    if *going {
+        return calls::remove_column(text, from, told, &mut s[..entries], &mut swaps[..list]);
+    }
+    from
+}
+
 // What op 3 takes behind the factors.
 fn solve(
     text: &mut [u8],

@@ -66,6 +66,7 @@ fn one_case(
         19 => cases::rank(text, at, sizes, a, swaps, bytes, going),
         20 => cases::panel_answer(text, at, sizes.k, bytes, going),
         21 => cases::write_file(text, at, sizes, a, b, bytes, going),
+        22 => cases::remove_column(text, at, sizes, x, swaps, bytes, going),
         _ => {
             *going = false;
             at
