@@ -11,7 +11,7 @@ use Rattle.blas.specs.Column.{axpyFrom, allFinite}
 use Rattle.blas.specs.Dot.{addProduct, addBlock, eightSums, pairSums, dotOf}
 use Rattle.store.specs.Columns.{columns, flat, isMatrix, onColumns}
 use Rattle.refusals.specs.Refusals.{firstOf, outside, seventh, tested}
-use Rattle.solve.specs.declared.Pass.the-variants.{Lower, GivenDiagonal, TransposedLower}
+use Rattle.solve.specs.declared.Pass.the-variants.{Lower, GivenDiagonal, TransposedLower, CorrectedDiagonal}
 use Rattle.solve.specs.Triangular.{lowerRow, keptRow, transposedLowerRow, solvedRow, turn, solvedColumn, solvedFrom, solvedInPlace}
 use Rattle.solve.specs.Calls.{sizesOutside, lengthsFit, numbersFinite, zeroFrom, zeroOnDiagonal, refusalOf, solving}
 
@@ -48,6 +48,17 @@ transposed-lower = refl
 pub given-diagonal : solving (GivenDiagonal n2) 2 1 (n0 ∷ n1 ∷ n0 ∷ n0 ∷ []) (n4 ∷ n6 ∷ []) (n0 ∷ n0 ∷ []) ≡ record { number = 0; result = n4 ∷ n4 ∷ [] }
 unfolding computes
 given-diagonal = refl
+
+-- the same, corrected: 2 and 2
+pub corrected-diagonal : solving (CorrectedDiagonal n2) 2 1 (n0 ∷ n1 ∷ n0 ∷ n0 ∷ []) (n4 ∷ n6 ∷ []) (n0 ∷ n0 ∷ []) ≡ record { number = 0; result = n2 ∷ n2 ∷ [] }
+unfolding computes
+corrected-diagonal = refl
+
+-- 1 by 1, given diagonal 2^-1000, b 2^100: the Rust's way forms no quotient and is accepted; corrected, the division overflows
+pub division-overflows : (solving (GivenDiagonal (fin false 1 (negsuc 999))) 1 1 (n0 ∷ []) (fin false 1 (pos 100) ∷ []) (n0 ∷ []) ≡ record { number = 0; result = fin false 1 (pos 100) ∷ [] })
+    × (solving (CorrectedDiagonal (fin false 1 (negsuc 999))) 1 1 (n0 ∷ []) (fin false 1 (pos 100) ∷ []) (n1 ∷ []) ≡ record { number = 7; result = n0 ∷ [] })
+unfolding computes
+division-overflows = (refl, refl)
 
 -- 1 by 1, 2^-1000: the right-hand columns 1 and 1 are accepted, and 1 and 2^100 are refused with 7
 pub another-refuses : (solving Lower 1 2 (fin false 1 (negsuc 999) ∷ []) (n1 ∷ n1 ∷ []) (n0 ∷ n0 ∷ []) .number ≡ 0)

@@ -5,4 +5,5 @@ pub mod Outcomes
 pub mod Accepted
 pub mod Lengths
 pub mod Alone
+pub mod Corrected
 pub mod Figures

@@ -1,4 +1,5 @@
--- Document 01, "Solving": the five triangular solves, row by row and column by column. Each right-hand column is solved by itself.
+-- Document 01, "Solving": the five triangular solves, row by row and column by column, and beside the given diagonal the corrected one (document
+-- 02, request 4). Each right-hand column is solved by itself.
 use mathlib.Core.Bool.{cond}
 use mathlib.Core.List.{_++_}
 use Prim.Native.Nat.{ℕ, _+_, _-_}
@@ -10,7 +11,7 @@ use Rattle.blas.specs.Dot.{dotOf}
 use Rattle.store.specs.Columns.{columns, isMatrix, onColumns}
 use Rattle.store.specs.Steps.{Matrix, column}
 use Rattle.solve.specs.declared.Pass.{Pass}
-use Rattle.solve.specs.declared.Pass.the-variants.{Lower, Upper, GivenDiagonal, TransposedLower, TransposedUpper}
+use Rattle.solve.specs.declared.Pass.the-variants.{Lower, Upper, GivenDiagonal, TransposedLower, TransposedUpper, CorrectedDiagonal}
 
 -- what f makes of the given diagonal; `own` where none is given
 abbrev pub given : {A : Type 0} → Pass → (Float → A) → A → A
@@ -19,6 +20,7 @@ given Upper f own = own
 given (GivenDiagonal d) f own = f d
 given TransposedLower f own = own
 given TransposedUpper f own = own
+given (CorrectedDiagonal d) f own = f d
 
 -- the number that row i is divided by, l being column i of the matrix
 abbrev pub divisor : Pass → Column → ℕ → Float
@@ -47,13 +49,15 @@ transposedLowerRow d l i b = set b i (div binary64 (sub binary64 (entry b i) (do
 unfoldable pub transposedUpperRow : Float → Column → ℕ → Column → Column
 transposedUpperRow d l i b = set b i (div binary64 (sub binary64 (entry b i) (dotOf (take i l) (take i b))) d)
 
--- what each solve does in row i, d being the number to divide by
+-- What each solve does in row i, d being the number to divide by. The corrected given diagonal (document 02, request 4) is a diagonal like
+-- the matrix's own: "each entry is divided by d, stored, and drives the updates".
 abbrev pub rowBy : Pass → Float → Column → ℕ → Column → Column
 rowBy Lower d l i b = lowerRow d l i b
 rowBy Upper d l i b = upperRow d l i b
 rowBy (GivenDiagonal _) d l i b = keptRow d l i b
 rowBy TransposedLower d l i b = transposedLowerRow d l i b
 rowBy TransposedUpper d l i b = transposedUpperRow d l i b
+rowBy (CorrectedDiagonal _) d l i b = lowerRow d l i b
 
 -- row i of a solve, l being column i of the matrix
 unfoldable pub solvedRow : Pass → Column → ℕ → Column → Column
@@ -68,10 +72,16 @@ rowAt Upper n k = n - 1 - k
 rowAt (GivenDiagonal d) n k = k
 rowAt TransposedLower n k = n - 1 - k
 rowAt TransposedUpper n k = k
+rowAt (CorrectedDiagonal d) n k = k
 
--- every row has its turn; given a diagonal, all but the last, whose quotient is never formed
+-- every row has its turn; where a given diagonal leaves the entries undivided, all but the last, whose quotient is never formed
 abbrev pub turnsOf : Pass → ℕ → ℕ
-turnsOf pass n = given pass (λ d. n - 1) n
+turnsOf Lower n = n
+turnsOf Upper n = n
+turnsOf (GivenDiagonal d) n = n - 1
+turnsOf TransposedLower n = n
+turnsOf TransposedUpper n = n
+turnsOf (CorrectedDiagonal d) n = n
 
 -- turn k on a right-hand column, cs being the columns of the matrix
 unfoldable pub turn : Pass → ℕ → Matrix → ℕ → Column → Column

@@ -9,13 +9,15 @@ ghost use Rattle.solve.specs.Triangular.{divisor, lowerRow, upperRow, ke
 ghost use Rattle.solve.specs.Calls.{zeroOnDiagonal, sizesOutside, lengthsFit, givenFinite, numbersFinite, zeroDivisor, refusalOf, solving};
 use refusals::Answer;
 
-// Which solve it is: the triangle read, the diagonal divided by, and whether the matrix is transposed.
+// Which solve it is: the triangle read, the diagonal divided by, and whether the matrix is transposed. A given diagonal is the Rust's: it
+// leaves the entries undivided. Corrected, it divides them.
 pub enum Pass {
     Lower,
     Upper,
     GivenDiagonal(f64),
     TransposedLower,
     TransposedUpper,
+    CorrectedDiagonal(f64),
 }
 
 // The number that row i is divided by: the given diagonal, or else the matrix's own.
@@ -26,6 +28,7 @@ fn divisor(pass: Pass, col: &[f64], i: usize) -> f64
     let own = col[i];
     match pass {
         Pass::GivenDiagonal(d) => d,
+        Pass::CorrectedDiagonal(d) => d,
         _ => own,
     }
 }
@@ -92,6 +95,7 @@ fn solve_row(pass: Pass, col: &[f64], b: &mut [f64], i: usize)
         Pass::GivenDiagonal(_) => kept_row(d, col, b, i),
         Pass::TransposedLower => transposed_lower_row(d, col, b, i),
         Pass::TransposedUpper => transposed_upper_row(d, col, b, i),
+        Pass::CorrectedDiagonal(_) => lower_row(d, col, b, i),
     }
 }
 
@@ -107,6 +111,7 @@ fn row_at(pass: Pass, n: usize, k: usize) -> usize
         Pass::GivenDiagonal(_) => k,
         Pass::TransposedLower => up,
         Pass::TransposedUpper => k,
+        Pass::CorrectedDiagonal(_) => k,
     }
 }
 
@@ -182,6 +187,7 @@ fn given_finite(pass: Pass) -> bool
 {
     match pass {
         Pass::GivenDiagonal(d) => blas::is_finite(d),
+        Pass::CorrectedDiagonal(d) => blas::is_finite(d),
         _ => true,
     }
 }
@@ -192,6 +198,7 @@ fn zero_divisor(pass: Pass, t: &[f64], n: usize) -> bool
 {
     match pass {
         Pass::GivenDiagonal(d) => blas::is_zero(d),
+        Pass::CorrectedDiagonal(d) => blas::is_zero(d),
         _ => zero_on_diagonal(t, n),
     }
 }
@@ -272,7 +279,7 @@ pub fn solve_upper_triangular(t: &[f64], n: usize, b: &[f64], k: usize, x: &mut 
     solve_by(Pass::Upper, t, n, b, k, x)
 }
 
-// The lower triangle of t, by the diagonal `diag`: its quotients drive the updates, and no entry is divided.
+// The lower triangle of t, by the diagonal `diag`, the Rust's way: its quotients drive the updates, and no entry is divided.
 pub fn solve_lower_triangular_with_diag(
     t: &[f64],
     n: usize,
@@ -285,6 +292,21 @@ pub fn solve_lower_triangular_with_diag(
     ensures { λ _. ⌜ now (x .exit) ≡ solving (Pass.GivenDiagonal diag) n k (now (t .entry)) (now (b .entry)) (now (x .entry)) .result ⌝ }
 {
     solve_by(Pass::GivenDiagonal(diag), t, n, b, k, x)
+}
+
+// The lower triangle of t, by the diagonal `diag`, corrected: each entry is divided by it, stored, and drives the updates.
+pub fn solve_lower_triangular_with_diag_corrected(
+    t: &[f64],
+    n: usize,
+    b: &[f64],
+    k: usize,
+    x: &mut [f64],
+    diag: f64,
+) -> Answer
+    ensures { λ r. ⌜ r ≡ answerOf (solving (Pass.CorrectedDiagonal diag) n k (now (t .entry)) (now (b .entry)) (now (x .entry)) .number) ⌝ }
+    ensures { λ _. ⌜ now (x .exit) ≡ solving (Pass.CorrectedDiagonal diag) n k (now (t .entry)) (now (b .entry)) (now (x .entry)) .result ⌝ }
+{
+    solve_by(Pass::CorrectedDiagonal(diag), t, n, b, k, x)
 }
 
 // The lower triangle of t, transposed.

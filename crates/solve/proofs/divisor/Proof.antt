@@ -9,7 +9,10 @@ returns : tie.Need-returns
 returns c = rw (c .before .pass .given .1)
 
 returns-2 : tie.Need-returns-2
-returns-2 c = own-stands (c .before .before .args .pass) _ _ (c .match .keys2)
+returns-2 c = rw (c .before .pass2 .given .1)
+
+returns-3 : tie.Need-returns-3
+returns-3 c = own-stands (c .before .before .args .pass) _ _ (c .match .keys3)
 
 pub divisor-spec : {M : Type 1} → statement M
 divisor-spec =
@@ -18,5 +21,7 @@ divisor-spec =
     (λ c. search needs)
     (λ c. search needs)
     (λ c. search needs)
+    (λ c. search needs)
     returns
-    returns-2)
+    returns-2
+    returns-3)

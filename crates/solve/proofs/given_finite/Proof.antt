@@ -8,7 +8,10 @@ returns : tie.Need-returns
 returns c = rw (c .before .before .pass .given .1) (c .is-finite .ensures)
 
 returns-2 : tie.Need-returns-2
-returns-2 c = own-stands (c .before .args .pass) _ _ (c .match .keys2)
+returns-2 c = rw (c .before .before .pass2 .given .1) (c .is-finite2 .ensures)
+
+returns-3 : tie.Need-returns-3
+returns-3 c = own-stands (c .before .args .pass) _ _ (c .match .keys3)
 
 pub given-finite-spec : {M : Type 1} → statement M
 given-finite-spec =
@@ -16,5 +19,8 @@ given-finite-spec =
     (tie.spec
     (λ c. search needs)
     (λ c κs. search needs)
+    (λ c. search needs)
+    (λ c κs. search needs)
     returns
-    returns-2)
+    returns-2
+    returns-3)

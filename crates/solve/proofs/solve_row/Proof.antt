@@ -19,10 +19,15 @@ returns-4 c = row-done _ _ _ _ _ _ _ (c .before .before .before .before .enum-to
 returns-5 : tie.Need-returns-5
 returns-5 c = row-done _ _ _ _ _ _ _ (c .before .before .before .before .enum-told5 .given .1) (c .before .before .before .before .before .before .divisor .ensures) (c .before .before .transposed-upper-row .ensures)
 
+returns-6 : tie.Need-returns-6
+returns-6 c = row-done _ _ _ _ _ _ _ (c .before .before .before .before .enum-told6 .given .1) (c .before .before .before .before .before .before .divisor .ensures) (c .before .before .lower-row2 .ensures)
+
 pub solve-row-spec : {M : Type 1} → statement M
 solve-row-spec =
     tie.close
     (tie.spec
+    (λ c κs. search needs)
+    (λ c. search needs)
     (λ c κs. search needs)
     (λ c. search needs)
     (λ c κs. search needs)
@@ -43,4 +48,6 @@ solve-row-spec =
     (λ c. search needs)
     returns-4
     (λ c. search needs)
-    returns-5)
+    returns-5
+    (λ c. search needs)
+    returns-6)

@@ -1,7 +1,7 @@
--- All but the last row where a diagonal is given, else all. Assumes nothing.
+-- All but the last row where a given diagonal leaves the entries undivided, else all. Assumes nothing.
 use native.Mathlib.Omega.{arith}
 use borrow.Author.Needs.{needs}
-use Rattle.solve.proofs.Given.{own-stands}
+use Rattle.solve.proofs.Given.{all-turns}
 use Rattle.solve.proofs.turns_of.Statement.{statement}
 use Rattle.solve.proofs.turns_of.Tie as tie
 
@@ -9,7 +9,7 @@ returns : tie.Need-returns
 returns c = rw (c .enum-told .given .1) (omega arith)
 
 returns-2 : tie.Need-returns-2
-returns-2 c = own-stands (c .before .before .args .pass) _ _ (c .match .keys2)
+returns-2 c = all-turns (c .before .before .args .pass) _ (c .match .keys2)
 
 pub turns-of-spec : {M : Type 1} → statement M
 turns-of-spec =

@@ -9,7 +9,10 @@ returns : tie.Need-returns
 returns c = rw (c .before .before .pass .given .1) (c .is-zero .ensures)
 
 returns-2 : tie.Need-returns-2
-returns-2 c = (c .zero-on-diagonal .ensures) ∙ own-stands (c .before .before .before .args .pass) _ _ (c .before .match .keys2)
+returns-2 c = rw (c .before .before .pass2 .given .1) (c .is-zero2 .ensures)
+
+returns-3 : tie.Need-returns-3
+returns-3 c = (c .zero-on-diagonal .ensures) ∙ own-stands (c .before .before .before .args .pass) _ _ (c .before .match .keys3)
 
 pub zero-divisor-spec : {M : Type 1} → statement M
 zero-divisor-spec =
@@ -17,6 +20,9 @@ zero-divisor-spec =
     (tie.spec
     (λ c. search needs)
     (λ c κs. search needs)
+    (λ c. search needs)
+    (λ c κs. search needs)
     (λ c κs. search needs)
     returns
-    returns-2)
+    returns-2
+    returns-3)
