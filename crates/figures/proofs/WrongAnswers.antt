@@ -16,7 +16,7 @@ use Rattle.store.specs.Columns.{columns, flat, isMatrix, onColumns}
 use Rattle.refusals.specs.Refusals.{firstOf, outside, Outcome, seventh, tested}
 use Rattle.permutation_sequence.specs.SwapList.{pairsOf, holds, goodPair, goodPairs, goodList}
 use Rattle.solve.specs.declared.Pass.{Pass}
-use Rattle.solve.specs.declared.Pass.the-variants.{Lower, Upper, GivenDiagonal, TransposedLower, TransposedUpper}
+use Rattle.solve.specs.declared.Pass.the-variants.{Lower, Upper, GivenDiagonal, TransposedLower, TransposedUpper, CorrectedDiagonal}
 use Rattle.solve.specs.Triangular.{lowerRow, upperRow, keptRow, transposedLowerRow, transposedUpperRow, solvedRow, turn, solvedColumn, solvedFrom, solvedInPlace}
 use Rattle.solve.specs.Calls.{sizesOutside, lengthsFit, numbersFinite, zeroFrom, zeroOnDiagonal, refusalOf, solving}
 use Rattle.ranking.specs.Ranking.{Ranking, ranking, rankingRefusal}
@@ -102,6 +102,24 @@ unfolding solves
 solve-lower-triangular-with-diag =
     both (λ (x : Float × Sides). bySides (GivenDiagonal (x .0)) (x .1)) (λ x. held (x .1)) (n2, (1, (1, (n0 ∷ [], (n4 ∷ [], n0 ∷ []))))) refl
     (λ d. let z : _≡_ {A = ℕ} 0 1 = cc in omega arith)
+
+two-not-four : n2 ∷ [] ≡ n4 ∷ [] → ⊥
+two-not-four d = let z : _≡_ {A = ℕ} 1 2 = cc in omega arith
+
+abbrev byCorrected : Float × Sides → Outcome
+byCorrected x = bySides (CorrectedDiagonal (x .0)) (x .1)
+
+pub solve-lower-triangular-with-diag-corrected : BothShutOut byCorrected (λ x. held (x .1))
+unfolding solves
+solve-lower-triangular-with-diag-corrected =
+    both byCorrected (λ x. held (x .1)) (n2, (1, (1, (n0 ∷ [], (n4 ∷ [], n0 ∷ []))))) refl (λ d. let z : _≡_ {A = ℕ} 0 1 = cc in omega arith)
+
+-- and a program that runs the Rust's way: 4, where the corrected call gives 2
+pub not-the-undivided : ShutsOut byCorrected (λ x. bySides (GivenDiagonal (x .0)) (x .1))
+unfolding solves
+not-the-undivided =
+    shut-out byCorrected (λ x. bySides (GivenDiagonal (x .0)) (x .1)) (n2, (1, (1, (n0 ∷ [], (n4 ∷ [], n0 ∷ [])))))
+    (λ d. let e : n2 ∷ [] ≡ n4 ∷ [] = ap (λ (o : Outcome). o .result) d in two-not-four e)
 
 -- idle; and the same whatever it is given
 abbrev inPlace : Pass × (ℕ × (ℕ × (Column × Column))) → Column
