@@ -181,7 +181,7 @@ pub fn is_invertible(
     }
 }
 
-// The call of ops 9 to 13; `diagonal` is op 11's.
+// The call of ops 9 to 13 and 24; `diagonal` is that of ops 11 and 24.
 fn run_triangular(
     op: u8,
     t: &[f64],
@@ -203,10 +203,13 @@ fn run_triangular(
     if op == 12 {
         return solve::tr_solve_lower_triangular(t, n, b, k, x);
     }
+    if op == 24 {
+        return solve::solve_lower_triangular_with_diag_corrected(t, n, b, k, x, diagonal);
+    }
     solve::tr_solve_upper_triangular(t, n, b, k, x)
 }
 
-// Ops 9 to 13.
+// Ops 9 to 13 and 24.
 pub fn solve_triangular(
     text: &mut [u8],
     from: usize,

@@ -230,16 +230,16 @@ pub fn of_factors(
     )
 }
 
-// Reads op 11's diagonal.
+// Reads the diagonal of ops 11 and 24.
 fn read_diagonal(op: u8, bytes: &mut [u8], going: &mut bool) -> f64 {
-    if op != 11 {
+    if (op != 11) & (op != 24) {
         return 0.0;
     }
     read_exactly(1, bytes, going);
     float_of(bits_of(bytes, 0))
 }
 
-// What ops 9 to 13 take behind the matrix.
+// What ops 9 to 13 and 24 take behind the matrix.
 fn behind_triangle(
     text: &mut [u8],
     from: usize,
@@ -269,7 +269,7 @@ fn behind_triangle(
     from
 }
 
-// Ops 9 to 13.
+// Ops 9 to 13 and 24.
 pub fn solve_triangular(
     text: &mut [u8],
     from: usize,
