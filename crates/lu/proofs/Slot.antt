@@ -22,6 +22,7 @@ use Rattle.store.specs.Columns.{columns, flat, isMatrix, onColumns}
 use Rattle.store.specs.Steps.{Matrix, column, swapInAll, rowsSwapped, stepColumn}
 use Rattle.store.proofs.Columns.{sized, is-matrix, length-columns, columns-rows, flat-columns, columns-front, columns-snoc, part-column, column-length, column-lent, on-flat, on-columns, entry-at}
 use Rattle.store.proofs.Steps.{length-rowsSwapped, rows-rowsSwapped}
+use Rattle.store.proofs.Within.{within-columns}
 use Rattle.permutation_sequence.specs.SwapList.{Swaps, pairsOf, held, goodList}
 use Rattle.permutation_sequence.specs.Permute.{permute, rowsPermuted, inOrder}
 use Rattle.permutation_sequence.proofs.Permute.{rows-each}
@@ -80,7 +81,7 @@ one-column m swaps x h len =
     ∙ ap (permute swaps) (take-all m x (omega arith))
 
 -- ---- the updates
-module _ (m n i : ℕ) (s : Column) (len : length s ≡ (n + 1) * m) (hi : i < n) (hm : i < m) where
+module _ (m n i : ℕ) (s : Column) (hi : i < n) (hm : i < m) where
   -- a zero on the packed diagonal
   pub update-none : (d : Float) → d ≡ getD s (i * m + i) nan → isZero d ≡ true → columns m (n + 1) s ≡ updatedAt n i (columns m (n + 1) s)
   unfolding updatedAt update
@@ -89,21 +90,14 @@ module _ (m n i : ℕ) (s : Column) (len : length s ≡ (n + 1) * m) (hi : i < n
       let zero-there : isZero (entry (column cs i) i) ≡ true = ap isZero (sym (is ∙ entry-at m (n + 1) i i s nan (omega arith) hm)) ∙ z in
       rw zero-there (sym (set-getD cs n []))
 
-  -- l is a copy of column i
-  pub update-done : (d : Float) (l was c : Column) → d ≡ getD s (i * m + i) nan → isZero d ≡ false → length was ≡ m
-      → l ≡ copied (midOf (i * m) (i * m + m - i * m) s) was
-      → length c ≡ length (midOf (n * m) (n * m + m - n * m) s) → c ≡ stepColumn i l (midOf (n * m) (n * m + m - n * m) s)
-      → columns m (n + 1) (putMid (n * m) (n * m + m - n * m) s c) ≡ updatedAt n i (columns m (n + 1) s)
+  -- the slot is stepped within the store
+  pub update-done : (d : Float) (t : Column) → d ≡ getD s (i * m + i) nan → isZero d ≡ false → isMatrix m (n + 1) s ≡ true
+      → t ≡ onColumns m (n + 1) (λ cs. set cs n (stepColumn i (column cs i) (column cs n))) s → columns m (n + 1) t ≡ updatedAt n i (columns m (n + 1) s)
   unfolding updatedAt update
-  update-done d l was c is z fit copy kept made =
+  update-done d t is z fits made =
       let cs = columns m (n + 1) s in
-      let hi' : i < n + 1 = omega arith in
-      let some : isZero (entry (column cs i) i) ≡ false = ap isZero (sym (is ∙ entry-at m (n + 1) i i s nan hi' hm)) ∙ z in
-      let l-is : l ≡ column cs i =
-      copy ∙ copied-whole (midOf (i * m) (i * m + m - i * m) s) was (column-length m (n + 1) i s hi' len ∙ sym fit) ∙ part-column m (n + 1) i s hi' in
-      column-lent (stepColumn i l) m (n + 1) n s c (omega arith) len kept made
-      ∙ ap (λ (x : Column). set cs n (stepColumn i x (column cs n))) l-is
-      ∙ rw some
+      let some : isZero (entry (column cs i) i) ≡ false = ap isZero (sym (is ∙ entry-at m (n + 1) i i s nan (omega arith) hm)) ∙ z in
+      within-columns i n m (n + 1) s fits (omega arith) t made ∙ rw some
 
 -- the updates of the last column, by columns that stay
 updated-last : (cs : Matrix) (x : Column) (i : ℕ) → i < length cs → updatedAt (length cs) i (cs ++ x ∷ []) ≡ cs ++ update cs i x ∷ []

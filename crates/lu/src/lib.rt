@@ -180,33 +180,27 @@ fn adding_refusal(s: &[f64], c: &[f64], swaps: &[usize], told: Record) -> usize
     )
 }
 
-// Step 5 on the new column, number n, by column i, whose multipliers are copied to l; nothing where the packed diagonal is zero.
-fn update_by(s: &mut [f64], m: usize, n: usize, i: usize, l: &mut [f64])
-    requires { ⌜ (isMatrix m (n + 1) (now s) ≡ true) × (i < n) × (i < m) × (length (now l) ≡ m) ⌝ }
+// Step 5 on the new column, number n, by column i; nothing where the packed diagonal is zero.
+fn update_by(s: &mut [f64], m: usize, n: usize, i: usize)
+    requires { ⌜ (isMatrix m (n + 1) (now s) ≡ true) × (i < n) × (i < m) ⌝ }
     ensures { λ _. ⌜ columns m (n + 1) (now (s .exit)) ≡ updatedAt n i (columns m (n + 1) (now (s .entry))) ⌝ }
 {
-    let a = i * m;
-    let e = a + m;
-    let q = a + i;
-    let diag = s[q];
+    let diag = s[i * m + i];
     if blas::is_zero(diag) {
         return;
     }
-    blas::copy(l, &s[a..e]);
-    let b = n * m;
-    let d = b + m;
-    store::step_column(&mut s[b..d], l, i);
+    store::step_within(s, m, n + 1, i, n);
 }
 
-// That by each column i below min(m, n), in turn; l is scratch.
-fn update_all(s: &mut [f64], m: usize, n: usize, l: &mut [f64])
-    requires { ⌜ (isMatrix m (n + 1) (now s) ≡ true) × (length (now l) ≡ m) ⌝ }
+// That by each column i below min(m, n), in turn.
+fn update_all(s: &mut [f64], m: usize, n: usize)
+    requires { ⌜ isMatrix m (n + 1) (now s) ≡ true ⌝ }
     ensures { λ _. ⌜ columns m (n + 1) (now (s .exit)) ≡ turnsFrom (updatedAt n) 0 (min m n) (columns m (n + 1) (now (s .entry))) ⌝ }
 {
     let steps = store::min(m, n);
     let mut i = 0;
     while i < steps {
-        update_by(s, m, n, i, l);
+        update_by(s, m, n, i);
         i += 1;
     }
 }
@@ -220,8 +214,7 @@ fn reduce_column(s: &mut [f64], m: usize, n: usize, c: &[f64], swaps: &[usize], 
     let e = a + m;
     blas::copy(&mut s[a..e], c);
     permutation_sequence::apply_to_rows(&mut s[a..e], m, 1, swaps, pairs, false);
-    let mut l = [0.0f64; 64];
-    update_all(s, m, n, &mut l[0..m]);
+    update_all(s, m, n);
 }
 
 // The new column's own step, n being its number. Answers the row that row n was exchanged with.

@@ -8,9 +8,9 @@ use native.Mathlib.Nat.{suc-mul, zero-mul, add-comm, mul-le-mul-right, le-of-suc
 use native.Mathlib.Numerals.{add-one}
 use native.Mathlib.Omega.{arith}
 use borrow.Author.Tests.{leb-true, eqb-true, le-leb, eq-eqb}
-use borrow.Rule.Slice.PartMut.{midOf, putMid, mid-len}
+use borrow.Rule.Slice.PartMut.{midOf, putMid, mid-len, set-mid-at}
 use lib.Dec.{leb, eqb}
-use lib.ListN.{length, getD, set, take, drop, length-drop, length-append, take-append-drop}
+use lib.ListN.{length, getD, set, take, drop, length-drop, length-append, length-set, take-append-drop}
 use lib.Seq.{take-all, take-append-le, drop-append-le, take-add, drop-drop, take-at, drop-at, length-take-le, getD-take, getD-drop}
 use Rattle.blas.specs.Each.{eachFrom}
 use Rattle.blas.proofs.Choice.{and-first, and-second}
@@ -137,6 +137,14 @@ module _ {A : Type 0} where
 
       full : length (take m s) ≡ m
       full = length-take-le m s (rest-length m n s len .0)
+
+  -- an entry written by its place in the store
+  pub written-at : (m n j k : ℕ) (s : List A) (v : A) → j < n → k < m → length s ≡ n * m → columns m n (set s (j * m + k) v) ≡ set (columns m n s) j (set (getD (columns m n s) j []) k v)
+  written-at m n j k s v h l len =
+      let full : length (midOf (j * m) m s) ≡ m = ap length (sym (column-at m n j s h)) ∙ columns-rows m n s len j (rw length-columns h) in
+      ap (columns m n) (sym (set-mid-at (j * m) m k s v (rw full l)))
+      ∙ columns-put m n j s (set (midOf (j * m) m s) k v) h len (length-set (midOf (j * m) m s) k v ∙ full)
+      ∙ ap (λ (c : List A). set (columns m n s) j (set c k v)) (sym (column-at m n j s h))
 
   -- column j was lent as the part from j * m to j * m + m to a function that makes f of it
   pub column-lent : (f : List A → List A) (m n j : ℕ) (s c : List A) → j < n → length s ≡ n * m

@@ -15,9 +15,9 @@ use Rattle.blas.proofs.Choice.{test-cases, cond-cases}
 use Rattle.blas.proofs.Each.{length-each, each-id, each-same}
 use Rattle.blas.proofs.Exchange.{length-exchanged, exchanged-is, exchanged-out}
 use Rattle.blas.proofs.Rows.{length-axpy, copied-whole}
-use Rattle.store.specs.Columns.{columns, HasRows, onColumns}
+use Rattle.store.specs.Columns.{columns, HasRows}
 use Rattle.store.specs.Steps.{Matrix, column, columnsSwapped, swapInAll, rowsSwapped, stepColumn, stepColumns, eliminated}
-use Rattle.store.proofs.Columns.{length-columns, columns-rows, column-length, part-column, column-lent, column-turn, column-stop, each-rows, on-same}
+use Rattle.store.proofs.Columns.{length-columns, columns-rows, column-length, part-column, column-lent, column-turn, column-stop, each-rows}
 
 -- ---- rows exchanged in a range of columns
 
@@ -97,14 +97,6 @@ written : (i m n : ℕ) (s c new : List Float) → i < n → length s ≡ n * m 
     → c ≡ copied new (midOf (i * m) (i * m + m - i * m) s) → columns m n (putMid (i * m) (i * m + m - i * m) s c) ≡ set (columns m n s) i new
 written i m n s c new h len fit kept made =
     column-lent (λ (x : Column). new) m n i s c h len kept (made ∙ copied-whole new (midOf (i * m) (i * m + m - i * m) s) (fit ∙ sym (column-length m n i s h len)))
-
--- l is a copy of column i
-pub eliminated-by : (i m n : ℕ) (s l was : List Float) → i < n → length s ≡ n * m → length was ≡ m → l ≡ copied (midOf (i * m) (i * m + m - i * m) s) was
-    → onColumns m n (stepColumns i l (i + 1)) s ≡ onColumns m n (eliminated i) s
-unfolding eliminated
-eliminated-by i m n s l was h len fit copy =
-    on-same m n (stepColumns i l (i + 1)) s (eliminated i)
-    (ap (λ (x : Column). stepColumns i x (i + 1) (columns m n s)) (copied-column i m n s was l h len fit copy))
 
 -- past the last column there is none to the right
 pub eliminated-none : (i m n : ℕ) (s : List Float) → n ≤ i → columns m n s ≡ eliminated i (columns m n s)

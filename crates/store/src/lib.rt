@@ -3,9 +3,9 @@
 ghost use mathlib.Core.Path.{_≡_};
 ghost use mathlib.Core.Bool.{true};
 ghost use Prim.Native.Nat.{_*_, _<_, min};
-ghost use lib.ListN.{length};
+ghost use lib.ListN.{length, set};
 ghost use Rattle.store.specs.Columns.{columns, isMatrix, onColumns};
-ghost use Rattle.store.specs.Steps.{rowsSwapped, columnsSwapped, stepColumn, stepColumns, eliminated};
+ghost use Rattle.store.specs.Steps.{column, rowsSwapped, columnsSwapped, stepColumn, stepColumns, eliminated};
 
 // The smaller of two numbers.
 pub fn min(a: usize, b: usize) -> usize
@@ -113,15 +113,27 @@ pub fn step_columns(s: &mut [f64], m: usize, n: usize, l: &[f64], i: usize, from
     }
 }
 
-// Step i on the columns right of column i, whose entries below row i are the multipliers; these are copied to l, which is scratch.
-fn eliminate_by(s: &mut [f64], m: usize, n: usize, i: usize, l: &mut [f64])
-    requires { ⌜ (isMatrix m n (now s) ≡ true) × (length (now l) ≡ m) × (i < n) ⌝ }
-    ensures { λ _. ⌜ now (s .exit) ≡ onColumns m n (eliminated i) (now (s .entry)) ⌝ }
+// Step i on column j, by column i of the same store: each entry below row i takes minus the entry of row i, the one number copied, times its multiplier.
+pub fn step_within(s: &mut [f64], m: usize, n: usize, i: usize, j: usize)
+    ensures { λ _. ⌜ now (s .exit) ≡ onColumns m n (λ cs. set cs j (stepColumn i (column cs i) (column cs j))) (now (s .entry)) ⌝ }
 {
+    if !is_matrix(s, m, n) {
+        return;
+    }
+    if n <= j {
+        return;
+    }
+    if min(m, n) <= i {
+        return;
+    }
     let a = i * m;
-    let e = a + m;
-    blas::copy(l, &s[a..e]);
-    step_columns(s, m, n, l, i, i + 1);
+    let b = j * m;
+    let u = -s[b + i];
+    let mut k = i + 1;
+    while k < m {
+        s[b + k] = u * s[a + k] + s[b + k];
+        k += 1;
+    }
 }
 
 // Step i on the columns right of column i, whose entries below row i are the multipliers.
@@ -134,6 +146,9 @@ pub fn eliminate(s: &mut [f64], m: usize, n: usize, i: usize)
     if n <= i {
         return;
     }
-    let mut l = [0.0f64; 64];
-    eliminate_by(s, m, n, i, &mut l[0..m]);
+    let mut j = i + 1;
+    while j < n {
+        step_within(s, m, n, i, j);
+        j += 1;
+    }
 }

@@ -1,42 +1,73 @@
--- By the tests; the scratch is an array of 64, and m is at most that. Assumes nothing.
+-- The columns that are left from column j on give the whole; column i, left of them, stays. Assumes nothing.
+use Prim.Native.Nat.{_-_, _<_}
 use mathlib.Core.Path.{_≡_, refl, sym, _∙_}
+use mathlib.Core.Bool.{true}
 use native.Mathlib.Omega.{arith}
 use borrow.Author.Needs.{needs}
 use borrow.Author.Tests.{not-true, not-false}
-use Rattle.store.proofs.Columns.{sized, scratch-length, on-none, on-done}
+use lib.ListN.{length}
+use Rattle.store.specs.Columns.{columns, isMatrix}
+use Rattle.store.specs.Steps.{column, stepColumns, eliminated}
+use Rattle.store.proofs.Columns.{same-matrix, column-stop, on-none, on-done}
 use Rattle.store.proofs.Steps.{eliminated-none}
+use Rattle.store.proofs.Within.{within-columns, stepped-column, stepped-turn}
 use Rattle.store.proofs.eliminate.Statement.{statement}
 use Rattle.store.proofs.eliminate.Tie as tie
 
-returns : tie.Need-returns
+abbrev Inv-loop : tie.InvT-loop
+Inv-loop s₀ m n i j₀ s j =
+    (length s ≡ length s₀) × (i < j) × (column (columns m n s) i ≡ column (columns m n s₀) i)
+    × (stepColumns i (column (columns m n s₀) i) j (columns m n s) ≡ eliminated i (columns m n s₀))
+
+abbrev μ-loop : tie.MeasureT-loop
+μ-loop s₀ m n i j₀ s j = n - j
+
+-- past the tests the slice is a matrix
+fits : (c : tie.Else2 Inv-loop μ-loop) → let g = c .before .before .before .before .before .args in isMatrix (g .m) (g .n) (g .s .now) ≡ true
+fits c = sym (c .before .before .is-matrix .ensures) ∙ not-false _ (c .before .if1 .left)
+
+returns : tie.Need-returns Inv-loop μ-loop
 returns c = on-none _ _ _ _ (sym (c .before .is-matrix .ensures) ∙ not-true _ (c .if1 .taken))
 
-returns-2 : tie.Need-returns-2
+returns-2 : tie.Need-returns-2 Inv-loop μ-loop
 returns-2 c = on-done _ _ _ _ _ (sym (c .before .before .is-matrix .ensures) ∙ not-false _ (c .before .if1 .left)) refl (eliminated-none _ _ _ _ (c .if2 .taken))
 
-part-l-end : tie.Need-part-l-end
-part-l-end c = sized _ _ _ (sym (c .before .before .before .is-matrix .ensures) ∙ not-false _ (c .before .before .if1 .left)) .rows-most
+loop-holds : tie.Need-loop-holds Inv-loop μ-loop
+unfolding eliminated
+loop-holds c = (refl, omega arith, refl, refl)
 
-eliminate-by-requires : tie.Need-eliminate-by-requires
-eliminate-by-requires c κs =
-    let at-if2 = c .before .before in
-    let at-if1 = at-if2 .before in
-    let at-is-matrix = at-if1 .before in
-    let fits = sym (at-is-matrix .is-matrix .ensures) ∙ not-false _ (at-if1 .if1 .left) in
-    (fits, scratch-length _ _ (sized _ _ _ fits .rows-most), (at-if2 .if2 .left))
+loop-again : tie.Need-loop-again Inv-loop μ-loop
+loop-again c =
+    let at-step = c .before .before in
+    let at-turn = at-step .before .before in
+    let at-loop = at-turn .before in
+    let inv = at-loop .loop .inv in
+    let hj = at-turn .loop-test .taken in
+    let made = within-columns _ _ _ _ _ (same-matrix _ _ _ _ (inv .0) ∙ fits (at-loop .before)) hj _ (at-step .step-within .ensures) in
+    (at-step .step-within .kept .0 ∙ inv .0, omega arith, stepped-column _ _ _ _ _ _ hj made (inv .1) ∙ inv .2, stepped-turn _ _ _ _ _ _ hj made _ (inv .2) ∙ inv .3)
+
+returns-3 : tie.Need-returns-3 Inv-loop μ-loop
+unfolding stepColumns
+returns-3 c =
+    let inv = c .before .loop .inv in
+    on-done _ _ _ _ _ (fits (c .before .before)) (inv .0) (sym (column-stop _ _ _ _ _ (c .loop-test .left)) ∙ inv .3)
 
 pub eliminate-spec : {M : Type 1} → statement M
 eliminate-spec =
     tie.close
     (tie.spec
+    Inv-loop
+    μ-loop
     (λ c κs. search needs)
     (λ c. search needs)
     returns
     (λ c. search needs)
     returns-2
+    (λ c. omega arith)
+    loop-holds
+    (λ c κs. search needs)
+    (λ c. omega arith)
+    (λ c. omega arith)
+    loop-again
     (λ c. search needs)
-    (λ c. search needs)
-    part-l-end
-    eliminate-by-requires
-    (λ c. search needs)
-    (λ c. search needs))
+    returns-3)
