@@ -6,7 +6,7 @@ use mathlib.Core.List.{List, [], _∷_, _++_}
 use Prim.Native.Nat.{ℕ, _+_, min}
 use native.Mathlib.Omega.{arith}
 use lib.Dec.{ltb}
-use lib.ListN.{length}
+use lib.ListN.{length, set}
 use lib.IntN.{pos}
 use lib.Ieee.{Float, nan, inf, fin, binary64, add, sub, mul, div, neg, eq, lt, ofBits}
 use lib.Ieee.Scale.{finite}
@@ -15,7 +15,7 @@ use Rattle.blas.specs.Numbers.{isZero, magnitude}
 use Rattle.blas.specs.Column.{Column, entry, searchFrom, pivotRow, exchanged, swapRows, scaleFrom, axpyFrom, allFinite, zeros, copied}
 use Rattle.blas.specs.Dot.{addProduct, addBlock, eightSums, pairSums, dotOf}
 use Rattle.store.specs.Columns.{columns, flat, isMatrix, onColumns}
-use Rattle.store.specs.Steps.{swapInAll, rowsSwapped, columnsSwapped, stepColumn, stepColumns, eliminated}
+use Rattle.store.specs.Steps.{column, swapInAll, rowsSwapped, columnsSwapped, stepColumn, stepColumns, eliminated}
 use Rattle.refusals.specs.declared.Answer.{Answer}
 use Rattle.refusals.specs.declared.Answer.the-variants.{Done, Refused}
 use Rattle.refusals.specs.Refusals.{firstOf, outside, answerOf, Outcome, seventh}
@@ -183,6 +183,14 @@ step-columns =
     (some-none n1 (-n1 ∷ []))
 
 -- columns (1, 1) and (1, 0): the multiplier is 1, and the last entry becomes -1
+abbrev stepsWithin : ℕ × (ℕ × Sized) → Column
+stepsWithin x = onColumns (x .1 .1 .0) (x .1 .1 .1 .0) (λ cs. set cs (x .1 .0) (stepColumn (x .0) (column cs (x .0)) (column cs (x .1 .0)))) (x .1 .1 .1 .1)
+
+pub step-within : TwoShutOut stepsWithin (λ x. x .1 .1 .1 .1)
+unfolding runs
+step-within =
+    two stepsWithin (λ x. x .1 .1 .1 .1) (0, (1, (2, (2, n1 ∷ n1 ∷ n1 ∷ n0 ∷ [])))) (0, (0, (1, (1, n1 ∷ [])))) (0, (0, (0, (0, [])))) (λ d. let e : n1 ∷ n1 ∷ n1 ∷ -n1 ∷ [] ≡ n1 ∷ n1 ∷ n1 ∷ n0 ∷ [] = d in let z : _≡_ {A = ℕ} 0 1 = cc in omega arith) (some-none n1 [])
+
 abbrev eliminates : ℕ × Sized → Column
 eliminates x = onColumns (x .1 .0) (x .1 .1 .0) (eliminated (x .0)) (x .1 .1 .1)
 
