@@ -1,5 +1,6 @@
 -- "An accepted solution column depends on the factors, the swaps and its own right-hand column alone. Whether the call is refused with 7 depends on
--- all of them." Each column of an accepted solve is its own right-hand column, solved; refusal 7 looks at all of them. Assumes nothing.
+-- all of them." For the solve and for the transposed solve, by one law over the way to solve a column: each column of an accepted solve is its own
+-- right-hand column, solved; refusal 7 looks at all of them. Assumes nothing.
 use mathlib.Core.Path.{_≡_, sym, ap, _∙_}
 use mathlib.Core.Bool.{cond}
 use mathlib.Core.List.{List, []}
@@ -16,62 +17,103 @@ use Rattle.refusals.specs.Refusals.{Outcome, seventh}
 use Rattle.permutation_sequence.specs.SwapList.{Swaps, pairsOf}
 use Rattle.permutation_sequence.specs.Permute.{permute}
 use Rattle.permutation_sequence.proofs.Permute.{length-permute}
-use Rattle.solve.specs.declared.Pass.the-variants.{Upper, GivenDiagonal}
+use Rattle.solve.specs.declared.Pass.the-variants.{Upper, GivenDiagonal, TransposedUpper, TransposedUnitLower}
 use Rattle.solve.proofs.Lengths.{length-solved}
 use Rattle.solve.proofs.Outcomes.{none-given, seventh-number, seventh-stands}
 use Rattle.lu.specs.declared.Record.{Record}
 use Rattle.from_factors.specs.Taken.{takenRefusal}
-use Rattle.from_factors.specs.Solving.{solved, solvedAll, solvedBy, solveAsks, solving}
+use Rattle.from_factors.specs.Solving.{Way, solved, trSolved, solvedAll, solvedBy, solveAsks, solvingBy, solving, trSolving}
 use Rattle.from_factors.proofs.Taken.{passed, tested-passed}
 
--- solving keeps a column's length
-length-all : (n : ℕ) (cs : Matrix) (swaps : Swaps) (b : Column) → length (solved n cs swaps b) ≡ length b
+-- a way to solve that keeps a column's length
+abbrev Keeps : Way → Type 0
+Keeps way = (n : ℕ) (cs : Matrix) (swaps : Swaps) (b : Column) → length (way n cs swaps b) ≡ length b
+
+solve-keeps : Keeps solved
 unfolding solved
-length-all n cs swaps b = length-solved Upper n cs _ ∙ length-solved (GivenDiagonal _) n cs (permute swaps b) ∙ length-permute swaps b
+solve-keeps n cs swaps b = length-solved Upper n cs _ ∙ length-solved (GivenDiagonal _) n cs (permute swaps b) ∙ length-permute swaps b
 
+tr-solve-keeps : Keeps trSolved
+unfolding trSolved
+tr-solve-keeps n cs swaps b = length-permute _ _ ∙ length-solved TransposedUnitLower n cs _ ∙ length-solved TransposedUpper n cs b
+
+-- ---- the law, for any such way
+module _ (way : Way) (keeps : Keeps way) where
+  module _ (r : Record) (factors : Column) (store : List ℕ) (k : ℕ) (b x : Column) where
+    abbrev n : ℕ
+    n = r .rows
+
+    abbrev cs : Matrix
+    cs = columns n n factors
+
+    abbrev swaps : Swaps
+    swaps = pairsOf (r .pairs) store
+
+    abbrev call : Outcome
+    call = solvingBy way r factors store k b x
+
+    -- a call that its tests let pass
+    made : takenRefusal (solveAsks n k b x) r factors store ≡ 0 → call ≡ seventh (solvedBy way r factors store (columns n k b))
+    made e = tested-passed (takenRefusal (solveAsks n k b x) r factors store) x (seventh (solvedBy way r factors store (columns n k b))) e
+
+    none : call .number ≡ 0 → takenRefusal (solveAsks n k b x) r factors store ≡ 0
+    none e = none-given (takenRefusal (solveAsks n k b x) r factors store) x _ e
+
+    way-columns : call .number ≡ 0 → columns n k (call .result) ≡ solvedAll way n cs swaps (columns n k b)
+    unfolding solvedAll
+    way-columns e =
+        let o = made (none e) in
+        let p = passed (solveAsks n k b x) r factors store (none e) in
+        let sides = and-first (isMatrix n k b) (isMatrix n k x) (p .lengths) in
+        let all = solvedAll way n cs swaps (columns n k b) in
+        let wide : length all ≡ k = length-each _ 0 (columns n k b) ∙ length-columns n k b in
+        let tall : HasRows n all = each-rows n _ 0 (columns n k b) (λ j c e. keeps n cs swaps c ∙ e) (columns-rows n k b (sized n k b sides .size)) in
+        ap (λ (q : Outcome). columns n k (q .result)) o
+        ∙ ap (columns n k) (seventh-stands (flat all) (sym (ap (λ (q : Outcome). q .number) o) ∙ e))
+        ∙ ap (λ (c : ℕ). columns n c (flat all)) (sym wide)
+        ∙ columns-flat n all tall
+
+    way-column : (j : ℕ) → j < k → call .number ≡ 0 → column (columns n k (call .result)) j ≡ way n cs swaps (column (columns n k b) j)
+    unfolding solvedAll
+    way-column j h e = ap (λ (c : Matrix). column c j) (way-columns e) ∙ each-at _ 0 (columns n k b) j [] (omega arith) (rw length-columns h)
+
+    way-seven : takenRefusal (solveAsks n k b x) r factors store ≡ 0 → call .number ≡ cond (allFinite (flat (solvedAll way n cs swaps (columns n k b)))) 0 7
+    way-seven e = ap (λ (q : Outcome). q .number) (made e) ∙ seventh-number (solvedBy way r factors store (columns n k b))
+
+  way-alone : (r : Record) (factors : Column) (store : List ℕ) (k l : ℕ) (b d x y : Column) (i j : ℕ) → i < k → j < l
+      → solvingBy way r factors store k b x .number ≡ 0 → solvingBy way r factors store l d y .number ≡ 0
+      → column (columns (r .rows) k b) i ≡ column (columns (r .rows) l d) j
+      → column (columns (r .rows) k (solvingBy way r factors store k b x .result)) i ≡ column (columns (r .rows) l (solvingBy way r factors store l d y .result)) j
+  way-alone r factors store k l b d x y i j hi hj e f same =
+      way-column r factors store k b x i hi e
+      ∙ ap (way (r .rows) (columns (r .rows) (r .rows) factors) (pairsOf (r .pairs) store)) same
+      ∙ sym (way-column r factors store l d y j hj f)
+
+-- ---- the two calls
 module _ (r : Record) (factors : Column) (store : List ℕ) (k : ℕ) (b x : Column) where
-  abbrev n : ℕ
-  n = r .rows
-
-  abbrev cs : Matrix
-  cs = columns n n factors
-
-  abbrev swaps : Swaps
-  swaps = pairsOf (r .pairs) store
-
-  -- a call that its tests let pass
-  made : takenRefusal (solveAsks n k b x) r factors store ≡ 0 → solving r factors store k b x ≡ seventh (solvedBy r factors store (columns n k b))
-  unfolding solving
-  made e = tested-passed (takenRefusal (solveAsks n k b x) r factors store) x (seventh (solvedBy r factors store (columns n k b))) e
-
-  none : solving r factors store k b x .number ≡ 0 → takenRefusal (solveAsks n k b x) r factors store ≡ 0
-  unfolding solving
-  none e = none-given (takenRefusal (solveAsks n k b x) r factors store) x _ e
-
-  pub accepted-columns : solving r factors store k b x .number ≡ 0 → columns n k (solving r factors store k b x .result) ≡ solvedAll n cs swaps (columns n k b)
-  unfolding solvedAll
-  accepted-columns e =
-      let o = made (none e) in
-      let p = passed (solveAsks n k b x) r factors store (none e) in
-      let sides = and-first (isMatrix n k b) (isMatrix n k x) (p .lengths) in
-      let all = solvedAll n cs swaps (columns n k b) in
-      let wide : length all ≡ k = length-each _ 0 (columns n k b) ∙ length-columns n k b in
-      let tall : HasRows n all = each-rows n _ 0 (columns n k b) (λ j c e. length-all n cs swaps c ∙ e) (columns-rows n k b (sized n k b sides .size)) in
-      ap (λ (q : Outcome). columns n k (q .result)) o
-      ∙ ap (columns n k) (seventh-stands (flat all) (sym (ap (λ (q : Outcome). q .number) o) ∙ e))
-      ∙ ap (λ (c : ℕ). columns n c (flat all)) (sym wide)
-      ∙ columns-flat n all tall
-
   -- THEOREM. An accepted solution column is its own right-hand column, solved.
   pub accepted-column : (j : ℕ) → j < k → solving r factors store k b x .number ≡ 0
-      → column (columns n k (solving r factors store k b x .result)) j ≡ solved n cs swaps (column (columns n k b) j)
-  unfolding solvedAll
-  accepted-column j h e = ap (λ (c : Matrix). column c j) (accepted-columns e) ∙ each-at _ 0 (columns n k b) j [] (omega arith) (rw length-columns h)
+      → column (columns (r .rows) k (solving r factors store k b x .result)) j
+      ≡ solved (r .rows) (columns (r .rows) (r .rows) factors) (pairsOf (r .pairs) store) (column (columns (r .rows) k b) j)
+  unfolding solving
+  accepted-column = way-column solved solve-keeps r factors store k b x
+
+  pub accepted-tr-column : (j : ℕ) → j < k → trSolving r factors store k b x .number ≡ 0
+      → column (columns (r .rows) k (trSolving r factors store k b x .result)) j
+      ≡ trSolved (r .rows) (columns (r .rows) (r .rows) factors) (pairsOf (r .pairs) store) (column (columns (r .rows) k b) j)
+  unfolding trSolving
+  accepted-tr-column = way-column trSolved tr-solve-keeps r factors store k b x
 
   -- THEOREM. A call that its tests let pass is refused with 7 exactly where some number of some solved column is not finite.
-  pub seven-by-all : takenRefusal (solveAsks n k b x) r factors store ≡ 0
-      → solving r factors store k b x .number ≡ cond (allFinite (flat (solvedAll n cs swaps (columns n k b)))) 0 7
-  seven-by-all e = ap (λ (q : Outcome). q .number) (made e) ∙ seventh-number (solvedBy r factors store (columns n k b))
+  pub seven-by-all : takenRefusal (solveAsks (r .rows) k b x) r factors store ≡ 0
+      → solving r factors store k b x .number ≡ cond (allFinite (solvedBy solved r factors store (columns (r .rows) k b))) 0 7
+  unfolding solving
+  seven-by-all = way-seven solved solve-keeps r factors store k b x
+
+  pub tr-seven-by-all : takenRefusal (solveAsks (r .rows) k b x) r factors store ≡ 0
+      → trSolving r factors store k b x .number ≡ cond (allFinite (solvedBy trSolved r factors store (columns (r .rows) k b))) 0 7
+  unfolding trSolving
+  tr-seven-by-all = way-seven trSolved tr-solve-keeps r factors store k b x
 
 -- THEOREM. Two accepted calls by one record, factors and store: equal right-hand columns, wherever they stand and whatever stands beside them, have
 -- equal solution columns.
@@ -79,7 +121,12 @@ pub column-alone : (r : Record) (factors : Column) (store : List ℕ) (k l : ℕ
     → solving r factors store k b x .number ≡ 0 → solving r factors store l d y .number ≡ 0
     → column (columns (r .rows) k b) i ≡ column (columns (r .rows) l d) j
     → column (columns (r .rows) k (solving r factors store k b x .result)) i ≡ column (columns (r .rows) l (solving r factors store l d y .result)) j
-column-alone r factors store k l b d x y i j hi hj e f same =
-    accepted-column r factors store k b x i hi e
-    ∙ ap (solved (r .rows) (columns (r .rows) (r .rows) factors) (pairsOf (r .pairs) store)) same
-    ∙ sym (accepted-column r factors store l d y j hj f)
+unfolding solving
+column-alone = way-alone solved solve-keeps
+
+pub tr-column-alone : (r : Record) (factors : Column) (store : List ℕ) (k l : ℕ) (b d x y : Column) (i j : ℕ) → i < k → j < l
+    → trSolving r factors store k b x .number ≡ 0 → trSolving r factors store l d y .number ≡ 0
+    → column (columns (r .rows) k b) i ≡ column (columns (r .rows) l d) j
+    → column (columns (r .rows) k (trSolving r factors store k b x .result)) i ≡ column (columns (r .rows) l (trSolving r factors store l d y .result)) j
+unfolding trSolving
+tr-column-alone = way-alone trSolved tr-solve-keeps

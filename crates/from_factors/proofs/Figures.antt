@@ -15,7 +15,8 @@ use Rattle.store.specs.Steps.{swapInAll, stepColumn, stepColumns, eliminated}
 use Rattle.refusals.specs.Refusals.{firstOf, outside, Outcome, seventh, tested}
 use Rattle.permutation_sequence.specs.SwapList.{Swaps, pairsOf, holds, goodPair, goodPairs, goodList}
 use Rattle.permutation_sequence.specs.Permute.{permutedBy, signOf}
-use Rattle.solve.specs.Triangular.{upperRow, keptRow, solvedRow, turn, solvedColumn}
+use Rattle.blas.specs.Dot.{addProduct, addBlock, eightSums, pairSums, dotOf}
+use Rattle.solve.specs.Triangular.{upperRow, keptRow, transposedUpperRow, transposedUnitLowerRow, solvedRow, turn, solvedColumn}
 use Rattle.solve.specs.Calls.{zeroFrom, zeroOnDiagonal}
 use Rattle.from_factors.specs.declared.Det.{Det}
 use Rattle.from_factors.specs.declared.Det.the-variants.{Number}
@@ -25,7 +26,7 @@ use Rattle.lu.specs.Elimination.{recordSwap, multipliers, scaled, pivotStep, st
 use Rattle.lu.specs.Factoring.{numbersOf, storeOf, factoringRefusal, Factoring, recordOf, settled, factoring}
 use Rattle.lu.specs.Adding.{update, reduced, addColumn, earlyRefusal, addingRefusal, written, addingSettled, adding}
 use Rattle.from_factors.specs.Taken.{takenRefusal}
-use Rattle.from_factors.specs.Solving.{solved, solvedAll, solving, unitColumn, inverting}
+use Rattle.from_factors.specs.Solving.{solved, trSolved, solvedAll, solving, trSolving, unitColumn, inverting}
 use Rattle.from_factors.specs.Determinant.{timesDiagonal, diagonalProduct, determinantOf, numberOr7, determining, inverseTest}
 
 -- a name for all that has to unfold for the calls to compute
@@ -129,3 +130,21 @@ figures = refl
 pub inverse-figure : let o = fresh 2 2 (n0 ∷ n2 ∷ n1 ∷ n0 ∷ []) in inverting (o .told) (o .factors) (o .store) (zeros 4) ≡ record { number = 0; result = n0 ∷ n1 ∷ small 0 ∷ n0 ∷ [] }
 unfolding computes
 inverse-figure = refl
+
+-- ---- the transposed solve (document 02, request 5)
+
+-- a name for what has to unfold besides
+unfoldable pub transposes : Type 0
+unfolding computes addProduct addBlock eightSums pairSums dotOf transposedUpperRow transposedUnitLowerRow trSolved trSolving
+transposes = Unit {0}
+
+-- rows (2, 0) and (2, 4), packed as U (2, 4) with the multiplier 1; transposed, the right-hand side (4, 8) gives 0 and 2
+pub transposed-figure : trSolving (recordOf 2 2 0) (n2 ∷ n1 ∷ n0 ∷ n4 ∷ []) (storeOf []) 1 (n4 ∷ n8 ∷ []) (zeros 2) ≡ record { number = 0; result = n0 ∷ n2 ∷ [] }
+unfolding transposes
+transposed-figure = refl
+
+-- the swaps (0, 1) and (1, 2) alone, in reverse: 1, 2, 4 become 4, 1, 2; in order they would be 2, 4, 1
+pub reverse-figure : trSolving (recordOf 3 3 2) (n1 ∷ n0 ∷ n0 ∷ n0 ∷ n1 ∷ n0 ∷ n0 ∷ n0 ∷ n1 ∷ []) (storeOf ((0, 1) ∷ (1, 2) ∷ [])) 1 (n1 ∷ n2 ∷ n4 ∷ []) (zeros 3)
+    ≡ record { number = 0; result = n4 ∷ n1 ∷ n2 ∷ [] }
+unfolding transposes
+reverse-figure = refl

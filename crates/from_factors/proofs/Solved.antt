@@ -1,7 +1,7 @@
 -- The three passes of a solve give the right-hand columns solved: each pass works on every column by itself, so the passes can be joined column by
--- column. Assumes nothing.
-use mathlib.Core.Path.{_≡_, ap, _∙_}
-use mathlib.Core.Bool.{true, false}
+-- column. The solve swaps rows first, the transposed solve last. Assumes nothing.
+use mathlib.Core.Path.{_≡_, sym, ap, _∙_}
+use mathlib.Core.Bool.{Bool, true, false}
 use mathlib.Core.List.{List}
 use Prim.Native.Nat.{ℕ}
 use lib.ListN.{length}
@@ -11,43 +11,72 @@ use Rattle.blas.specs.Column.{Column}
 use Rattle.blas.proofs.Each.{length-each, each-each}
 use Rattle.store.specs.Columns.{columns, flat, isMatrix, onColumns}
 use Rattle.store.specs.Steps.{Matrix}
-use Rattle.store.proofs.Columns.{sized, same-matrix, length-columns, columns-rows, each-rows, on-same, on-columns}
+use Rattle.store.proofs.Columns.{sized, same-matrix, length-columns, flat-columns, columns-rows, each-rows, on-same, on-columns}
 use Rattle.permutation_sequence.specs.SwapList.{Swaps, pairsOf, held, goodList}
 use Rattle.permutation_sequence.specs.Permute.{permute, rowsPermuted, inOrder}
 use Rattle.permutation_sequence.proofs.SwapList.{held-good}
 use Rattle.permutation_sequence.proofs.Permute.{length-permute, rows-each}
-use Rattle.solve.specs.declared.Pass.the-variants.{Upper, GivenDiagonal}
-use Rattle.solve.specs.Triangular.{solvedFrom, solvedColumns, solvedInPlace}
-use Rattle.solve.proofs.Alone.{in-place-flat, in-place-columns}
-use Rattle.from_factors.specs.Solving.{solved, solvedAll}
+use Rattle.solve.specs.declared.Pass.{Pass}
+use Rattle.solve.specs.declared.Pass.the-variants.{Upper, GivenDiagonal, TransposedUpper, TransposedUnitLower}
+use Rattle.solve.specs.Triangular.{solvedColumn, solvedFrom, solvedInPlace}
+use Rattle.solve.proofs.Alone.{in-place-columns}
+use Rattle.from_factors.specs.Solving.{solved, trSolved, solvedAll}
 
--- the columns of permuted rows
-permuted-columns : (n k : ℕ) (swaps : Swaps) (x : Column) → isMatrix n k x ≡ true
-    → columns n k (onColumns n k (rowsPermuted swaps) x) ≡ eachFrom (λ j c. permute swaps c) 0 (columns n k x)
-permuted-columns n k swaps x h =
-    let each : Matrix → Matrix = λ cs. eachFrom (λ j c. permute swaps c) 0 cs in
-    ap (columns n k) (on-same n k (rowsPermuted swaps) x each (rows-each swaps (columns n k x)))
-    ∙ on-columns n k each x h (length-each _ 0 (columns n k x) ∙ length-columns n k x)
-    (each-rows n _ 0 (columns n k x) (λ j c e. length-permute swaps c ∙ e) (columns-rows n k x (sized n k x h .size)))
+module _ (n k : ℕ) where
+  -- y holds the columns of x, f done to each
+  pub record Each (f : Column → Column) (x y : Column) : Type 0 where
+    pub was : isMatrix n k x ≡ true
+    pub is : isMatrix n k y ≡ true
+    pub each : columns n k y ≡ eachFrom (λ j c. f c) 0 (columns n k x)
 
--- x is permuted to y, which the unit lower pass makes z, which the upper pass makes w
-module _ (n k most pairs : ℕ) (factors x y z w : Column) (store : List ℕ)
-    (matrix : isMatrix n n factors ≡ true) (sides : isMatrix n k x ≡ true) (list : goodList n most pairs store ≡ true)
-    (permuted : y ≡ onColumns n k (rowsPermuted (inOrder false (held pairs store))) x) (y-long : length y ≡ length x)
-    (lower : z ≡ solvedInPlace (GivenDiagonal one64) n k factors y) (z-long : length z ≡ length y)
-    (upper : w ≡ solvedInPlace Upper n k factors z) where
-  pub passes-solve : w ≡ flat (solvedAll n (columns n n factors) (pairsOf pairs store) (columns n k x))
-  unfolding solvedAll solved solvedFrom inOrder
-  passes-solve =
-      let cs = columns n n factors in
-      let swaps = pairsOf pairs store in
-      let y-is : isMatrix n k y ≡ true = same-matrix n k x y y-long ∙ sides in
-      let z-is : isMatrix n k z ≡ true = same-matrix n k y z z-long ∙ y-is in
-      let ys : columns n k y ≡ eachFrom (λ j c. permute swaps c) 0 (columns n k x)
-      = ap (columns n k) permuted ∙ ap (λ (s : Swaps). columns n k (onColumns n k (rowsPermuted s) x)) (held-good n most pairs store list) ∙ permuted-columns n k swaps x sides in
-      let zs : columns n k z ≡ solvedColumns (GivenDiagonal one64) n cs (columns n k y)
-      = ap (columns n k) lower ∙ in-place-columns (GivenDiagonal one64) n k factors y matrix y-is in
-      upper
-      ∙ in-place-flat Upper n k factors z matrix z-is
-      ∙ ap (λ (bs : Matrix). flat (solvedColumns Upper n cs bs)) (zs ∙ ap (solvedColumns (GivenDiagonal one64) n cs) ys ∙ each-each _ _ 0 (columns n k x))
-      ∙ ap flat (each-each _ _ 0 (columns n k x))
+  -- three in a row
+  three : (f g h : Column → Column) (x y z w : Column) → Each f x y → Each g y z → Each h z w → w ≡ flat (eachFrom (λ j c. h (g (f c))) 0 (columns n k x))
+  three f g h x y z w p q r =
+      let each : (Column → Column) → Matrix → Matrix = λ u cs. eachFrom (λ j c. u c) 0 cs in
+      sym (flat-columns n k w (sized n k w (r .is) .size))
+      ∙ ap flat (r .each ∙ ap (each h) (q .each ∙ ap (each g) (p .each) ∙ each-each _ _ 0 (columns n k x)) ∙ each-each _ _ 0 (columns n k x))
+
+  -- rows swapped, and one pass
+  pub by-swaps : (backwards : Bool) (most pairs : ℕ) (store : List ℕ) (x y : Column) → isMatrix n k x ≡ true → goodList n most pairs store ≡ true
+      → y ≡ onColumns n k (rowsPermuted (inOrder backwards (held pairs store))) x → length y ≡ length x → Each (permute (inOrder backwards (pairsOf pairs store))) x y
+  by-swaps backwards most pairs store x y h list made long =
+      let swaps = inOrder backwards (pairsOf pairs store) in
+      let each : Matrix → Matrix = λ cs. eachFrom (λ j c. permute swaps c) 0 cs in
+      record {
+        was = h;
+        is = same-matrix n k x y long ∙ h;
+        each = ap (columns n k) made
+            ∙ ap (λ (s : Swaps). columns n k (onColumns n k (rowsPermuted (inOrder backwards s)) x)) (held-good n most pairs store list)
+            ∙ ap (columns n k) (on-same n k (rowsPermuted swaps) x each (rows-each swaps (columns n k x)))
+            ∙ on-columns n k each x h (length-each _ 0 (columns n k x) ∙ length-columns n k x)
+            (each-rows n _ 0 (columns n k x) (λ j c e. length-permute swaps c ∙ e) (columns-rows n k x (sized n k x h .size)));
+      }
+
+  pub by-pass : (pass : Pass) (factors x y : Column) → isMatrix n n factors ≡ true → isMatrix n k x ≡ true → y ≡ solvedInPlace pass n k factors x → length y ≡ length x
+      → Each (solvedColumn pass n (columns n n factors)) x y
+  unfolding solvedFrom
+  by-pass pass factors x y matrix h made long =
+      record { was = h; is = same-matrix n k x y long ∙ h; each = ap (columns n k) made ∙ in-place-columns pass n k factors x matrix h }
+
+  module _ (most pairs : ℕ) (factors x y z w : Column) (store : List ℕ)
+      (matrix : isMatrix n n factors ≡ true) (sides : isMatrix n k x ≡ true) (list : goodList n most pairs store ≡ true) where
+    -- x is permuted to y, which the unit lower pass makes z, which the upper pass makes w
+    pub passes-solve : y ≡ onColumns n k (rowsPermuted (inOrder false (held pairs store))) x → length y ≡ length x
+        → z ≡ solvedInPlace (GivenDiagonal one64) n k factors y → length z ≡ length y → w ≡ solvedInPlace Upper n k factors z → length w ≡ length z
+        → w ≡ flat (solvedAll solved n (columns n n factors) (pairsOf pairs store) (columns n k x))
+    unfolding solvedAll solved inOrder
+    passes-solve permuted y-long lower z-long upper w-long =
+        let p = by-swaps false most pairs store x y sides list permuted y-long in
+        let q = by-pass (GivenDiagonal one64) factors y z matrix (p .is) lower z-long in
+        three _ _ _ x y z w p q (by-pass Upper factors z w matrix (q .is) upper w-long)
+
+    -- the transposed upper pass makes x to y, which the transposed unit lower pass makes z, which is permuted in reverse to w
+    pub passes-tr-solve : y ≡ solvedInPlace TransposedUpper n k factors x → length y ≡ length x
+        → z ≡ solvedInPlace TransposedUnitLower n k factors y → length z ≡ length y
+        → w ≡ onColumns n k (rowsPermuted (inOrder true (held pairs store))) z → length w ≡ length z
+        → w ≡ flat (solvedAll trSolved n (columns n n factors) (pairsOf pairs store) (columns n k x))
+    unfolding solvedAll trSolved inOrder
+    passes-tr-solve upper y-long lower z-long permuted w-long =
+        let p = by-pass TransposedUpper factors x y matrix sides upper y-long in
+        let q = by-pass TransposedUnitLower factors y z matrix (p .is) lower z-long in
+        three _ _ _ x y z w p q (by-swaps true most pairs store z w (q .is) list permuted w-long)

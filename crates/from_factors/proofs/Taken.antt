@@ -19,7 +19,7 @@ use Rattle.solve.specs.Calls.{zeroOnDiagonal}
 use Rattle.lu.specs.declared.Record.{Record}
 use Rattle.from_factors.specs.declared.Asks.{Asks}
 use Rattle.from_factors.specs.Taken.{takenRefusal}
-use Rattle.from_factors.specs.Solving.{solvedBy}
+use Rattle.from_factors.specs.Solving.{Way, solvedBy}
 
 module _ (asks : Asks) (r : Record) (factors : Column) (store : List ℕ) where
   pub record Passed : Type 0 where
@@ -110,11 +110,11 @@ pub promise-made : (number told : ℕ) (was : Column) (made : Outcome) (r : Answ
 promise-made number told was made r s e none a b = rw (tested-passed number was made (sym e ∙ none)) (a, b)
 
 -- the right-hand columns were solved, and the result was settled by refusal 7
-pub promise-solved : (r : Record) (factors : Column) (store : List ℕ) (bs cs : Matrix) (number told : ℕ) (was work : Column) (n : ℕ) (a : Answer) (s : Column)
-    → told ≡ number → told ≡ 0 → work ≡ solvedBy r factors store bs → bs ≡ cs → n ≡ seventh work .number → a ≡ answerOf n → s ≡ seventh work .result
-    → Promise (tested number was (seventh (solvedBy r factors store cs))) a s
-promise-solved r factors store bs cs number told was work n a s e none made same count answer left =
-    let is : work ≡ solvedBy r factors store cs = made ∙ ap (solvedBy r factors store) same in
-    promise-made number told was (seventh (solvedBy r factors store cs)) a s e none
+pub promise-solved : (way : Way) (r : Record) (factors : Column) (store : List ℕ) (bs cs : Matrix) (number told : ℕ) (was work : Column) (n : ℕ) (a : Answer) (s : Column)
+    → told ≡ number → told ≡ 0 → work ≡ solvedBy way r factors store bs → bs ≡ cs → n ≡ seventh work .number → a ≡ answerOf n → s ≡ seventh work .result
+    → Promise (tested number was (seventh (solvedBy way r factors store cs))) a s
+promise-solved way r factors store bs cs number told was work n a s e none made same count answer left =
+    let is : work ≡ solvedBy way r factors store cs = made ∙ ap (solvedBy way r factors store) same in
+    promise-made number told was (seventh (solvedBy way r factors store cs)) a s e none
     (answer ∙ ap answerOf (count ∙ ap (λ (c : Column). seventh c .number) is))
     (left ∙ ap (λ (c : Column). seventh c .result) is)

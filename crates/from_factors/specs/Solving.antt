@@ -1,6 +1,7 @@
--- Document 01, "Solving": solve and inverse from the factors, and what the two calls answer and leave on every input.
-use mathlib.Core.Bool.{true, not, _&&_}
-use mathlib.Core.List.{List}
+-- Document 01, "Solving": solve and inverse from the factors; document 02, request 5: the transposed solve from the same factors; and what the
+-- three calls answer and leave on every input.
+use mathlib.Core.Bool.{Bool, true, false, not, _&&_}
+use mathlib.Core.List.{List, reverse}
 use Prim.Native.Nat.{ℕ}
 use lib.ListN.{set}
 use Rattle.blas.specs.Each.{eachFrom, listOf}
@@ -11,19 +12,32 @@ use Rattle.store.specs.Steps.{Matrix}
 use Rattle.refusals.specs.Refusals.{outside, Outcome, seventh, tested}
 use Rattle.permutation_sequence.specs.SwapList.{Swaps, pairsOf}
 use Rattle.permutation_sequence.specs.Permute.{permute}
-use Rattle.solve.specs.declared.Pass.the-variants.{Upper, GivenDiagonal}
+use Rattle.solve.specs.declared.Pass.the-variants.{Upper, GivenDiagonal, TransposedUpper, TransposedUnitLower}
 use Rattle.solve.specs.Triangular.{solvedColumn}
 use Rattle.lu.specs.declared.Record.{Record}
 use Rattle.from_factors.specs.declared.Asks.{Asks}
 use Rattle.from_factors.specs.Taken.{takenRefusal}
 
+-- how one right-hand column is solved: by the n by n columns of the factors, and by the swaps
+abbrev pub Way : Type 0
+Way = ℕ → Matrix → Swaps → Column → Column
+
 -- "swap the right-hand rows by the list, first pair first; unit lower; then upper"
-unfoldable pub solved : ℕ → Matrix → Swaps → Column → Column
+unfoldable pub solved : Way
 solved n cs swaps b = solvedColumn Upper n cs (solvedColumn (GivenDiagonal one64) n cs (permute swaps b))
 
+-- "transposed upper, transposed unit lower, then the swaps in reverse"
+unfoldable pub trSolved : Way
+trSolved n cs swaps b = permute (reverse swaps) (solvedColumn TransposedUnitLower n cs (solvedColumn TransposedUpper n cs b))
+
+-- of the two, the one that is asked for
+abbrev pub wayOf : Bool → Way
+wayOf true = trSolved
+wayOf false = solved
+
 -- each right-hand column by itself
-unfoldable pub solvedAll : ℕ → Matrix → Swaps → Matrix → Matrix
-solvedAll n cs swaps bs = eachFrom (λ j b. solved n cs swaps b) 0 bs
+unfoldable pub solvedAll : Way → ℕ → Matrix → Swaps → Matrix → Matrix
+solvedAll way n cs swaps bs = eachFrom (λ j b. way n cs swaps b) 0 bs
 
 -- the identity's columns
 unfoldable pub unitColumn : ℕ → ℕ → Column
@@ -33,8 +47,8 @@ abbrev pub identity : ℕ → Matrix
 identity n = listOf n (unitColumn n)
 
 -- the right-hand sides solved by the factors of the record
-abbrev pub solvedBy : Record → Column → List ℕ → Matrix → Column
-solvedBy r factors store bs = flat (solvedAll (r .rows) (columns (r .rows) (r .rows) factors) (pairsOf (r .pairs) store) bs)
+abbrev pub solvedBy : Way → Record → Column → List ℕ → Matrix → Column
+solvedBy way r factors store bs = flat (solvedAll way (r .rows) (columns (r .rows) (r .rows) factors) (pairsOf (r .pairs) store) bs)
 
 -- ---- the calls
 
@@ -42,9 +56,16 @@ abbrev pub solveAsks : ℕ → ℕ → Column → Column → Asks
 solveAsks n k b x = record { square = true; solves = true; sizes = not (outside 1 k); lengths = isMatrix n k b && isMatrix n k x; numbers = allFinite b }
 
 -- k right-hand columns b, and the slice for the solution, which held x
+abbrev pub solvingBy : Way → Record → Column → List ℕ → ℕ → Column → Column → Outcome
+solvingBy way r factors store k b x =
+    tested (takenRefusal (solveAsks (r .rows) k b x) r factors store) x (seventh (solvedBy way r factors store (columns (r .rows) k b)))
+
 unfoldable pub solving : Record → Column → List ℕ → ℕ → Column → Column → Outcome
-solving r factors store k b x =
-    tested (takenRefusal (solveAsks (r .rows) k b x) r factors store) x (seventh (solvedBy r factors store (columns (r .rows) k b)))
+solving r factors store k b x = solvingBy solved r factors store k b x
+
+-- "refusals: as for solve, in the same order"
+unfoldable pub trSolving : Record → Column → List ℕ → ℕ → Column → Column → Outcome
+trSolving r factors store k b x = solvingBy trSolved r factors store k b x
 
 abbrev pub inverseAsks : ℕ → Column → Asks
 inverseAsks n x = record { square = true; solves = true; sizes = true; lengths = isMatrix n n x; numbers = true }
@@ -52,4 +73,4 @@ inverseAsks n x = record { square = true; solves = true; sizes = true; lengths =
 -- "solve with the identity"
 unfoldable pub inverting : Record → Column → List ℕ → Column → Outcome
 inverting r factors store x =
-    tested (takenRefusal (inverseAsks (r .rows) x) r factors store) x (seventh (solvedBy r factors store (identity (r .rows))))
+    tested (takenRefusal (inverseAsks (r .rows) x) r factors store) x (seventh (solvedBy solved r factors store (identity (r .rows))))

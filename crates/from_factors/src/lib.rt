@@ -1,4 +1,4 @@
-// What is read off the factors of `lu`: L, U, solutions, the inverse, the determinant and the invertible test; linalg/lu.rs of nalgebra 0.35.0.
+// What is read off the factors of `lu`: L, U, solutions (also of the transposed system), the inverse, the determinant and the invertible test; linalg/lu.rs of nalgebra 0.35.0.
 ghost use mathlib.Core.Path.{_≡_};
 ghost use mathlib.Core.Bool.{true};
 ghost use Prim.Native.Nat.{_+_, _*_, _<_, _≤_, min};
@@ -8,7 +8,7 @@ ghost use Rattle.refusals.specs.Refusals.{answerOf};
 ghost use Rattle.permutation_sequence.specs.SwapList.{goodList};
 ghost use Rattle.from_factors.specs.Taken.{takenRefusal};
 ghost use Rattle.from_factors.specs.Triangles.{lowerOf, upperOf, lowerFactor, upperFactor, lowering, uppering};
-ghost use Rattle.from_factors.specs.Solving.{solvedBy, solving, unitColumn, identity, inverting};
+ghost use Rattle.from_factors.specs.Solving.{solved, trSolved, wayOf, solvedBy, solvingBy, solving, trSolving, unitColumn, identity, inverting};
 ghost use Rattle.from_factors.specs.Determinant.{diagonalProduct, producing, numberOr7, determining, inverseTest};
 use lu::Record;
 use refusals::Answer;
@@ -164,7 +164,7 @@ pub fn u(factors: &[f64], swaps: &[usize], told: Record, out: &mut [f64]) -> Ans
 fn solve_mut(factors: &[f64], swaps: &[usize], told: Record, x: &mut [f64], k: usize)
     requires { ⌜ (isMatrix (told .rows) (told .rows) (now factors) ≡ true) × (isMatrix (told .rows) k (now x) ≡ true) ⌝ }
     requires { ⌜ goodList (told .rows) (told .rows) (told .pairs) (now swaps) ≡ true ⌝ }
-    ensures { λ _. ⌜ now (x .exit) ≡ solvedBy told (now (factors .entry)) (now (swaps .entry)) (columns (told .rows) k (now (x .entry))) ⌝ }
+    ensures { λ _. ⌜ now (x .exit) ≡ solvedBy solved told (now (factors .entry)) (now (swaps .entry)) (columns (told .rows) k (now (x .entry))) ⌝ }
 {
     let n = told.rows;
     permutation_sequence::apply_to_rows(x, n, k, swaps, told.pairs, false);
@@ -172,8 +172,41 @@ fn solve_mut(factors: &[f64], swaps: &[usize], told: Record, x: &mut [f64], k: u
     solve::solve_in_place(Pass::Upper, factors, n, x, k);
 }
 
-// Solves for the k right-hand columns b, into x.
-pub fn solve(
+// The same by the transposed system: transposed upper, transposed unit lower, rows swapped by the list in reverse.
+fn tr_solve_mut(factors: &[f64], swaps: &[usize], told: Record, x: &mut [f64], k: usize)
+    requires { ⌜ (isMatrix (told .rows) (told .rows) (now factors) ≡ true) × (isMatrix (told .rows) k (now x) ≡ true) ⌝ }
+    requires { ⌜ goodList (told .rows) (told .rows) (told .pairs) (now swaps) ≡ true ⌝ }
+    ensures { λ _. ⌜ now (x .exit) ≡ solvedBy trSolved told (now (factors .entry)) (now (swaps .entry)) (columns (told .rows) k (now (x .entry))) ⌝ }
+{
+    let n = told.rows;
+    solve::solve_in_place(Pass::TransposedUpper, factors, n, x, k);
+    solve::solve_in_place(Pass::TransposedUnitLower, factors, n, x, k);
+    permutation_sequence::apply_to_rows(x, n, k, swaps, told.pairs, true);
+}
+
+// The one that is asked for.
+fn solve_mut_by(
+    transposed: bool,
+    factors: &[f64],
+    swaps: &[usize],
+    told: Record,
+    x: &mut [f64],
+    k: usize,
+)
+    requires { ⌜ (isMatrix (told .rows) (told .rows) (now factors) ≡ true) × (isMatrix (told .rows) k (now x) ≡ true) ⌝ }
+    requires { ⌜ goodList (told .rows) (told .rows) (told .pairs) (now swaps) ≡ true ⌝ }
+    ensures { λ _. ⌜ now (x .exit) ≡ solvedBy (wayOf transposed) told (now (factors .entry)) (now (swaps .entry)) (columns (told .rows) k (now (x .entry))) ⌝ }
+{
+    if transposed {
+        tr_solve_mut(factors, swaps, told, x, k);
+    } else {
+        solve_mut(factors, swaps, told, x, k);
+    }
+}
+
+// Solves for the k right-hand columns b, into x, by the system or by the transposed one.
+fn solve_by(
+    transposed: bool,
     factors: &[f64],
     swaps: &[usize],
     told: Record,
@@ -181,8 +214,8 @@ pub fn solve(
     k: usize,
     x: &mut [f64],
 ) -> Answer
-    ensures { λ r. ⌜ r ≡ answerOf (solving told (now (factors .entry)) (now (swaps .entry)) k (now (b .entry)) (now (x .entry)) .number) ⌝ }
-    ensures { λ _. ⌜ now (x .exit) ≡ solving told (now (factors .entry)) (now (swaps .entry)) k (now (b .entry)) (now (x .entry)) .result ⌝ }
+    ensures { λ r. ⌜ r ≡ answerOf (solvingBy (wayOf transposed) told (now (factors .entry)) (now (swaps .entry)) k (now (b .entry)) (now (x .entry)) .number) ⌝ }
+    ensures { λ _. ⌜ now (x .exit) ≡ solvingBy (wayOf transposed) told (now (factors .entry)) (now (swaps .entry)) k (now (b .entry)) (now (x .entry)) .result ⌝ }
 {
     let n = told.rows;
     let sizes = !refusals::outside(1, k);
@@ -204,8 +237,38 @@ pub fn solve(
         return refusals::answer_for(number);
     }
     blas::copy(x, b);
-    solve_mut(factors, swaps, told, x, k);
+    solve_mut_by(transposed, factors, swaps, told, x, k);
     refusals::answer_for(refusals::settle(x))
+}
+
+// Solves for the k right-hand columns b, into x.
+pub fn solve(
+    factors: &[f64],
+    swaps: &[usize],
+    told: Record,
+    b: &[f64],
+    k: usize,
+    x: &mut [f64],
+) -> Answer
+    ensures { λ r. ⌜ r ≡ answerOf (solving told (now (factors .entry)) (now (swaps .entry)) k (now (b .entry)) (now (x .entry)) .number) ⌝ }
+    ensures { λ _. ⌜ now (x .exit) ≡ solving told (now (factors .entry)) (now (swaps .entry)) k (now (b .entry)) (now (x .entry)) .result ⌝ }
+{
+    solve_by(false, factors, swaps, told, b, k, x)
+}
+
+// Solves the transposed system for the k right-hand columns b, into x.
+pub fn tr_solve(
+    factors: &[f64],
+    swaps: &[usize],
+    told: Record,
+    b: &[f64],
+    k: usize,
+    x: &mut [f64],
+) -> Answer
+    ensures { λ r. ⌜ r ≡ answerOf (trSolving told (now (factors .entry)) (now (swaps .entry)) k (now (b .entry)) (now (x .entry)) .number) ⌝ }
+    ensures { λ _. ⌜ now (x .exit) ≡ trSolving told (now (factors .entry)) (now (swaps .entry)) k (now (b .entry)) (now (x .entry)) .result ⌝ }
+{
+    solve_by(true, factors, swaps, told, b, k, x)
 }
 
 // Column j of the identity.

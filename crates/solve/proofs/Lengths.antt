@@ -11,17 +11,18 @@ use Rattle.store.specs.Columns.{HasRows}
 use Rattle.store.specs.Steps.{Matrix}
 use Rattle.store.proofs.Columns.{each-rows}
 use Rattle.solve.specs.declared.Pass.{Pass}
-use Rattle.solve.specs.declared.Pass.the-variants.{Lower, Upper, GivenDiagonal, TransposedLower, TransposedUpper, CorrectedDiagonal}
-use Rattle.solve.specs.Triangular.{lowerRow, upperRow, keptRow, transposedLowerRow, transposedUpperRow, rowBy, solvedRow, turn, solvedColumn, solvedFrom}
+use Rattle.solve.specs.declared.Pass.the-variants.{Lower, Upper, GivenDiagonal, TransposedLower, TransposedUpper, CorrectedDiagonal, TransposedUnitLower}
+use Rattle.solve.specs.Triangular.{lowerRow, upperRow, keptRow, transposedLowerRow, transposedUpperRow, transposedUnitLowerRow, rowBy, solvedRow, turn, solvedColumn, solvedFrom}
 
 length-row : (pass : Pass) (d : Float) (l : Column) (i : ℕ) (b : Column) → length (rowBy pass d l i b) ≡ length b
-unfolding lowerRow upperRow keptRow transposedLowerRow transposedUpperRow
+unfolding lowerRow upperRow keptRow transposedLowerRow transposedUpperRow transposedUnitLowerRow
 length-row Lower d l i b = simp (length-axpy, length-set)
 length-row Upper d l i b = simp (length-append, length-axpy, length-take, length-drop, length-set) (omega arith)
 length-row (GivenDiagonal e) d l i b = simp length-axpy
 length-row TransposedLower d l i b = simp length-set
 length-row TransposedUpper d l i b = simp length-set
 length-row (CorrectedDiagonal e) d l i b = simp (length-axpy, length-set)
+length-row TransposedUnitLower d l i b = simp length-set
 
 pub length-turns : (f : ℕ → Column → Column) → ((k : ℕ) (s : Column) → length (f k s) ≡ length s) → (k c : ℕ) (s : Column) → length (turnsFrom f k c s) ≡ length s
 unfolding turnsFrom

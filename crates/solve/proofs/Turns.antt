@@ -12,7 +12,7 @@ use Rattle.store.specs.Columns.{columns}
 use Rattle.store.specs.Steps.{column}
 use Rattle.store.proofs.Columns.{part-column}
 use Rattle.solve.specs.declared.Pass.{Pass}
-use Rattle.solve.specs.declared.Pass.the-variants.{Lower, Upper, GivenDiagonal, TransposedLower, TransposedUpper, CorrectedDiagonal}
+use Rattle.solve.specs.declared.Pass.the-variants.{Lower, Upper, GivenDiagonal, TransposedLower, TransposedUpper, CorrectedDiagonal, TransposedUnitLower}
 use Rattle.solve.specs.Triangular.{divisor, rowBy, solvedRow, rowAt, turnsOf, turn}
 
 -- no more turns than rows, and each turn's row is one
@@ -23,6 +23,7 @@ turns-most (GivenDiagonal d) n = omega arith
 turns-most TransposedLower n = omega arith
 turns-most TransposedUpper n = omega arith
 turns-most (CorrectedDiagonal d) n = omega arith
+turns-most TransposedUnitLower n = omega arith
 
 pub row-below : (pass : Pass) (n k : ℕ) → k < n → rowAt pass n k < n
 row-below Lower n k h = h
@@ -31,6 +32,7 @@ row-below (GivenDiagonal d) n k h = h
 row-below TransposedLower n k h = omega arith
 row-below TransposedUpper n k h = h
 row-below (CorrectedDiagonal d) n k h = h
+row-below TransposedUnitLower n k h = omega arith
 
 -- the row that a loop of `turns` turns works on
 pub turn-row : (pass : Pass) (n k turns i : ℕ) → turns ≡ turnsOf pass n → k < turns → i ≡ rowAt pass n k → i < n

@@ -1,5 +1,5 @@
--- Document 01, "Solving": the five triangular solves, row by row and column by column, and beside the given diagonal the corrected one (document
--- 02, request 4). Each right-hand column is solved by itself.
+-- Document 01, "Solving": the five triangular solves, row by row and column by column, beside the given diagonal the corrected one (document
+-- 02, request 4), and beside transposed lower the one whose diagonal counts as one (request 5). Each right-hand column is solved by itself.
 use mathlib.Core.Bool.{cond}
 use mathlib.Core.List.{_++_}
 use Prim.Native.Nat.{ℕ, _+_, _-_}
@@ -11,7 +11,7 @@ use Rattle.blas.specs.Dot.{dotOf}
 use Rattle.store.specs.Columns.{columns, isMatrix, onColumns}
 use Rattle.store.specs.Steps.{Matrix, column}
 use Rattle.solve.specs.declared.Pass.{Pass}
-use Rattle.solve.specs.declared.Pass.the-variants.{Lower, Upper, GivenDiagonal, TransposedLower, TransposedUpper, CorrectedDiagonal}
+use Rattle.solve.specs.declared.Pass.the-variants.{Lower, Upper, GivenDiagonal, TransposedLower, TransposedUpper, CorrectedDiagonal, TransposedUnitLower}
 
 -- what f makes of the given diagonal; `own` where none is given
 abbrev pub given : {A : Type 0} → Pass → (Float → A) → A → A
@@ -21,6 +21,7 @@ given (GivenDiagonal d) f own = f d
 given TransposedLower f own = own
 given TransposedUpper f own = own
 given (CorrectedDiagonal d) f own = f d
+given TransposedUnitLower f own = own
 
 -- the number that row i is divided by, l being column i of the matrix
 abbrev pub divisor : Pass → Column → ℕ → Float
@@ -49,6 +50,10 @@ transposedLowerRow d l i b = set b i (div binary64 (sub binary64 (entry b i) (do
 unfoldable pub transposedUpperRow : Float → Column → ℕ → Column → Column
 transposedUpperRow d l i b = set b i (div binary64 (sub binary64 (entry b i) (dotOf (take i l) (take i b))) d)
 
+-- transposed lower where the diagonal counts as one (document 02, request 5): nothing is divided
+unfoldable pub transposedUnitLowerRow : Column → ℕ → Column → Column
+transposedUnitLowerRow l i b = set b i (sub binary64 (entry b i) (dotOf (drop (i + 1) l) (drop (i + 1) b)))
+
 -- What each solve does in row i, d being the number to divide by. The corrected given diagonal (document 02, request 4) is a diagonal like
 -- the matrix's own: "each entry is divided by d, stored, and drives the updates".
 abbrev pub rowBy : Pass → Float → Column → ℕ → Column → Column
@@ -58,6 +63,7 @@ rowBy (GivenDiagonal _) d l i b = keptRow d l i b
 rowBy TransposedLower d l i b = transposedLowerRow d l i b
 rowBy TransposedUpper d l i b = transposedUpperRow d l i b
 rowBy (CorrectedDiagonal _) d l i b = lowerRow d l i b
+rowBy TransposedUnitLower d l i b = transposedUnitLowerRow l i b
 
 -- row i of a solve, l being column i of the matrix
 unfoldable pub solvedRow : Pass → Column → ℕ → Column → Column
@@ -73,6 +79,7 @@ rowAt (GivenDiagonal d) n k = k
 rowAt TransposedLower n k = n - 1 - k
 rowAt TransposedUpper n k = k
 rowAt (CorrectedDiagonal d) n k = k
+rowAt TransposedUnitLower n k = n - 1 - k
 
 -- every row has its turn; where a given diagonal leaves the entries undivided, all but the last, whose quotient is never formed
 abbrev pub turnsOf : Pass → ℕ → ℕ
@@ -82,6 +89,7 @@ turnsOf (GivenDiagonal d) n = n - 1
 turnsOf TransposedLower n = n
 turnsOf TransposedUpper n = n
 turnsOf (CorrectedDiagonal d) n = n
+turnsOf TransposedUnitLower n = n
 
 -- turn k on a right-hand column, cs being the columns of the matrix
 unfoldable pub turn : Pass → ℕ → Matrix → ℕ → Column → Column

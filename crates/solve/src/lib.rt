@@ -5,12 +5,12 @@ ghost use Prim.Native.Nat.{_<_};
 ghost use lib.ListN.{length};
 ghost use Rattle.store.specs.Columns.{columns, isMatrix};
 ghost use Rattle.refusals.specs.Refusals.{answerOf};
-ghost use Rattle.solve.specs.Triangular.{divisor, lowerRow, upperRow, keptRow, transposedLowerRow, transposedUpperRow, solvedRow, rowAt, turnsOf, solvedColumn, solvedInPlace};
+ghost use Rattle.solve.specs.Triangular.{divisor, lowerRow, upperRow, keptRow, transposedLowerRow, transposedUpperRow, transposedUnitLowerRow, solvedRow, rowAt, turnsOf, solvedColumn, solvedInPlace};
 ghost use Rattle.solve.specs.Calls.{zeroOnDiagonal, sizesOutside, lengthsFit, givenFinite, numbersFinite, zeroDivisor, refusalOf, solving};
 use refusals::Answer;
 
 // Which solve it is: the triangle read, the diagonal divided by, and whether the matrix is transposed. A given diagonal is the Rust's: it
-// leaves the entries undivided. Corrected, it divides them.
+// leaves the entries undivided. Corrected, it divides them. In the transposed unit lower triangle the diagonal counts as one.
 pub enum Pass {
     Lower,
     Upper,
@@ -18,6 +18,7 @@ pub enum Pass {
     TransposedLower,
     TransposedUpper,
     CorrectedDiagonal(f64),
+    TransposedUnitLower,
 }
 
 // The number that row i is divided by: the given diagonal, or else the matrix's own.
@@ -83,6 +84,16 @@ fn transposed_upper_row(d: f64, col: &[f64], b: &mut [f64], i: usize)
     b[i] = (b[i] - sum) / d;
 }
 
+// Row i less the dot product of the rows below it, undivided.
+fn transposed_unit_lower_row(col: &[f64], b: &mut [f64], i: usize)
+    requires { ⌜ (i < length (now col)) × (i < length (now b)) ⌝ }
+    ensures { λ _. ⌜ now (b .exit) ≡ transposedUnitLowerRow (now (col .entry)) i (now (b .entry)) ⌝ }
+{
+    let a = i + 1;
+    let sum = blas::dot(&col[a..], &b[a..]);
+    b[i] = b[i] - sum;
+}
+
 // One row of a solve, col being column i of the matrix.
 fn solve_row(pass: Pass, col: &[f64], b: &mut [f64], i: usize)
     requires { ⌜ (i < length (now col)) × (i < length (now b)) ⌝ }
@@ -96,6 +107,7 @@ fn solve_row(pass: Pass, col: &[f64], b: &mut [f64], i: usize)
         Pass::TransposedLower => transposed_lower_row(d, col, b, i),
         Pass::TransposedUpper => transposed_upper_row(d, col, b, i),
         Pass::CorrectedDiagonal(_) => lower_row(d, col, b, i),
+        Pass::TransposedUnitLower => transposed_unit_lower_row(col, b, i),
     }
 }
 
@@ -112,6 +124,7 @@ fn row_at(pass: Pass, n: usize, k: usize) -> usize
         Pass::TransposedLower => up,
         Pass::TransposedUpper => k,
         Pass::CorrectedDiagonal(_) => k,
+        Pass::TransposedUnitLower => up,
     }
 }
 

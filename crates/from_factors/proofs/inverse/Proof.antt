@@ -3,7 +3,7 @@ use mathlib.Core.Path.{_≡_, refl, sym, _∙_}
 use borrow.Author.Needs.{needs}
 use Rattle.store.proofs.Columns.{same-matrix}
 use Rattle.from_factors.specs.Taken.{takenRefusal}
-use Rattle.from_factors.specs.Solving.{inverseAsks, inverting}
+use Rattle.from_factors.specs.Solving.{inverseAsks, solved, inverting}
 use Rattle.from_factors.proofs.Taken.{Passed, passed, square-matrix, square-list, promise-refused, promise-solved}
 use Rattle.from_factors.proofs.inverse.Statement.{statement}
 use Rattle.from_factors.proofs.inverse.Tie as tie
@@ -41,7 +41,7 @@ returns-2 c =
     let at-if1 = at-fill-with-identity .before .before in
     let at-taken-refusal = at-if1 .before in
     let told = at-taken-refusal .before .before .before .before .before .before .args .told in
-    promise-solved told _ _ _ _ _ _ _ _ _ _ _ (number-is at-taken-refusal) (at-if1 .if1 .left) (at-solve-mut .solve-mut .ensures) (at-fill-with-identity .fill-with-identity .ensures) (at-settle .settle .ensures .0) (c .answer-for2 .ensures) (at-settle .settle .ensures .1)
+    promise-solved solved told _ _ _ _ _ _ _ _ _ _ _ (number-is at-taken-refusal) (at-if1 .if1 .left) (at-solve-mut .solve-mut .ensures) (at-fill-with-identity .fill-with-identity .ensures) (at-settle .settle .ensures .0) (c .answer-for2 .ensures) (at-settle .settle .ensures .1)
 
 pub inverse-spec : {M : Type 1} → statement M
 inverse-spec =

@@ -10,6 +10,9 @@ returns-2 c = rw (c .enum-told2 .given .1)
 returns-4 : tie.Need-returns-4
 returns-4 c = rw (c .enum-told4 .given .1)
 
+returns-7 : tie.Need-returns-7
+returns-7 c = rw (c .enum-told7 .given .1)
+
 pub row-at-spec : {M : Type 1} → statement M
 row-at-spec =
     tie.close
@@ -23,8 +26,10 @@ row-at-spec =
     (λ c. search needs)
     (λ c. search needs)
     (λ c. search needs)
+    (λ c. search needs)
     returns-2
     (λ c. search needs)
     returns-4
     (λ c. search needs)
-    (λ c. search needs))
+    (λ c. search needs)
+    returns-7)

@@ -22,10 +22,15 @@ returns-5 c = row-done _ _ _ _ _ _ _ (c .before .before .before .before .enum-to
 returns-6 : tie.Need-returns-6
 returns-6 c = row-done _ _ _ _ _ _ _ (c .before .before .before .before .enum-told6 .given .1) (c .before .before .before .before .before .before .divisor .ensures) (c .before .before .lower-row2 .ensures)
 
+returns-7 : tie.Need-returns-7
+returns-7 c = row-done _ _ _ _ _ _ _ (c .before .before .before .before .enum-told7 .given .1) (c .before .before .before .before .before .before .divisor .ensures) (c .before .before .transposed-unit-lower-row .ensures)
+
 pub solve-row-spec : {M : Type 1} → statement M
 solve-row-spec =
     tie.close
     (tie.spec
+    (λ c κs. search needs)
+    (λ c. search needs)
     (λ c κs. search needs)
     (λ c. search needs)
     (λ c κs. search needs)
@@ -50,4 +55,6 @@ solve-row-spec =
     (λ c. search needs)
     returns-5
     (λ c. search needs)
-    returns-6)
+    returns-6
+    (λ c. search needs)
+    returns-7)
