@@ -1,4 +1,5 @@
 pub mod Determined
+pub mod Moving
 pub mod Ordering
 pub mod Printed
 pub mod Writing

@@ -19,8 +19,7 @@ use Rattle.lu.specs.declared.Record.{Record}
 use Rattle.lu.specs.declared.Factored.{Factored}
 use Rattle.lu.specs.declared.Factored.the-variants.{Accepted, Refused}
 use Rattle.lu.specs.Factoring.{Factoring, factoring, factoredOf}
-use Rattle.from_factors.specs.Solving.{solving}
-use Rattle.from_factors.specs.Solving.{solveAsks, solvedBy}
+use Rattle.from_factors.specs.Solving.{Way, solved, trSolved, solveAsks, solvedBy, solvingBy, solving, trSolving}
 use Rattle.from_factors.specs.Taken.{takenRefusal}
 use Rattle.store.specs.Columns.{columns}
 use Rattle.refusals.specs.Refusals.{seventh, tested}
@@ -34,7 +33,7 @@ use Rattle.panel_file.specs.Reading.{Reading, reading, readOf}
 use Rattle.panel_file.proofs.Calls.{accepted}
 use Rattle.panel.specs.declared.Order.{Order}
 use Rattle.panel.specs.declared.Order.the-variants.{Pads, Refused as Declined}
-use Rattle.panel.specs.Ordering.{Ordering, Shown, factored, loading, ordered, ordering, orderOf, fileRefusal}
+use Rattle.panel.specs.Ordering.{Ordering, Shown, factored, systemOf, loadingBy, loading, ordered, ordering, orderOf, fileRefusal}
 
 -- ---- what an answer tells
 
@@ -60,26 +59,26 @@ told-refused f number e = go (eqb (f .number) 0) refl e
 
 -- ---- factoring, then the solve
 
-module _ (n : ℕ) (a b x f0 : Column) (s0 : List ℕ) (e0 : f0 ≡ zeros (n * n)) (e1 : s0 ≡ replicate 128 0) where
+module _ (transposed : Bool) (n : ℕ) (a b x f0 : Column) (s0 : List ℕ) (e0 : f0 ≡ zeros (n * n)) (e1 : s0 ≡ replicate 128 0) where
   from-zeros : factoring n n a f0 s0 ≡ factored n a
   from-zeros = ap₂ (factoring n n a) e0 e1
 
-  pub loads-solved : (made : Factored) (told : Record) (f1 : Column) (s1 : List ℕ) (answer : Answer) (x1 : Column) (number : ℕ)
+  pub loads-solved : (made : Factored) (told : Record) (f1 : Column) (s1 : List ℕ) (x1 : Column) (number : ℕ)
       → made ≡ factoredOf (factoring n n a f0 s0) → made ≡ Accepted told → f1 ≡ factoring n n a f0 s0 .factors → s1 ≡ factoring n n a f0 s0 .store
-      → answer ≡ answerOf (solving told f1 s1 1 b x .number) → x1 ≡ solving told f1 s1 1 b x .result → number ≡ numberOf answer
-      → (number ≡ loading n a b x .number) × (x1 ≡ loading n a b x .result)
-  unfolding loading
-  loads-solved made told f1 s1 answer x1 number m t f s d r k =
+      → number ≡ systemOf transposed told f1 s1 1 b x .number → x1 ≡ systemOf transposed told f1 s1 1 b x .result
+      → (number ≡ loadingBy transposed n a b x .number) × (x1 ≡ loadingBy transposed n a b x .result)
+  unfolding loadingBy
+  loads-solved made told f1 s1 x1 number m t f s d r =
       let g = from-zeros in
       let p = told-accepted (factored n a) told (sym (m ∙ ap factoredOf g) ∙ t) in
-      let same : solving told f1 s1 1 b x ≡ solving (factored n a .told) (factored n a .factors) (factored n a .store) 1 b x =
-      λ i. solving (p .1 i) ((f ∙ ap (λ (o : Factoring). o .factors) g) i) ((s ∙ ap (λ (o : Factoring). o .store) g) i) 1 b x in
+      let same : systemOf transposed told f1 s1 1 b x ≡ systemOf transposed (factored n a .told) (factored n a .factors) (factored n a .store) 1 b x =
+      λ i. systemOf transposed (p .1 i) ((f ∙ ap (λ (o : Factoring). o .factors) g) i) ((s ∙ ap (λ (o : Factoring). o .store) g) i) 1 b x in
       rw (eq-eqb (factored n a .number) 0 (p .0))
-      (k ∙ ap numberOf d ∙ number-told _ ∙ ap (λ (o : Outcome). o .number) same, r ∙ ap (λ (o : Outcome). o .result) same)
+      (d ∙ ap (λ (o : Outcome). o .number) same, r ∙ ap (λ (o : Outcome). o .result) same)
 
   pub loads-refused : (made : Factored) (x1 : Column) (number : ℕ) → made ≡ factoredOf (factoring n n a f0 s0) → made ≡ Refused number → x1 ≡ zeros (length x)
-      → (number ≡ loading n a b x .number) × (x1 ≡ loading n a b x .result)
-  unfolding loading
+      → (number ≡ loadingBy transposed n a b x .number) × (x1 ≡ loadingBy transposed n a b x .result)
+  unfolding loadingBy
   loads-refused made x1 number m t r =
       let p = told-refused (factored n a) number (sym (m ∙ ap factoredOf from-zeros) ∙ t) in
       rw (ne-eqb (factored n a .number) 0 (p .0)) (p .1, r)
@@ -117,15 +116,15 @@ pub front-fits : {A : Type 0} (k : ℕ) (x s : List A) → length x ≡ length (
 front-fits k x s e h = let l : length x ≡ k = e ∙ length-take-le k s h in rw length-append (omega arith)
 
 -- what the solve accepts is finite
-solving-finite : (r : Record) (f : Column) (s : List ℕ) (k : ℕ) (b x : Column) → solving r f s k b x .number ≡ 0 → allFinite (solving r f s k b x .result) ≡ true
-unfolding solving tested seventh
-solving-finite r f s k b x e = go (eqb t 0) (allFinite made) refl refl e
+solving-finite : (way : Way) (r : Record) (f : Column) (s : List ℕ) (k : ℕ) (b x : Column) → solvingBy way r f s k b x .number ≡ 0 → allFinite (solvingBy way r f s k b x .result) ≡ true
+unfolding tested seventh
+solving-finite way r f s k b x e = go (eqb t 0) (allFinite made) refl refl e
   where
     t : ℕ
     t = takenRefusal (solveAsks (r .rows) k b x) r f s
 
     made : Column
-    made = solvedBy r f s (columns (r .rows) k b)
+    made = solvedBy way r f s (columns (r .rows) k b)
 
     out : Bool → Bool → Outcome
     out u v = cond u (cond v (record { number = 0; result = made }) (record { number = 7; result = zeros (length made) })) (record { number = t; result = x })
@@ -135,18 +134,23 @@ solving-finite r f s k b x e = go (eqb t 0) (allFinite made) refl refl e
     go true false d c e = absurd (omega (arith, e))
     go false v d c e = absurd (eqb-false t 0 d e)
 
-loading-finite : (n : ℕ) (a b x : Column) → loading n a b x .number ≡ 0 → allFinite (loading n a b x .result) ≡ true
-unfolding loading
-loading-finite n a b x e = go (eqb (factored n a .number) 0) refl e
+system-finite : (t : Bool) (r : Record) (f : Column) (s : List ℕ) (k : ℕ) (b x : Column) → systemOf t r f s k b x .number ≡ 0 → allFinite (systemOf t r f s k b x .result) ≡ true
+unfolding solving trSolving
+system-finite true = solving-finite trSolved
+system-finite false = solving-finite solved
+
+pub loading-finite : (t : Bool) (n : ℕ) (a b x : Column) → loadingBy t n a b x .number ≡ 0 → allFinite (loadingBy t n a b x .result) ≡ true
+unfolding loadingBy
+loading-finite t n a b x e = go (eqb (factored n a .number) 0) refl e
   where
     done : Outcome
-    done = solving (factored n a .told) (factored n a .factors) (factored n a .store) 1 b x
+    done = systemOf t (factored n a .told) (factored n a .factors) (factored n a .store) 1 b x
 
     out : Bool → Outcome
     out u = cond u done (record { number = factored n a .number; result = zeros (length x) })
 
     go : (u : Bool) → eqb (factored n a .number) 0 ≡ u → out u .number ≡ 0 → allFinite (out u .result) ≡ true
-    go true d e = solving-finite (factored n a .told) (factored n a .factors) (factored n a .store) 1 b x e
+    go true d e = system-finite t (factored n a .told) (factored n a .factors) (factored n a .store) 1 b x e
     go false d e = absurd (eqb-false (factored n a .number) 0 d e)
 
 module _ (n : ℕ) (a b : Column) (ranks : List ℕ) (loads x1 : Column) (number : ℕ)
@@ -158,7 +162,7 @@ module _ (n : ℕ) (a b : Column) (ranks : List ℕ) (loads x1 : Column) (number
       let front : take n (x1 ++ drop n loads) ≡ x1 = take-at x1 (drop n loads) n count in
       let short : n ≤ length ranks = omega arith in
       let good : rankingRefusal n x1 (take n ranks) ≡ 0 =
-      not-refused n x1 (take n ranks) (record { size = record { at-least = lo; at-most = hi }; loads-length = count; ranks-length = length-take-le n ranks short; finite = rw r (loading-finite n a b (take n loads) none) }) in
+      not-refused n x1 (take n ranks) (record { size = record { at-least = lo; at-most = hi }; loads-length = count; ranks-length = length-take-le n ranks short; finite = rw r (loading-finite false n a b (take n loads) none) }) in
       f ∙ ap (λ (t : Column). ranking n t (take n ranks) .ranks) front ∙ ranking-accepted n x1 (take n ranks) good
 
   pub ordered-refused : (number ≡ 0 → ⊥)
@@ -173,7 +177,7 @@ module _ (n : ℕ) (a b : Column) (ranks : List ℕ) (loads x1 : Column) (number
       let front : take n (x1 ++ drop n loads) ≡ x1 = take-at x1 (drop n loads) n count in
       record {
         few = hi;
-        finite = rw (front, r) (loading-finite n a b (take n loads) (sym e ∙ z));
+        finite = rw (front, r) (loading-finite false n a b (take n loads) (sym e ∙ z));
         pads = pads-held x1 n n (r1 ++ drop n ranks) ranks (omega arith) (ap (λ (t : List ℕ). t ++ drop n ranks) made);
       }
 

@@ -20,11 +20,11 @@ use Rattle.store.specs.Columns.{flat}
 use Rattle.lu.specs.Elimination.{Factors}
 use Rattle.lu.specs.Factoring.{Factoring, factoringRefusal, settled, factoring}
 use Rattle.from_factors.specs.Taken.{takenRefusal}
-use Rattle.from_factors.specs.Solving.{solving}
+use Rattle.from_factors.specs.Solving.{Way, solved, trSolved, solvingBy, solving, trSolving}
 use Rattle.panel.specs.declared.Order.{Order}
 use Rattle.panel.specs.declared.Order.the-variants.{Pads, Refused}
 use Rattle.panel.specs.Text.{written, padsText, refusedText}
-use Rattle.panel.specs.Ordering.{factored, loading, Ordering, ordered, ordering, orderOf, Shown, fileRefusal, textOf}
+use Rattle.panel.specs.Ordering.{factored, systemOf, loadingBy, loading, Ordering, ordered, ordering, toldOf, orderOf, Shown, fileRefusal, textOf}
 
 -- ---- refusal numbers are at most 8
 few : (k : ℕ) (t : Bool) (ts : List (ℕ × Bool)) → k ≤ 8 → firstOf ts ≤ 8 → firstOf ((k, t) ∷ ts) ≤ 8
@@ -57,41 +57,55 @@ tested-few : (k : ℕ) (was : Column) (made : Outcome) → k ≤ 8 → made .num
 unfolding tested
 tested-few k was made h l = cond-cases (λ (o : Outcome). o .number ≤ 8) (eqb k 0) (λ e. l) (λ e. h)
 
-solving-few : (r : Record) (f : Column) (s : List ℕ) (k : ℕ) (b x : Column) → solving r f s k b x .number ≤ 8
-unfolding solving takenRefusal
-solving-few r f s k b x =
+solving-few : (way : Way) (r : Record) (f : Column) (s : List ℕ) (k : ℕ) (b x : Column) → solvingBy way r f s k b x .number ≤ 8
+unfolding takenRefusal
+solving-few way r f s k b x =
     tested-few _ x _ (few 1 _ _ (omega arith) (few 2 _ _ (omega arith) (few 3 _ _ (omega arith) (few 4 _ _ (omega arith) (few 5 _ _ (omega arith) (few 6 _ _ (omega arith) none-few))))))
     (seventh-few _)
 
-loading-few : (n : ℕ) (a b x : Column) → loading n a b x .number ≤ 8
-unfolding loading
-loading-few n a b x =
-    cond-cases (λ (o : Outcome). o .number ≤ 8) (eqb (factored n a .number) 0) (λ e. solving-few _ _ _ 1 b x) (λ e. factoring-few n n a (zeros (n * n)) (replicate 128 0))
+system-few : (t : Bool) (r : Record) (f : Column) (s : List ℕ) (k : ℕ) (b x : Column) → systemOf t r f s k b x .number ≤ 8
+unfolding solving trSolving
+system-few true = solving-few trSolved
+system-few false = solving-few solved
+
+pub loading-few : (t : Bool) (n : ℕ) (a b x : Column) → loadingBy t n a b x .number ≤ 8
+unfolding loadingBy
+loading-few t n a b x =
+    cond-cases (λ (o : Outcome). o .number ≤ 8) (eqb (factored n a .number) 0) (λ e. system-few t _ _ _ 1 b x) (λ e. factoring-few n n a (zeros (n * n)) (replicate 128 0))
 
 ordered-few : (n : ℕ) (a b : Column) (ranks : List ℕ) (loads : Column) → ordered n a b ranks loads .number ≤ 8
 unfolding ordered
-ordered-few n a b ranks loads = cond-cases (λ (o : Ordering). o .number ≤ 8) (eqb (loading n a b (take n loads) .number) 0) (λ e. omega arith) (λ e. loading-few n a b (take n loads))
+ordered-few n a b ranks loads = cond-cases (λ (o : Ordering). o .number ≤ 8) (eqb (loading n a b (take n loads) .number) 0) (λ e. omega arith) (λ e. loading-few false n a b (take n loads))
+
+pub file-few : (bytes : List ℕ) → fileRefusal bytes ≤ 8
+file-few bytes = reading-few bytes (zeros 4096) (zeros 64)
 
 pub ordering-few : (bytes ranks : List ℕ) (loads : Column) → ordering bytes ranks loads .number ≤ 8
 unfolding ordering
-ordering-few bytes ranks loads = cond-cases (λ (o : Ordering). o .number ≤ 8) (eqb (fileRefusal bytes) 0) (λ e. ordered-few _ _ _ ranks loads) (λ e. reading-few bytes (zeros 4096) (zeros 64))
+ordering-few bytes ranks loads = cond-cases (λ (o : Ordering). o .number ≤ 8) (eqb (fileRefusal bytes) 0) (λ e. ordered-few _ _ _ ranks loads) (λ e. file-few bytes)
 
 -- ---- the text by the case of the answer
+pub told-pads : (number pads n : ℕ) → toldOf number pads ≡ Pads n → (number ≡ 0) × (n ≡ pads)
+told-pads number pads n e = go (eqb number 0) refl e
+  where
+    go : (t : Bool) → eqb number 0 ≡ t → cond t (Pads pads) (Refused number) ≡ Pads n → (number ≡ 0) × (n ≡ pads)
+    go true d e = (eqb-true number 0 d, (cc))
+    go false d e = absurd (let z : _≡_ {A = ℕ} 0 1 = cc in omega arith)
+
+pub told-refused : (number pads k : ℕ) → toldOf number pads ≡ Refused k → (number ≡ 0 → ⊥) × (k ≡ number)
+told-refused number pads k e = go (eqb number 0) refl e
+  where
+    go : (t : Bool) → eqb number 0 ≡ t → cond t (Pads pads) (Refused number) ≡ Refused k → (number ≡ 0 → ⊥) × (k ≡ number)
+    go true d e = absurd (let z : _≡_ {A = ℕ} 0 1 = cc in omega arith)
+    go false d e = (eqb-false number 0 d, (cc))
+
 order-pads : (o : Ordering) (n : ℕ) → orderOf o ≡ Pads n → (o .number ≡ 0) × (n ≡ o .pads)
 unfolding orderOf
-order-pads o n e = go (eqb (o .number) 0) refl e
-  where
-    go : (t : Bool) → eqb (o .number) 0 ≡ t → cond t (Pads (o .pads)) (Refused (o .number)) ≡ Pads n → (o .number ≡ 0) × (n ≡ o .pads)
-    go true d e = (eqb-true (o .number) 0 d, (cc))
-    go false d e = absurd (let z : _≡_ {A = ℕ} 0 1 = cc in omega arith)
+order-pads o n e = told-pads (o .number) (o .pads) n e
 
 order-refused : (o : Ordering) (k : ℕ) → orderOf o ≡ Refused k → (o .number ≡ 0 → ⊥) × (k ≡ o .number)
 unfolding orderOf
-order-refused o k e = go (eqb (o .number) 0) refl e
-  where
-    go : (t : Bool) → eqb (o .number) 0 ≡ t → cond t (Pads (o .pads)) (Refused (o .number)) ≡ Refused k → (o .number ≡ 0 → ⊥) × (k ≡ o .number)
-    go true d e = absurd (let z : _≡_ {A = ℕ} 0 1 = cc in omega arith)
-    go false d e = (eqb-false (o .number) 0 d, (cc))
+order-refused o k e = told-refused (o .number) (o .pads) k e
 
 module _ (bytes : List ℕ) (made : Order) (m : made ≡ orderOf (ordering bytes (replicate 64 0) (zeros 64))) where
   abbrev answer : Ordering

@@ -1,9 +1,8 @@
 -- The whole answer for a panel file, on every input. Document 01, "Ranking and program": "8, then 1, then 3, then 5 .. by the reader; then factoring's
 -- 7, then the solve's 6, then its 7"; else the pads in rank order and their loads.
-use mathlib.Core.Bool.{cond}
+use mathlib.Core.Bool.{Bool, true, false, cond}
 use mathlib.Core.List.{List, _++_}
 use mathlib.Core.Path.{_≡_}
-use mathlib.Core.Bool.{true}
 use Prim.Native.Nat.{ℕ, _*_, _≤_, _<_}
 use lib.Dec.{eqb}
 use lib.ListN.{length, getD, take, drop, replicate}
@@ -13,7 +12,8 @@ use Rattle.ranking.specs.Ranking.{IsPad, ranked, padsTo}
 use Rattle.panel_file.specs.File.{padsOf, matrixOf, readingsOf}
 use Rattle.panel_file.specs.Reading.{readingRefusal}
 use Rattle.lu.specs.Factoring.{Factoring, factoring}
-use Rattle.from_factors.specs.Solving.{solving}
+use Rattle.lu.specs.declared.Record.{Record}
+use Rattle.from_factors.specs.Solving.{solving, trSolving}
 use Rattle.from_factors.specs.Determinant.{determining}
 use Rattle.from_factors.specs.declared.Det.{Det}
 use Rattle.from_factors.specs.declared.Det.the-variants.{Refused as NoNumber}
@@ -29,11 +29,20 @@ fileRefusal bytes = readingRefusal bytes (zeros 4096) (zeros 64)
 abbrev pub factored : ℕ → Column → Factoring
 factored n a = factoring n n a (zeros (n * n)) (replicate 128 0)
 
--- the loads for the readings b, or the refusal, 0 for none; x is what the slice for the loads held. Refused with 7 it is +0.0.
-unfoldable pub loading : ℕ → Column → Column → Column → Outcome
-loading n a b x =
+-- the solve that is asked for: by the system, or by the transposed one
+abbrev pub systemOf : Bool → Record → Column → List ℕ → ℕ → Column → Column → Outcome
+systemOf true = trSolving
+systemOf false = solving
+
+-- the solution for the right-hand side b, or the refusal, 0 for none; x is what the slice for it held. Refused with 7 it is +0.0.
+unfoldable pub loadingBy : Bool → ℕ → Column → Column → Column → Outcome
+loadingBy transposed n a b x =
     let f = factored n a in
-    cond (eqb (f .number) 0) (solving (f .told) (f .factors) (f .store) 1 b x) (record { number = f .number; result = zeros (length x) })
+    cond (eqb (f .number) 0) (systemOf transposed (f .told) (f .factors) (f .store) 1 b x) (record { number = f .number; result = zeros (length x) })
+
+-- the loads for the readings b
+abbrev pub loading : ℕ → Column → Column → Column → Outcome
+loading n a b x = loadingBy false n a b x
 
 -- a refusal number, 0 for none, with the number of pads and what the two slices of 64 then hold
 pub record Ordering : Type 0 where
@@ -56,9 +65,12 @@ ordering bytes ranks loads =
     cond (eqb (fileRefusal bytes) 0) (ordered n (matrixOf n bytes) (readingsOf n bytes) ranks loads)
     (record { number = fileRefusal bytes; pads = 0; ranks = ranks; loads = loads })
 
--- what the call answers, and the number that an answer stands for
+-- what a call answers: the number of pads, or the refusal; and the number that an answer stands for
+abbrev pub toldOf : ℕ → ℕ → Order
+toldOf number pads = cond (eqb number 0) (Pads pads) (Refused number)
+
 unfoldable pub orderOf : Ordering → Order
-orderOf o = cond (eqb (o .number) 0) (Pads (o .pads)) (Refused (o .number))
+orderOf o = toldOf (o .number) (o .pads)
 
 unfoldable pub numberOf : Order → ℕ
 numberOf (Pads n) = 0

@@ -2,10 +2,11 @@
 -- `refused K`", as bytes, each line ended by a newline.
 use mathlib.Core.Bool.{cond}
 use mathlib.Core.List.{List, [], _∷_, _++_}
-use Prim.Native.Nat.{ℕ, _+_, _/_, _%_}
+use Prim.Native.Nat.{ℕ, suc, _+_, _/_, _%_}
 use lib.Dec.{ltb}
 use lib.ListN.{length, take, drop}
 use lib.Ieee.{Float, binary64, toBits}
+use Rattle.blas.specs.Each.{listOf}
 use Rattle.blas.specs.Column.{Column}
 use Rattle.ranking.specs.Ranking.{loadOf}
 use Rattle.io.specs.Digits.{digits}
@@ -26,6 +27,14 @@ lineOf pad load = decimal pad ++ 32 ∷ [] ++ digits 16 16 (toBits binary64 load
 unfoldable pub linesOf : Column → List ℕ → List ℕ
 linesOf loads [] = []
 linesOf loads (p ∷ ps) = lineOf p (loadOf loads p) ++ linesOf loads ps
+
+-- the numbers of n readings, 1 first
+abbrev pub numbered : ℕ → List ℕ
+numbered n = listOf n suc
+
+-- document 02, request 5: "one line a reading: number, space, 16 hex digits"
+abbrev pub movesText : Column → List ℕ
+movesText moves = linesOf moves (numbered (length moves))
 
 -- `pads N` with the lines behind it
 unfoldable pub padsText : ℕ → Column → List ℕ → List ℕ

@@ -1,22 +1,25 @@
-// Document 01, "Ranking and program": the whole answer for a panel file, the quick check of a crossing's stiffness, and the text that is printed.
+// Document 01, "Ranking and program": the whole answer for a panel file, the quick check of a crossing's stiffness, how a pad's load moves with each
+// reading (document 02, request 5), and the text that is printed.
 ghost use mathlib.Core.Path.{_≡_};
 ghost use mathlib.Core.Bool.{true};
 ghost use Prim.Native.Nat.{ℕ, _+_, _*_, _<_, _≤_};
-ghost use lib.ListN.{length, getD, replicate};
+ghost use lib.ListN.{length, getD, take, replicate};
 ghost use lib.Ieee.Scale.{finite};
 ghost use Rattle.blas.specs.Column.{allFinite, zeros};
 ghost use Rattle.refusals.specs.Refusals.{numberOf};
 ghost use Rattle.ranking.specs.Ranking.{IsPad};
 ghost use Rattle.io.specs.Counts.{Counts};
 ghost use Rattle.io.specs.Digits.{digits, glyph as Digits·glyph};
-ghost use Rattle.panel.specs.Text.{written, decimal, lineOf, linesOf, padsText, refusedText};
-ghost use Rattle.panel.specs.Ordering.{loading, Shown, ordered, ordering, orderOf, stiffnessOf, stiffness, textOf};
+ghost use Rattle.panel.specs.Text.{written, decimal, lineOf, linesOf, movesText, padsText, refusedText};
+ghost use Rattle.panel.specs.Ordering.{systemOf, loadingBy, Shown, ordered, ordering, toldOf, orderOf, stiffnessOf, stiffness, textOf};
+ghost use Rattle.panel.specs.Moving.{moved, moving, movesOf, movesTextOf};
 use from_factors::Det;
 use lu::Factored;
+use lu::Record;
 use panel_file::Panel;
 use refusals::Answer;
 
-// What a panel file's whole answer is: how many pads are ranked, or a refusal's number.
+// What a call on a panel file answers: how many pads it has, or a refusal's number.
 pub enum Order {
     Pads(usize),
     Refused(usize),
@@ -32,8 +35,28 @@ fn number_of(answer: Answer) -> usize
     }
 }
 
-// Factors the n by n matrix a and solves for the readings b, into x. Answers the refusal, 0 for none.
+// Solves for the right-hand side b, into x, by the system or by the transposed one. Answers the refusal, 0 for none.
+fn solve_system(
+    transposed: bool,
+    factors: &[f64],
+    swaps: &[usize],
+    told: Record,
+    b: &[f64],
+    x: &mut [f64],
+) -> usize
+    ensures { λ r. ⌜ r ≡ systemOf transposed told (now (factors .entry)) (now (swaps .entry)) 1 (now (b .entry)) (now (x .entry)) .number ⌝ }
+    ensures { λ _. ⌜ now (x .exit) ≡ systemOf transposed told (now (factors .entry)) (now (swaps .entry)) 1 (now (b .entry)) (now (x .entry)) .result ⌝ }
+{
+    if transposed {
+        number_of(from_factors::tr_solve(factors, swaps, told, b, 1, x))
+    } else {
+        number_of(from_factors::solve(factors, swaps, told, b, 1, x))
+    }
+}
+
+// Factors the n by n matrix a and solves for the right-hand side b, into x. Answers the refusal, 0 for none.
 fn solve_loads(
+    transposed: bool,
     n: usize,
     a: &[f64],
     b: &[f64],
@@ -42,12 +65,12 @@ fn solve_loads(
     x: &mut [f64],
 ) -> usize
     requires { ⌜ (now factors ≡ zeros (n * n)) × (now swaps ≡ replicate 128 0) ⌝ }
-    ensures { λ r. ⌜ r ≡ loading n (now (a .entry)) (now (b .entry)) (now (x .entry)) .number ⌝ }
-    ensures { λ _. ⌜ now (x .exit) ≡ loading n (now (a .entry)) (now (b .entry)) (now (x .entry)) .result ⌝ }
+    ensures { λ r. ⌜ r ≡ loadingBy transposed n (now (a .entry)) (now (b .entry)) (now (x .entry)) .number ⌝ }
+    ensures { λ _. ⌜ now (x .exit) ≡ loadingBy transposed n (now (a .entry)) (now (b .entry)) (now (x .entry)) .result ⌝ }
     ensures { λ _. ⌜ length (now (x .exit)) ≡ length (now (x .entry)) ⌝ }
 {
     match lu::factor(a, n, n, factors, swaps) {
-        Factored::Accepted(told) => number_of(from_factors::solve(factors, swaps, told, b, 1, x)),
+        Factored::Accepted(told) => solve_system(transposed, factors, swaps, told, b, x),
         Factored::Refused(number) => {
             blas::fill_zero(x);
             number
@@ -67,6 +90,7 @@ fn order_pads(n: usize, a: &[f64], b: &[f64], ranks: &mut [usize], loads: &mut [
     let mut factors = [0.0f64; 4096];
     let mut swaps = [0usize; 128];
     let number = solve_loads(
+        false,
         n,
         a,
         b,
@@ -148,6 +172,62 @@ pub fn stiffness(file: &[u8]) -> Det
         }
         Panel::Refused(number) => Det::Refused(number),
     }
+}
+
+// How the load of a pad of an n by n matrix moves with each reading, in front of out.
+fn move_pad(n: usize, a: &[f64], pad: usize, out: &mut [f64]) -> Order
+    requires { ⌜ (1 ≤ n) × (n ≤ 64) × (length (now out) ≡ 64) ⌝ }
+    ensures { λ r. ⌜ r ≡ toldOf (moved n (now (a .entry)) pad (now (out .entry)) .number) n ⌝ }
+    ensures { λ _. ⌜ now (out .exit) ≡ moved n (now (a .entry)) pad (now (out .entry)) .result ⌝ }
+    ensures { λ r. ⌜ ((k : ℕ) → r ≡ Order.Pads k → (k ≤ 64) × (allFinite (take k (now (out .exit))) ≡ true)) ⌝ }
+{
+    if (pad == 0) | (n < pad) {
+        return Order::Refused(1);
+    }
+    let entries = n * n;
+    let mut factors = [0.0f64; 4096];
+    let mut swaps = [0usize; 128];
+    let mut unit = [0.0f64; 64];
+    unit[pad - 1] = 1.0;
+    let number = solve_loads(
+        true,
+        n,
+        a,
+        &unit[..n],
+        &mut factors[..entries],
+        &mut swaps,
+        &mut out[..n],
+    );
+    if number != 0 {
+        return Order::Refused(number);
+    }
+    Order::Pads(n)
+}
+
+// The same for a file.
+fn move_file(file: &[u8], pad: usize, out: &mut [f64]) -> Order
+    requires { ⌜ length (now out) ≡ 64 ⌝ }
+    ensures { λ r. ⌜ r ≡ movesOf (now (file .entry)) (moving (now (file .entry)) pad (now (out .entry))) ⌝ }
+    ensures { λ _. ⌜ now (out .exit) ≡ moving (now (file .entry)) pad (now (out .entry)) .result ⌝ }
+    ensures { λ r. ⌜ ((k : ℕ) → r ≡ Order.Pads k → (k ≤ 64) × (allFinite (take k (now (out .exit))) ≡ true)) ⌝ }
+{
+    let mut matrix = [0.0f64; 4096];
+    let mut readings = [0.0f64; 64];
+    match panel_file::read(file, &mut matrix, &mut readings) {
+        Panel::Pads(n) => {
+            let entries = n * n;
+            move_pad(n, &matrix[..entries], pad, out)
+        }
+        Panel::Refused(number) => Order::Refused(number),
+    }
+}
+
+// How a pad's load moves with each reading: a number a reading, for a panel file and a pad number from 1.
+pub fn moves(file: &[u8], pad: usize, out: &mut [f64; 64]) -> Order
+    ensures { λ r. ⌜ r ≡ movesOf (now (file .entry)) (moving (now (file .entry)) pad (now (out .entry))) ⌝ }
+    ensures { λ _. ⌜ now (out .exit) ≡ moving (now (file .entry)) pad (now (out .entry)) .result ⌝ }
+{
+    move_file(file, pad, out)
 }
 
 // The character of a digit below 16.
@@ -268,6 +348,34 @@ pub fn text(file: &[u8], out: &mut [u8; 1288]) -> usize
     let mut loads = [0.0f64; 64];
     match order_file(file, &mut ranks, &mut loads) {
         Order::Pads(n) => put_pads(out, n, &ranks[..n], &loads[..n]),
+        Order::Refused(number) => put_refusal(out, number),
+    }
+}
+
+// Writes a line for each reading, from the front. Answers how many bytes they have.
+fn put_moves(out: &mut [u8], moves: &[f64]) -> usize
+    requires { ⌜ (length (now moves) ≤ 64) × (length (now out) ≡ 1288) × (allFinite (now moves) ≡ true) ⌝ }
+    ensures { λ r. ⌜ r ≡ length (movesText (now (moves .entry))) ⌝ }
+    ensures { λ _. ⌜ now (out .exit) ≡ written 0 (movesText (now (moves .entry))) (now (out .entry)) ⌝ }
+{
+    let mut at = 0;
+    let mut i = 0;
+    while i < moves.len() {
+        at = put_line(out, at, i + 1, moves[i]);
+        i += 1;
+    }
+    at
+}
+
+// What is printed for a file and a pad, at the front of out. Answers how many bytes it has.
+pub fn moves_text(file: &[u8], pad: usize, out: &mut [u8; 1288]) -> usize
+    ensures { λ r. ⌜ Counts r (now (out .exit)) ⌝ }
+    ensures { λ r. ⌜ r ≡ length (movesTextOf (now (file .entry)) pad) ⌝ }
+    ensures { λ _. ⌜ now (out .exit) ≡ written 0 (movesTextOf (now (file .entry)) pad) (now (out .entry)) ⌝ }
+{
+    let mut moves = [0.0f64; 64];
+    match move_file(file, pad, &mut moves) {
+        Order::Pads(n) => put_moves(out, &moves[..n]),
         Order::Refused(number) => put_refusal(out, number),
     }
 }

@@ -48,13 +48,13 @@ slice-reshare-prefix-rank : tie.Need-slice-reshare-prefix-rank
 slice-reshare-prefix-rank c =
     let at-solve-loads = c .before .before .before .before .before in
     let at-start = at-solve-loads .before .before .before .before .before .before .before .before in
-    front-fits (at-start .args .n) (at-solve-loads .solve-loads .last .1 .1 .1 .1 .1 .0) (at-start .args .loads .now) (at-solve-loads .solve-loads .ensures .1 .1) (omega arith)
+    front-fits (at-start .args .n) (at-solve-loads .solve-loads .last .1 .1 .1 .1 .1 .1 .0) (at-start .args .loads .now) (at-solve-loads .solve-loads .ensures .1 .1) (omega arith)
 
 slice-aggregate-rank : tie.Need-slice-aggregate-rank
 slice-aggregate-rank c =
     let at-solve-loads = c .before .before .before .before .before .before in
     let at-start = at-solve-loads .before .before .before .before .before .before .before .before in
-    front-count (at-start .args .n) (at-solve-loads .solve-loads .last .1 .1 .1 .1 .1 .0) (at-start .args .loads .now) (at-solve-loads .solve-loads .ensures .1 .1) (omega arith)
+    front-count (at-start .args .n) (at-solve-loads .solve-loads .last .1 .1 .1 .1 .1 .1 .0) (at-start .args .loads .now) (at-solve-loads .solve-loads .ensures .1 .1) (omega arith)
 
 slice-relend-prefix-rank : tie.Need-slice-relend-prefix-rank
 slice-relend-prefix-rank c = omega arith

@@ -6,11 +6,11 @@ use Rattle.panel.proofs.solve_loads.Tie as tie
 
 returns : tie.Need-returns
 returns c =
-    let at-solve = c .before .before .before in
-    let at-told = at-solve .before .before .before .before .before in
+    let at-solve-system = c .before .before in
+    let at-told = at-solve-system .before .before .before .before .before in
     let at-factor = at-told .before .before .before .before .before .before in
     let at-start = at-factor .before .before .before .before .before .before .before .before in
-    let o = loads-solved _ _ _ _ _ _ (at-start .pre .0) (at-start .pre .1) _ _ _ _ _ _ _ (at-factor .factor .ensures .0) (at-told .told .given .1) (at-factor .factor .ensures .1 .0) (at-factor .factor .ensures .1 .1) (at-solve .solve .ensures .0) (at-solve .solve .ensures .1) (c .number-of .ensures) in
+    let o = loads-solved _ _ _ _ _ _ _ (at-start .pre .0) (at-start .pre .1) _ _ _ _ _ _ (at-factor .factor .ensures .0) (at-told .told .given .1) (at-factor .factor .ensures .1 .0) (at-factor .factor .ensures .1 .1) (at-solve-system .solve-system .ensures .0) (at-solve-system .solve-system .ensures .1) in
     (o .0, (o .1, search needs))
 
 returns-2 : tie.Need-returns-2
@@ -19,7 +19,7 @@ returns-2 c =
     let at-number = at-fill-zero .before .before .before in
     let at-factor = at-number .before .before .before .before .before .before in
     let at-start = at-factor .before .before .before .before .before .before .before .before in
-    let o = loads-refused _ _ _ _ _ _ (at-start .pre .0) (at-start .pre .1) _ _ _ (at-factor .factor .ensures .0) (at-number .number .given .1) (at-fill-zero .fill-zero .ensures) in
+    let o = loads-refused _ _ _ _ _ _ _ (at-start .pre .0) (at-start .pre .1) _ _ _ (at-factor .factor .ensures .0) (at-number .number .given .1) (at-fill-zero .fill-zero .ensures) in
     (o .0, (o .1, search needs))
 
 pub solve-loads-spec : {M : Type 1} → statement M
@@ -28,7 +28,6 @@ solve-loads-spec =
     (tie.spec
     (λ c κs. search needs)
     (λ c. search needs)
-    (λ c κs. search needs)
     (λ c κs. search needs)
     (λ c. search needs)
     (λ c κs. search needs)
