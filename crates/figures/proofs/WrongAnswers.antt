@@ -32,9 +32,9 @@ use Rattle.lu.specs.Adding.{adding}
 use Rattle.from_factors.specs.Taken.{takenRefusal}
 use Rattle.from_factors.specs.Triangles.{lowerOf, upperOf, lowerFactor, upperFactor, lowering, uppering}
 use Rattle.from_factors.specs.Solving.{solved, solvedAll, unitColumn, inverting}
-use Rattle.from_factors.specs.Solving.{solving as lu-solving}
+use Rattle.from_factors.specs.Solving.{solving as lu-solving, trSolving}
 use Rattle.from_factors.specs.Determinant.{timesDiagonal, diagonalProduct, determinantOf, numberOr7, determining, inverseTest}
-use Rattle.from_factors.proofs.Figures.{computes, n0, n1, n2, n4, n8}
+use Rattle.from_factors.proofs.Figures.{computes, n0, n1, n2, n4, n8, transposed-figure}
 use Rattle.figures.proofs.Outcomes.{OneOutcome, one-outcome, ShutsOut, shut-out, BothShutOut, both, Strong, strong}
 
 -- ---- the triangular solves
@@ -180,6 +180,25 @@ loadsBy x = lu-solving (x .0 .0) (x .0 .1 .0) (x .0 .1 .1) (x .1 .0) (x .1 .1 .0
 pub solve : BothShutOut loadsBy (λ x. x .1 .1 .1)
 unfolding triangles
 solve = both loadsBy (λ x. x .1 .1 .1) (packed, (1, (n4 ∷ n8 ∷ [], zeros 2))) refl (λ d. let z : _≡_ {A = ℕ} 0 1 = cc in omega arith)
+
+-- the transposed solve; and a program that solves the system itself gives 2 and 1 where this gives 0 and 2
+abbrev trLoadsBy : Taken × (ℕ × (Column × Column)) → Outcome
+trLoadsBy x = trSolving (x .0 .0) (x .0 .1 .0) (x .0 .1 .1) (x .1 .0) (x .1 .1 .0) (x .1 .1 .1)
+
+abbrev tr-packed : Taken × (ℕ × (Column × Column))
+tr-packed = (packed, (1, (n4 ∷ n8 ∷ [], zeros 2)))
+
+pub tr-solve : BothShutOut trLoadsBy (λ x. x .1 .1 .1)
+unfolding triangles
+tr-solve =
+    both trLoadsBy (λ x. x .1 .1 .1) tr-packed (ap (λ (o : Outcome). o .number) transposed-figure)
+    (λ d. let e : n0 ∷ n2 ∷ [] ≡ n0 ∷ n0 ∷ [] = sym (ap (λ (o : Outcome). o .result) transposed-figure) ∙ d in let z : _≡_ {A = ℕ} 0 1 = cc in omega arith)
+
+pub not-the-system : ShutsOut trLoadsBy loadsBy
+unfolding triangles
+not-the-system =
+    shut-out trLoadsBy loadsBy tr-packed
+    (λ d. let e = sym (ap (λ (o : Outcome). o .result) transposed-figure) ∙ ap (λ (o : Outcome). o .result) d in let z : _≡_ {A = ℕ} 0 1 = cc in omega arith)
 
 -- the same always; and the product without the sign
 abbrev determinantBy : Taken → Det

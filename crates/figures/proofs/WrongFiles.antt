@@ -24,12 +24,14 @@ use Rattle.panel_file.proofs.Crossings.{one-writing}
 use Rattle.from_factors.specs.declared.Det.{Det}
 use Rattle.from_factors.specs.declared.Det.the-variants.{Number, Refused}
 use Rattle.panel.specs.Text.{written, decimal, refusedText}
+use Rattle.refusals.specs.Refusals.{Outcome}
 use Rattle.panel.specs.Ordering.{Ordering, ordering, stiffness, textOf}
+use Rattle.panel.specs.Moving.{moving, movesTextOf}
 use Rattle.figures.proofs.Outcomes.{ShutsOut, shut-out, Strong, strong, TwoShutOut, two, Keeps, StrongBy, strong-by}
 
 -- a name for all that has to unfold for a file to be refused
 refuses : Type 0
-unfolding firstOf outside littleEndian fieldAt headed readingRefusal reading writingRefusal writtenOf numberOf countOf ordering stiffness textOf written decimal refusedText
+unfolding firstOf outside littleEndian fieldAt headed readingRefusal reading writingRefusal writtenOf numberOf countOf ordering stiffness textOf moving movesTextOf written decimal refusedText
 refuses = Unit {0}
 
 abbrev empty : List ℕ
@@ -127,6 +129,16 @@ stiffness-call =
     no-number : (x : Float) → Refused 8 ≡ Number x → ⊥
     no-number x d = let z : _≡_ {A = ℕ} 0 1 = cc in omega arith
 
+-- a file, a pad and the slice
+abbrev movesBy : List ℕ × (ℕ × Column) → Outcome
+movesBy x = moving (x .0) (x .1 .0) (x .1 .1)
+
+pub moves : Strong movesBy ((made : List ℕ × (ℕ × Column) → Outcome) → ((x : List ℕ × (ℕ × Column)) → made x .number ≡ 0) → ShutsOut movesBy made)
+unfolding refuses
+moves =
+    strong movesBy (empty, (1, [])) (noPads, (1, [])) (λ d. omega (arith, ap (λ (o : Outcome). o .number) d))
+    (λ made accepts. shut-out movesBy made (empty, (1, [])) (λ d. omega (arith, ap (λ (o : Outcome). o .number) d ∙ accepts (empty, (1, [])))))
+
 -- `refused 8` and `refused 1`, with a newline, in a slice of ten bytes
 abbrev prints : List ℕ × List ℕ → List ℕ
 prints x = written 0 (textOf (x .0)) (x .1)
@@ -137,3 +149,11 @@ ten = 0 ∷ 0 ∷ 0 ∷ 0 ∷ 0 ∷ 0 ∷ 0 ∷ 0 ∷ 0 ∷ 0 ∷ []
 pub text : TwoShutOut prints (λ x. x .1)
 unfolding refuses
 text = two prints (λ x. x .1) (empty, ten) (empty, ten) (noPads, ten) (λ d. omega (arith, ap (λ l. getD l 0 0) d)) (λ d. omega (arith, ap (λ l. getD l 8 0) d))
+
+abbrev printsMoves : List ℕ × (ℕ × List ℕ) → List ℕ
+printsMoves x = written 0 (movesTextOf (x .0) (x .1 .0)) (x .1 .1)
+
+pub moves-text : TwoShutOut printsMoves (λ x. x .1 .1)
+unfolding refuses
+moves-text =
+    two printsMoves (λ x. x .1 .1) (empty, (1, ten)) (empty, (1, ten)) (noPads, (1, ten)) (λ d. omega (arith, ap (λ l. getD l 0 0) d)) (λ d. omega (arith, ap (λ l. getD l 8 0) d))
