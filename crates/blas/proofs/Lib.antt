@@ -7,4 +7,6 @@ pub mod One
 pub mod Pivot
 pub mod Rows
 pub mod Sum
+pub mod Tied
+pub mod TossUp
 pub mod Walk

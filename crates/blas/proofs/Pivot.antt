@@ -27,7 +27,7 @@ bare (inf s) = inf false
 bare (fin s m e) = fin false m e
 
 -- a magnitude is the number without its sign, or -0.0
-bare-cases : (P : Float → Float → Type 0) → ((y : Float) → P y y) → ((e : ℤ) → P (fin true 0 e) (fin false 0 e)) → (x : Float) → P (magnitude x) (bare x)
+pub bare-cases : (P : Float → Float → Type 0) → ((y : Float) → P y y) → ((e : ℤ) → P (fin true 0 e) (fin false 0 e)) → (x : Float) → P (magnitude x) (bare x)
 unfolding magnitude lt neg ofBits
 bare-cases P p z nan = p nan
 bare-cases P p z (inf true) = p (inf false)

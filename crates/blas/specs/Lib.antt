@@ -1,4 +1,5 @@
 pub mod Numbers
 pub mod Each
 pub mod Column
+pub mod TossUp
 pub mod Dot

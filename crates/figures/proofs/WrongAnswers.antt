@@ -27,8 +27,9 @@ use Rattle.from_factors.specs.declared.Det.{Det}
 use Rattle.from_factors.specs.declared.Det.the-variants.{Number, Refused}
 use Rattle.from_factors.specs.declared.Invertible.{Invertible}
 use Rattle.from_factors.specs.declared.Invertible.the-variants.{Is}
-use Rattle.lu.specs.Factoring.{storeOf, recordOf, numbersOf, factoring}
-use Rattle.lu.specs.Adding.{adding}
+use Rattle.lu.specs.Factoring.{Factoring, storeOf, recordOf, numbersOf, factoring}
+use Rattle.lu.specs.Adding.{factorsIn, adding}
+use Rattle.lu.specs.TossUps.{tossUps, ownTossUp}
 use Rattle.from_factors.specs.Taken.{takenRefusal}
 use Rattle.from_factors.specs.Triangles.{lowerOf, upperOf, lowerFactor, upperFactor, lowering, uppering}
 use Rattle.from_factors.specs.Solving.{solved, solvedAll, unitColumn, inverting}
@@ -235,12 +236,19 @@ taken-refusal =
     (shut-out refusalBy (λ x. takenRefusal (x .0) (x .1 .0) (x .1 .1 .0) (storeOf [])) (asks, (recordOf 2 2 1, (n2 ∷ n0 ∷ n0 ∷ n1 ∷ [], storeOf ((0, 1) ∷ []))))
     (λ d. omega (arith, d)))
 
--- factoring, building up and adding: one outcome. What they shut out is in WrongPrograms; building up has factoring's meaning.
-pub factor : OneOutcome (λ (x : ℕ × (ℕ × (Column × (Column × List ℕ)))). factoring (x .0) (x .1 .0) (x .1 .1 .0) (x .1 .1 .1 .0) (x .1 .1 .1 .1))
-factor = one-outcome (λ (x : ℕ × (ℕ × (Column × (Column × List ℕ)))). factoring (x .0) (x .1 .0) (x .1 .1 .0) (x .1 .1 .1 .0) (x .1 .1 .1 .1))
+-- factoring, building up and adding, toss-ups and all: one outcome. What they shut out is in WrongPrograms; building up has factoring's meaning.
+abbrev factors : ℕ × (ℕ × (Column × (Column × List ℕ))) → Factoring × ℕ
+factors x = (factoring (x .0) (x .1 .0) (x .1 .1 .0) (x .1 .1 .1 .0) (x .1 .1 .1 .1), tossUps (x .0) (columns (x .0) (x .1 .0) (x .1 .1 .0)))
 
-pub add-column : OneOutcome (λ (x : Record × (Column × (Column × List ℕ))). adding (x .0) (x .1 .0) (x .1 .1 .0) (x .1 .1 .1))
-add-column = one-outcome (λ (x : Record × (Column × (Column × List ℕ))). adding (x .0) (x .1 .0) (x .1 .1 .0) (x .1 .1 .1))
+pub factor : OneOutcome factors
+factor = one-outcome factors
+
+abbrev adds : Record × (Column × (Column × List ℕ)) → Factoring × ℕ
+adds x =
+    (adding (x .0) (x .1 .0) (x .1 .1 .0) (x .1 .1 .1), ownTossUp (x .0 .rows) (factorsIn (x .0 .rows) (x .0 .columns) (x .0 .pairs) (x .1 .0) (x .1 .1 .1)) (x .1 .1 .0))
+
+pub add-column : OneOutcome adds
+add-column = one-outcome adds
 
 -- ---- the ranking: the same always; and the slice left as it was
 

@@ -13,6 +13,8 @@ use lib.Ieee.Scale.{finite}
 use Rattle.blas.specs.Each.{eachFrom, turnsFrom}
 use Rattle.blas.specs.Numbers.{isZero, magnitude}
 use Rattle.blas.specs.Column.{Column, entry, searchFrom, pivotRow, exchanged, swapRows, scaleFrom, axpyFrom, allFinite, zeros, copied}
+use Rattle.blas.specs.TossUp.{sharedFrom, tossUp, pivotOf}
+use Rattle.blas.specs.declared.FoundPivot.{FoundPivot}
 use Rattle.blas.specs.Dot.{addProduct, addBlock, eightSums, pairSums, dotOf}
 use Rattle.store.specs.Columns.{columns, flat, isMatrix, onColumns}
 use Rattle.store.specs.Steps.{column, swapInAll, rowsSwapped, columnsSwapped, stepColumn, stepColumns, eliminated}
@@ -75,6 +77,17 @@ pivots x = pivotRow (x .0) (x .1)
 pub icamax : TwoShutOut pivots (λ x. x .0)
 unfolding runs
 icamax = two pivots (λ x. x .0) (0, n1 ∷ n2 ∷ []) (0, n1 ∷ n2 ∷ []) (0, n2 ∷ n1 ∷ []) (λ d. omega (arith, d)) (λ d. omega (arith, d))
+
+-- no pivot a toss-up
+abbrev finds : ℕ × Column → FoundPivot
+finds x = pivotOf (x .0) (x .1)
+
+pub find-pivot : TwoShutOut finds (λ x. record { row = pivotRow (x .0) (x .1); tossed = false })
+unfolding runs sharedFrom tossUp pivotOf
+find-pivot =
+    two finds (λ x. record { row = pivotRow (x .0) (x .1); tossed = false }) (0, n1 ∷ n1 ∷ []) (0, n1 ∷ n1 ∷ []) (0, n1 ∷ n0 ∷ [])
+    (λ d. true-false (ap (λ (o : FoundPivot). o .tossed) d))
+    (λ d. true-false (ap (λ (o : FoundPivot). o .tossed) d))
 
 -- the slice as it was
 abbrev swaps : ℕ × (ℕ × Column) → Column

@@ -13,12 +13,15 @@ use lib.IntN.{pos, negsuc}
 use lib.Ieee.{Float, nan, fin}
 use Rattle.blas.specs.Each.{listOf}
 use Rattle.blas.specs.Column.{Column, zeros}
+use Rattle.blas.specs.TossUp.{sharedFrom, tossUp}
 use Rattle.store.specs.Columns.{columns, flat}
+use Rattle.store.specs.Steps.{Matrix}
 use Rattle.lu.specs.declared.Record.{Record}
 use Rattle.from_factors.specs.declared.Det.the-variants.{Number}
 use Rattle.lu.specs.Elimination.{eliminate}
 use Rattle.lu.specs.Factoring.{storeOf, Factoring, recordOf, factoring}
 use Rattle.lu.specs.Adding.{adding}
+use Rattle.lu.specs.TossUps.{tossAt, tossFrom, tossUps}
 use Rattle.lu.specs.Removing.{lastPair, undoes, pairsBefore, removeColumn, goodUndoing, removingRefusal, erased, removingMade, removing}
 use Rattle.permutation_sequence.specs.SwapList.{withPair}
 use Rattle.from_factors.specs.Solving.{unitColumn, identity}
@@ -145,3 +148,15 @@ remove-column =
     let z : _≡_ {A = ℕ} 1 0 = cc in
     omega arith)
     (λ d. omega (arith, sym (ap (λ (o : Factoring). o .number) rows-back) ∙ ap (λ (o : Factoring). o .number) d ∙ none-left))
+
+-- ---- toss-ups: the same always, and the number of swaps for them; at the column (1, 1), which has one, and at (1, 0)
+abbrev tosses : ℕ × Matrix → ℕ
+tosses x = tossUps (x .0) (x .1)
+
+abbrev swaps-recorded : ℕ × Matrix → ℕ
+swaps-recorded x = length (eliminate (x .0) (x .1) .swaps)
+
+pub toss-ups : TwoShutOut tosses swaps-recorded
+unfolding computes sharedFrom tossUp tossAt tossFrom tossUps
+toss-ups =
+    shut-out-two tosses swaps-recorded (2, (n1 ∷ n1 ∷ []) ∷ []) (2, (n1 ∷ n1 ∷ []) ∷ []) (2, (n1 ∷ n0 ∷ []) ∷ []) (λ d. omega (arith, d)) (λ d. omega (arith, d))

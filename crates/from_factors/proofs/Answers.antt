@@ -12,23 +12,28 @@ use Rattle.blas.proofs.Choice.{test-cases, cond-map}
 use Rattle.store.specs.Columns.{columns, flat}
 use Rattle.lu.specs.declared.Record.{Record}
 use Rattle.lu.specs.Elimination.{Factors, eliminate}
-use Rattle.lu.specs.Factoring.{Factoring, factoringRefusal, settled, factoring, factoredOf, numberOf, pairsOf}
+use Rattle.lu.specs.Factoring.{Factoring, factoringRefusal, settled, factoring, factoredOf, numberOf, pairsOf, tossedOf}
 use Rattle.from_factors.specs.Taken.{takenRefusal}
 use Rattle.from_factors.specs.Determinant.{determinantOf, squareAsks, numberOr7, determining, numberOf as detNumberOf}
 
-pub number-factored : (o : Factoring) → numberOf (factoredOf o) ≡ o .number
+pub number-factored : (o : Factoring) (tossed : ℕ) → numberOf (factoredOf o tossed) ≡ o .number
 unfolding factoredOf numberOf
-number-factored o = test-cases (eqb (o .number) 0) (λ e. rw e (sym (eqb-true (o .number) 0 e))) (λ e. rw e)
+number-factored o tossed = test-cases (eqb (o .number) 0) (λ e. rw e (sym (eqb-true (o .number) 0 e))) (λ e. rw e)
 
 -- "Every refused factoring answers 0 pairs"
-settled-pairs : (m n : ℕ) (f : Factors) → pairsOf (factoredOf (settled m n f)) ≡ settled m n f .told .pairs
+settled-pairs : (m n tossed : ℕ) (f : Factors) → pairsOf (factoredOf (settled m n f) tossed) ≡ settled m n f .told .pairs
 unfolding settled factoredOf pairsOf
-settled-pairs m n f = test-cases (allFinite (flat (f .columns))) (λ e. rw e) (λ e. rw e)
+settled-pairs m n tossed f = test-cases (allFinite (flat (f .columns))) (λ e. rw e) (λ e. rw e)
 
-pub pairs-factored : (m n : ℕ) (a out : Column) (store : List ℕ) → pairsOf (factoredOf (factoring m n a out store)) ≡ factoring m n a out store .told .pairs
+pub pairs-factored : (m n tossed : ℕ) (a out : Column) (store : List ℕ) → pairsOf (factoredOf (factoring m n a out store) tossed) ≡ factoring m n a out store .told .pairs
 unfolding factoring factoredOf pairsOf
-pairs-factored m n a out store =
-    test-cases (eqb (factoringRefusal m n a out store) 0) (λ e. rw e (settled-pairs m n (eliminate m (columns m n a)))) (λ e. rw (e, e))
+pairs-factored m n tossed a out store =
+    test-cases (eqb (factoringRefusal m n a out store) 0) (λ e. rw e (settled-pairs m n tossed (eliminate m (columns m n a)))) (λ e. rw (e, e))
+
+-- "A refusal gives 0" toss-ups
+pub tossed-factored : (o : Factoring) (tossed : ℕ) → tossedOf (factoredOf o tossed) ≡ cond (eqb (o .number) 0) tossed 0
+unfolding factoredOf tossedOf
+tossed-factored o tossed = test-cases (eqb (o .number) 0) (λ e. rw e) (λ e. rw e)
 
 -- the determinant's number: the refusal before the work, else 7 exactly where the product with its sign is not finite
 pub number-determining : (r : Record) (factors : Column) (store : List ℕ) → let refused = takenRefusal squareAsks r factors store in

@@ -65,7 +65,7 @@ module _ (m n : ℕ) (a out : Column) (store : List ℕ) (none : factoringRefusa
   long = size-f m n a out store none
 
   -- the factors as the slices hold them, a slot of any contents behind
-  held : (z : Column) → factorsIn m n (length (f .swaps)) (flat (f .columns) ++ z) (storeOf (f .swaps)) ≡ f
+  pub held : (z : Column) → factorsIn m n (length (f .swaps)) (flat (f .columns) ++ z) (storeOf (f .swaps)) ≡ f
   held z =
       let cs : columns m n (flat (f .columns) ++ z) ≡ f .columns =
       columns-front m n (flat (f .columns)) z long ∙ ap (λ (k : ℕ). columns m k (flat (f .columns))) (sym wide') ∙ columns-flat m (f .columns) (shape-f m n a out store none) in

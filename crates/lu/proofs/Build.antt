@@ -28,11 +28,14 @@ use Rattle.lu.specs.Held.{AllAdded}
 use Rattle.lu.specs.declared.Added.the-variants.{Accepted, Refused}
 use Rattle.lu.specs.Elimination.{unfactored, eliminate}
 use Rattle.lu.specs.Factoring.{numbersOf, storeOf, factoringRefusal, Factoring, settled, factoring, factoredOf}
-use Rattle.lu.specs.Adding.{adding, addedOf}
+use Rattle.lu.specs.Adding.{factorsIn, adding, addedOf}
+use Rattle.lu.specs.TossUps.{tossUps, ownTossUp}
 use Rattle.lu.proofs.Afresh.{adding-afresh}
 use Rattle.lu.proofs.Front.{finite-front}
 use Rattle.lu.proofs.Shape.{factorsOf, acceptedAs, size-f, accepted-is}
 use Rattle.lu.proofs.Told.{Passed, passed}
+use Rattle.lu.proofs.Tossed.{addedTossUp, toss-added}
+use Rattle.lu.proofs.Tossing.{toss-most}
 
 -- the outcome of factoring the first k columns of a, the slices that it fills holding zeros before
 abbrev pub outcomeAt : ℕ → ℕ → Column → Factoring
@@ -47,25 +50,37 @@ settled-number m n a out store none =
     (λ t. rw (eq-eqb (factoringRefusal m n a out store) 0 none, t)) (λ t. rw (eq-eqb (factoringRefusal m n a out store) 0 none, t))
 
 -- an answer that is a record, and one that is a refusal
-accepted-of : (o : Factoring) (x : Record) → addedOf o ≡ Accepted x → (o .number ≡ 0) × (x ≡ o .told)
+accepted-of : (o : Factoring) (tossed : ℕ) (x : Record) (own : ℕ) → addedOf o tossed ≡ Accepted x own → (o .number ≡ 0) × (x ≡ o .told) × (own ≡ tossed)
 unfolding addedOf
-accepted-of o x e =
+accepted-of o tossed x own e =
     test-cases (eqb (o .number) 0)
-    (λ t. (eqb-true (o .number) 0 t, recordIn-same (sym (rw t at e))))
+    (λ t. (eqb-true (o .number) 0 t, recordIn-same (sym (rw t at e)), tossed-same (sym (rw t at e))))
     (λ t. absurd (differ (rw t at e)))
   where
-    recordIn-same : Accepted x ≡ Accepted (o .told) → x ≡ o .told
+    recordIn-same : Accepted x own ≡ Accepted (o .told) tossed → x ≡ o .told
     recordIn-same q = cc
 
-    differ : Refused (o .number) (o .told) ≡ Accepted x → ⊥
+    tossed-same : Accepted x own ≡ Accepted (o .told) tossed → own ≡ tossed
+    tossed-same q = cc
+
+    differ : Refused (o .number) (o .told) ≡ Accepted x own → ⊥
     differ q = let z : _≡_ {A = ℕ} 0 1 = cc in omega arith
 
-refused-of : (o : Factoring) (number : ℕ) (x : Record) → addedOf o ≡ Refused number x → o .number ≡ 0 → ⊥
+refused-of : (o : Factoring) (tossed number : ℕ) (x : Record) → addedOf o tossed ≡ Refused number x → o .number ≡ 0 → ⊥
 unfolding addedOf
-refused-of o number x e none = differ (rw (eq-eqb (o .number) 0 none) at e)
+refused-of o tossed number x e none = differ (rw (eq-eqb (o .number) 0 none) at e)
   where
-    differ : Accepted (o .told) ≡ Refused number x → ⊥
+    differ : Accepted (o .told) tossed ≡ Refused number x → ⊥
     differ q = let z : _≡_ {A = ℕ} 0 1 = cc in omega arith
+
+-- the outcome for k + 1 columns was reached: the record x, the factors at the front of s, the swap store, and own toss-ups more than for k columns
+pub record Grown (m k : ℕ) (a : Column) (x : Record) (own : ℕ) (s : Column) (store : List ℕ) : Type 0 where
+  pub accepted : outcomeAt m (k + 1) a .number ≡ 0
+  pub told-is : x ≡ outcomeAt m (k + 1) a .told
+  pub front-is : take ((k + 1) * m) s ≡ outcomeAt m (k + 1) a .factors
+  pub store-is : store ≡ outcomeAt m (k + 1) a .store
+  pub counted : tossUps m (columns m (k + 1) (take ((k + 1) * m) a)) ≡ tossUps m (columns m k (take (k * m) a)) + own
+  pub at-most-one : own ≤ 1
 
 module _ (m n : ℕ) (a out : Column) (store : List ℕ) (none : factoringRefusal m n a out store ≡ 0) where
   abbrev p : Passed m n a out store
@@ -161,7 +176,9 @@ module _ (m n : ℕ) (a out : Column) (store : List ℕ) (none : factoringRefusa
     module _ (s : Column) (store' : List ℕ) (r : Record) (t : Column) (store'' : List ℕ) (answer : Added) (room : k * m + m ≤ length s)
         (r-is : r ≡ outcomeAt m k a .told) (front-is : take (k * m) s ≡ outcomeAt m k a .factors) (store-is : store' ≡ outcomeAt m k a .store)
         (z-is : z ≡ take m (drop (k * m) s))
-        (called : answer ≡ addedOf (adding r (take (k * m + m) s) (take (k * m + m - k * m) (drop (k * m) a)) store'))
+        (called : answer
+        ≡ addedOf (adding r (take (k * m + m) s) (take (k * m + m - k * m) (drop (k * m) a)) store')
+        (ownTossUp (r .rows) (factorsIn (r .rows) (r .columns) (r .pairs) (take (k * m + m) s) store') (take (k * m + m - k * m) (drop (k * m) a))))
         (t-is : t ≡ adding r (take (k * m + m) s) (take (k * m + m - k * m) (drop (k * m) a)) store' .factors)
         (store''-is : store'' ≡ adding r (take (k * m + m) s) (take (k * m + m - k * m) (drop (k * m) a)) store' .store) where
       abbrev o : Factoring
@@ -176,20 +193,37 @@ module _ (m n : ℕ) (a out : Column) (store : List ℕ) (none : factoringRefusa
       same : adding r (take (k * m + m) s) (take (k * m + m - k * m) (drop (k * m) a)) store' ≡ added
       same = λ i. adding (r-is i) (part-is i) (take (add-sub-cancel-left (k * m) m i) (drop (k * m) a)) (store-is i)
 
-      -- the call answered a record: the outcome for one column more
-      pub went-on : (x : Record) → answer ≡ Accepted x
-          → (outcomeAt m (k + 1) a .number ≡ 0) × (x ≡ outcomeAt m (k + 1) a .told) × (take ((k + 1) * m) (t ++ drop (k * m + m) s) ≡ outcomeAt m (k + 1) a .factors)
-          × (store'' ≡ outcomeAt m (k + 1) a .store)
-      went-on x e =
-          let took = accepted-of added x (ap addedOf (sym same) ∙ sym called ∙ e) in
+      -- the answer, on the outcome for k columns
+      answer-is : answer ≡ addedOf added (addedTossUp o z next)
+      answer-is =
+          called
+          ∙ (λ i. addedOf (same i) (ownTossUp (r-is i .rows) (factorsIn (r-is i .rows) (r-is i .columns) (r-is i .pairs) (part-is i) (store-is i)) (take (add-sub-cancel-left (k * m) m i) (drop (k * m) a))))
+
+      -- the call answered a record: the outcome for one column more, and its toss-ups
+      pub went-on : (x : Record) (own : ℕ) → answer ≡ Accepted x own → Grown m k a x own (t ++ drop (k * m + m) s) store''
+      unfolding ownTossUp
+      went-on x own e =
+          let took = accepted-of added (addedTossUp o z next) x own (sym answer-is ∙ e) in
+          let counts : tossUps m (columns m (k + 1) (take ((k + 1) * m) a)) ≡ tossUps m (columns m k (take (k * m) a)) + own =
+          ap (λ (b : Column). tossUps m (columns m (k + 1) b)) grown
+          ∙ toss-added m k (take (k * m) a) (zeros (k * m)) (replicate 128 0) (front-none k (omega arith)) good next z next-long
+          ∙ ap (λ (j : ℕ). tossUps m (columns m k (take (k * m) a)) + j) (sym (took .2)) in
+          let one : own ≤ 1 = rw (took .2) (toss-most _ _) in
           let whole = next-built .1 (sym (next-built .0) ∙ took .0) in
           let long : length t ≡ (k + 1) * m = ap length (t-is ∙ ap (λ (q : Factoring). q .factors) (same ∙ whole)) ∙ outcome-long (k + 1) (omega arith) (sym (next-built .0) ∙ took .0) in
-          (sym (next-built .0) ∙ took .0, took .1 ∙ ap (λ (q : Factoring). q .told) whole, take-at t (drop (k * m + m) s) ((k + 1) * m) long ∙ t-is ∙ ap (λ (q : Factoring). q .factors) (same ∙ whole), store''-is ∙ ap (λ (q : Factoring). q .store) (same ∙ whole))
+          record {
+            accepted = sym (next-built .0) ∙ took .0;
+            told-is = took .1 ∙ ap (λ (q : Factoring). q .told) whole;
+            front-is = take-at t (drop (k * m + m) s) ((k + 1) * m) long ∙ t-is ∙ ap (λ (q : Factoring). q .factors) (same ∙ whole);
+            store-is = store''-is ∙ ap (λ (q : Factoring). q .store) (same ∙ whole);
+            counted = counts;
+            at-most-one = one;
+          }
 
       -- it refused: the whole is refused with 7
       pub gave-up : (number : ℕ) (x : Record) → answer ≡ Refused number x → allFinite (flat (factorsOf m n a .columns)) ≡ false
       gave-up number x e =
-          front-refused (k + 1) (omega arith) (λ good-next. refused-of added number x (ap addedOf (sym same) ∙ sym called ∙ e) (next-built .0 ∙ good-next))
+          front-refused (k + 1) (omega arith) (λ good-next. refused-of added (addedTossUp o z next) number x (sym answer-is ∙ e) (next-built .0 ∙ good-next))
 
 -- ---- the two ends
 module _ (m n : ℕ) (a out : Column) (store : List ℕ) (none : factoringRefusal m n a out store ≡ 0) where
@@ -197,14 +231,14 @@ module _ (m n : ℕ) (a out : Column) (store : List ℕ) (none : factoringRefusa
   whole = take-all (n * m) a (omega (arith, sized m n a (passed m n a out store none .matrix) .size))
 
   -- all columns were added
-  pub all-added : (s : Column) (store' : List ℕ) (r : Record) → length s ≡ n * m → outcomeAt m n a .number ≡ 0 → r ≡ outcomeAt m n a .told → take (n * m) s ≡ outcomeAt m n a .factors
-      → store' ≡ outcomeAt m n a .store → AllAdded m n a (Done r) s store'
-  all-added s store' r len good r-is s-is store-is =
+  pub all-added : (s : Column) (store' : List ℕ) (r : Record) (tossed : ℕ) → tossed ≡ tossUps m (columns m n (take (n * m) a)) → length s ≡ n * m → outcomeAt m n a .number ≡ 0 → r ≡ outcomeAt m n a .told → take (n * m) s ≡ outcomeAt m n a .factors
+      → store' ≡ outcomeAt m n a .store → AllAdded m n a (Done r tossed) s store'
+  all-added s store' r tossed counted len good r-is s-is store-is =
       let acc = accepted-is m n (take (n * m) a) (zeros (n * m)) (replicate 128 0) (front-none m n a out store none n (omega arith)) good in
       let fin : allFinite (flat (factorsOf m n a .columns)) ≡ true = rw whole at (acc .1) in
       let is : outcomeAt m n a ≡ acceptedAs m n (factorsOf m n a) = acc .0 ∙ ap (λ (b : Column). acceptedAs m n (factorsOf m n b)) whole in
       record {
-        answer = rw fin (ap Done (r-is ∙ ap (λ (q : Factoring). q .told) is));
+        answer = rw fin (ap₂ Done (r-is ∙ ap (λ (q : Factoring). q .told) is) (counted ∙ ap (λ (b : Column). tossUps m (columns m n b)) whole));
         held = λ _. (sym (take-all (n * m) s (omega arith)) ∙ s-is ∙ ap (λ (q : Factoring). q .factors) is, store-is ∙ ap (λ (q : Factoring). q .store) is);
       }
 
@@ -221,7 +255,7 @@ module _ (m n : ℕ) (a out : Column) (store : List ℕ) (none : factoringRefusa
   cleared-refusal store' len = rw len none
 
   abbrev Promise : Factored → Column → List ℕ → Type 0
-  Promise r f s = (r ≡ factoredOf (factoring m n a out store)) × ((f ≡ factoring m n a out store .factors) × (s ≡ factoring m n a out store .store))
+  Promise r f s = (r ≡ factoredOf (factoring m n a out store) (tossUps m (columns m n a))) × ((f ≡ factoring m n a out store .factors) × (s ≡ factoring m n a out store .store))
 
   worked : factoring m n a out store ≡ settled m n (factorsOf m n a)
   unfolding factoring
@@ -237,16 +271,16 @@ module _ (m n : ℕ) (a out : Column) (store : List ℕ) (none : factoringRefusa
         (λ t. absurd (apart (sym (rw t at (built .answer)) ∙ e)))
         (λ t. rw (worked, t) (rw t at (built .answer), (z-is ∙ ap zeros len, c-is ∙ ap (λ (k : ℕ). replicate {A = ℕ} k 0) room)))
       where
-        apart : {x : Record} → Done x ≡ Seventh number → ⊥
+        apart : {x : Record} {tossed : ℕ} → Done x tossed ≡ Seventh number → ⊥
         apart q = let d : _≡_ {A = ℕ} 0 1 = cc in omega arith
 
     -- it is a record: the outcome is factoring's
-    pub built-all : (x : Record) → r ≡ Done x → Promise r s store'
+    pub built-all : (x : Record) (tossed : ℕ) → r ≡ Done x tossed → Promise r s store'
     unfolding settled factoredOf
-    built-all x e =
+    built-all x tossed e =
         test-cases (allFinite (flat (factorsOf m n a .columns)))
         (λ t. let h = built .held t in rw (worked, t) (rw t at (built .answer), (h .0, h .1)))
         (λ t. absurd (apart (sym (rw t at (built .answer)) ∙ e)))
       where
-        apart : Seventh 7 ≡ Done x → ⊥
+        apart : Seventh 7 ≡ Done x tossed → ⊥
         apart q = let d : _≡_ {A = ℕ} 0 1 = cc in omega arith

@@ -13,6 +13,8 @@ pub mod Slot
 pub mod Step
 pub mod Swaps
 pub mod Told
+pub mod Tossing
+pub mod Tossed
 pub mod Undone
 pub mod Widen
 pub mod Widening

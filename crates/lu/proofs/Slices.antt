@@ -72,6 +72,10 @@ module _ (m n i p : ℕ) (s : Column) (fits : isMatrix m n s ≡ true) (hm : i <
     pub pivot-number : getD s (i * m + p) nan ≡ entry (column (columns m n s) i) p
     pivot-number = entry-at m n i p s nan hn (pivot-within .1)
 
+    -- a zero there is a zero pivot
+    pub pivot-zero-there : (d : Float) → d ≡ getD s (i * m + p) nan → isZero d ≡ true → isZero (entry (column (columns m n s) i) (pivotRow i (column (columns m n s) i))) ≡ true
+    pivot-zero-there d is z = ap isZero (sym (is ∙ pivot-number ∙ ap (entry (column (columns m n s) i)) found)) ∙ z
+
 -- ---- one step on the slices
 module _ (m n i : ℕ) (f : Factors) (s : Column) (store : List ℕ) (pairs p : ℕ) (d : Float) (h : Held m n f s store pairs)
     (row : p ≡ pivotRow i (column (columns m n s) i)) (number : d ≡ entry (column (columns m n s) i) p) where

@@ -1,5 +1,5 @@
 -- Factoring's outcomes, each from what the tests on the way to it found. Assumes nothing.
-use mathlib.Core.Path.{_≡_, refl, sym, ap, _∙_}
+use mathlib.Core.Path.{_≡_, refl, sym, ap, ap₂, _∙_}
 use mathlib.Core.Bool.{true, false, not, _&&_, _||_}
 use mathlib.Core.List.{List, []}
 use Prim.Native.Nat.{ℕ}
@@ -17,6 +17,7 @@ use Rattle.lu.specs.declared.Factored.the-variants.{Accepted, Refused}
 use Rattle.lu.specs.Elimination.{Factors, eliminate}
 use Rattle.lu.specs.Factoring.{numbersOf, storeOf, factoringRefusal, factoring, recordOf, settled, factoredOf}
 use Rattle.lu.specs.Held.{Held}
+use Rattle.lu.specs.TossUps.{tossUps}
 
 module _ (m n : ℕ) (a out : Column) (store : List ℕ) where
   -- what is known where factoring is not refused before the work
@@ -48,7 +49,7 @@ module _ (m n : ℕ) (a out : Column) (store : List ℕ) where
 
   -- the promise of the call: its answer, the factors and the swap store
   abbrev Promise : Factored → Column → List ℕ → Type 0
-  Promise r f s = (r ≡ factoredOf (factoring m n a out store)) × ((f ≡ factoring m n a out store .factors) × (s ≡ factoring m n a out store .store))
+  Promise r f s = (r ≡ factoredOf (factoring m n a out store) (tossUps m (columns m n a))) × ((f ≡ factoring m n a out store .factors) × (s ≡ factoring m n a out store .store))
 
   pub promise-refused : (number : ℕ) → number ≡ factoringRefusal m n a out store → (number ≡ 0 → ⊥) → Promise (Refused number) out store
   unfolding factoring factoredOf
@@ -63,6 +64,9 @@ module _ (m n : ℕ) (a out : Column) (store : List ℕ) where
     passed-by = passed (sym is ∙ none)
 
     module _ (s s' : Column) (held-store : List ℕ) (pairs : ℕ) (same : s' ≡ a) (h : Held m n (eliminate m (columns m n s')) s held-store pairs) where
+      tossed-is : (tossed : ℕ) → tossed ≡ tossUps m (columns m n s') → tossed ≡ tossUps m (columns m n a)
+      tossed-is tossed counted = counted ∙ ap (λ (b : Column). tossUps m (columns m n b)) same
+
       f : Factors
       f = eliminate m (columns m n a)
 
@@ -73,11 +77,11 @@ module _ (m n : ℕ) (a out : Column) (store : List ℕ) where
       whole : s ≡ flat (f .columns)
       whole = sym (flat-columns m n s (held .size)) ∙ ap flat (held .is-columns)
 
-      pub promise-accepted : allFinite s ≡ true → Promise (Accepted (recordOf m n pairs)) s held-store
+      pub promise-accepted : (tossed : ℕ) → tossed ≡ tossUps m (columns m n s') → allFinite s ≡ true → Promise (Accepted (recordOf m n pairs) tossed) s held-store
       unfolding settled factoredOf f
-      promise-accepted t =
+      promise-accepted tossed counted t =
           let all : allFinite (flat (f .columns)) ≡ true = ap allFinite (sym whole) ∙ t in
-          rw (worked, all) (ap (λ k. Accepted (recordOf m n k)) (held .is-pairs), (whole, held .is-store))
+          rw (worked, all) (ap₂ (λ (k j : ℕ). Accepted (recordOf m n k) j) (held .is-pairs) (tossed-is tossed counted), (whole, held .is-store))
 
       pub promise-overflow : (zeroed : Column) (cleared : List ℕ) → allFinite s ≡ false → zeroed ≡ zeros (length s) → cleared ≡ replicate (length held-store) 0
           → length held-store ≡ 128 → Promise (Refused 7) zeroed cleared

@@ -69,7 +69,7 @@ updates-swap k p (suc j) a b c kp jk e =
     ∙ ap (swapRows k p) (sym (updates-next a j c))
 
 -- ---- what step i makes of a column x right of i
-passOn : ℕ → Factors → Column → Column
+pub passOn : ℕ → Factors → Column → Column
 passOn i f x = cond (skipped i f) x (stepColumn i (packed i (pivotAt i f) f) (swapRows i (pivotAt i f) x))
 
 pivotStep-widen : (i p : ℕ) (f : Factors) (x : Column) → i < length (f .columns)
@@ -84,7 +84,7 @@ cond-widen : (t : Bool) (f g : Factors) (x y : Column) → cond t (widen f x) (w
 cond-widen true f g x y = refl
 cond-widen false f g x y = refl
 
-step-widen : (i : ℕ) (f : Factors) (x : Column) → i < length (f .columns) → step i (widen f x) ≡ widen (step i f) (passOn i f x)
+pub step-widen : (i : ℕ) (f : Factors) (x : Column) → i < length (f .columns) → step i (widen f x) ≡ widen (step i f) (passOn i f x)
 unfolding step passOn
 step-widen i f x h =
     rw (List·getD-append (f .columns) (x ∷ []) [] i h, pivotStep-widen i (pivotAt i f) f x h)
@@ -141,6 +141,11 @@ module _ (m : ℕ) (a : Matrix) (c : Column) (rows : HasRows m a) where
   adding-reduces =
       ap (λ n. turnsFrom (update (eliminate m a .columns)) 0 (min m n) (permute (eliminate m a .swaps) c)) (length-steps (min m (length a)) (unfactored a))
 
+  -- after the steps that the matrix has by itself
+  pub steps-upto : steps (min m (length a)) (unfactored (a ++ c ∷ [])) ≡ widen (eliminate m a) (reduced m (eliminate m a) c)
+  unfolding eliminate
+  steps-upto = steps-widen (min m (length a)) (omega arith) (omega arith) ∙ ap (widen (eliminate m a)) (sym adding-reduces)
+
   -- Factoring the widened matrix afresh gives the factors and the swaps that adding the column gives.
   pub widened : eliminate m (a ++ c ∷ []) ≡ addColumn m (eliminate m a) c
   unfolding eliminate addColumn
@@ -150,8 +155,7 @@ module _ (m : ℕ) (a : Matrix) (c : Column) (rows : HasRows m a) where
       let f = steps k (unfactored a) in
       let grows : length (a ++ c ∷ []) ≡ n + 1 = length-append a (c ∷ []) in
       let same : length (f .columns) ≡ n = length-steps k (unfactored a) in
-      let upto : steps k (unfactored (a ++ c ∷ [])) ≡ widen f (reduced m f c) =
-      steps-widen k (omega arith) (omega arith) ∙ ap (widen f) (sym adding-reduces) in
+      let upto : steps k (unfactored (a ++ c ∷ [])) ≡ widen f (reduced m f c) = steps-upto in
       cond-cases (λ g. eliminate m (a ++ c ∷ []) ≡ g) (ltb (length (f .columns)) m)
       (λ e.
       let h : length (f .columns) < m = ltb-true _ _ e in

@@ -1,5 +1,5 @@
 -- Adding's outcomes, each from what the code found and left on the way to it. Assumes nothing.
-use mathlib.Core.Path.{_≡_, refl, sym, ap, _∙_}
+use mathlib.Core.Path.{_≡_, refl, sym, ap, ap₂, _∙_}
 use mathlib.Core.Bool.{Bool, true, false, not, cond, _&&_, _||_}
 use mathlib.Core.List.{List, [], _∷_, _++_}
 use Prim.Native.Nat.{ℕ, _+_, _-_, _*_, _≤_, _<_, min}
@@ -10,6 +10,7 @@ use lib.Dec.{ltb, eqb}
 use lib.ListN.{length, take}
 use lib.Seq.{getD-at}
 use Rattle.blas.specs.Column.{Column, allFinite, zeros}
+use Rattle.blas.specs.TossUp.{tossUp}
 use Rattle.blas.proofs.Choice.{test-cases, cond-cases, and-first, and-second}
 use Rattle.store.specs.Columns.{columns, flat, isMatrix, onColumns}
 use Rattle.store.specs.Steps.{column, swapInAll, rowsSwapped}
@@ -27,6 +28,7 @@ use Rattle.lu.specs.Factoring.{Factoring, recordOf}
 use Rattle.lu.specs.Held.{Recorded}
 use Rattle.lu.specs.Adding.{reduced, addColumn, earlyRefusal, addingRefusal, written, factorsIn, addingSettled, adding, addedOf}
 use Rattle.lu.specs.Own.{ownRow, ownColumn}
+use Rattle.lu.specs.TossUps.{tossAt, ownTossUp}
 use Rattle.lu.proofs.Own.{joined, adding-joins}
 use Rattle.lu.proofs.Slot.{older-flat, slot-lent, slot-part, older-exchanged}
 use Rattle.lu.proofs.Swaps.{written-record, count-held}
@@ -69,7 +71,7 @@ module _ (r : Record) (s c : Column) (store : List ℕ) where
 
   -- the promise of the call: its answer, the store and the swap store
   abbrev Promise : Added → Column → List ℕ → Type 0
-  Promise a t st = (a ≡ addedOf (adding r s c store)) × ((t ≡ adding r s c store .factors) × (st ≡ adding r s c store .store))
+  Promise a t st = (a ≡ addedOf (adding r s c store) (ownTossUp m (factorsIn m n (r .pairs) s store) c)) × ((t ≡ adding r s c store .factors) × (st ≡ adding r s c store .store))
 
   refused-by : (number : ℕ) → addingRefusal r s c store ≡ number → (number ≡ 0 → ⊥) → Promise (Refused number r) s store
   unfolding adding addedOf
@@ -125,11 +127,11 @@ module _ (r : Record) (s c : Column) (store : List ℕ) where
           rw (worked, not-finite) (refl, (s-is, refl))
 
       -- it is: the older columns have their two rows exchanged, and the swap is recorded
-      promise-added : (y s' : Column) (p pairs' : ℕ) (store' : List ℕ) → p ≡ ownRow n x → y ≡ ownColumn n x → allFinite y ≡ true → length s' ≡ length s
+      promise-added : (y s' : Column) (p pairs' own : ℕ) (store' : List ℕ) → own ≡ ownTossUp m f c → p ≡ ownRow n x → y ≡ ownColumn n x → allFinite y ≡ true → length s' ≡ length s
           → columns m (n + 1) s' ≡ swapInAll n p (columns m n s) ++ y ∷ [] → Recorded n p (r .pairs) pairs' store store'
-          → Promise (Accepted (recordOf m (n + 1) pairs')) s' store'
+          → Promise (Accepted (recordOf m (n + 1) pairs') own) s' store'
       unfolding addingSettled addedOf
-      promise-added y s' p pairs' store' row is ok kept made rec =
+      promise-added y s' p pairs' own store' counted row is ok kept made rec =
           let finite-there : allFinite (column (swapInAll n (ownRow n x) (f .columns) ++ ownColumn n x ∷ []) n) ≡ true = ap allFinite (last-is ∙ sym is) ∙ ok in
           let few = good m (min m n) (r .pairs) store (passed-by .list) .few in
           let rows = passed-by .rows .at-most in
@@ -142,7 +144,7 @@ module _ (r : Record) (s c : Column) (store : List ℕ) where
           rec .count ∙ sym (count-held (r .pairs) n p store next) ∙ ap (λ (k : ℕ). length (recordSwap n k (pairsOf (r .pairs) store))) row in
           let store-is : store' ≡ written (recordSwap n (ownRow n x) (pairsOf (r .pairs) store)) store =
           rec .store ∙ sym (written-record (r .pairs) n p store next) ∙ ap (λ (k : ℕ). written (recordSwap n k (pairsOf (r .pairs) store)) store) row in
-          rw (worked, finite-there) (ap (λ (k : ℕ). Accepted (recordOf m (n + 1) k)) count-is, (s-is, store-is))
+          rw (worked, finite-there) (ap₂ (λ (k j : ℕ). Accepted (recordOf m (n + 1) k) j) count-is counted, (s-is, store-is))
 
       -- ---- from what the code left: t has the reduced column in its slot, and y is that column after its own step
       module _ (t y : Column) (p : ℕ) (same : length t ≡ length s) (red : columns m (n + 1) t ≡ columns m n s ++ reduced m (factorsIn m n (r .pairs) s store) c ∷ [])
@@ -171,12 +173,15 @@ module _ (r : Record) (s c : Column) (store : List ℕ) where
             (same-len-mid (n * m) (n * m + m - n * m) u z kz ∙ long)
             (slot-lent (λ _. zeros m) m n u z (ownColumn n x) (columns m n s) (long ∙ size) wide stepped kz (zeroed ∙ ap zeros m-long))
 
-        pub joins : (v : Column) (pairs' : ℕ) (store' : List ℕ) → allFinite (midOf (n * m) (n * m + m - n * m) u) ≡ true → length v ≡ length u
-            → v ≡ onColumns m (n + 1) (rowsSwapped n p 0 n) u → Recorded n p (r .pairs) pairs' store store' → Promise (Accepted (recordOf m (n + 1) pairs')) v store'
-        joins v pairs' store' ok kv swapped rec =
+        pub joins : (v : Column) (pairs' own : ℕ) (tossed : Bool) (store' : List ℕ) → tossed ≡ tossUp n (midOf (n * m) (n * m + m - n * m) t) → own ≡ cond tossed 1 0 → allFinite (midOf (n * m) (n * m + m - n * m) u) ≡ true → length v ≡ length u
+            → v ≡ onColumns m (n + 1) (rowsSwapped n p 0 n) u → Recorded n p (r .pairs) pairs' store store' → Promise (Accepted (recordOf m (n + 1) pairs') own) v store'
+        unfolding ownTossUp tossAt
+        joins v pairs' own tossed store' toss counted ok kv swapped rec =
             let fits : isMatrix m (n + 1) u ≡ true = same-matrix m (n + 1) s u long ∙ passed-by .room in
             let made : columns m (n + 1) v ≡ swapInAll n p (columns m n s) ++ ownColumn n x ∷ [] = older-exchanged m n p u v (columns m n s) (ownColumn n x) wide fits stepped swapped in
-            promise-added (ownColumn n x) v p pairs' store' (row ∙ ap (ownRow n) in-slot) refl (ap allFinite (sym its-slot) ∙ ok) (kv ∙ long) made rec
+            let own-is : own ≡ ownTossUp m f c =
+            counted ∙ ap (λ (b : Bool). cond b 1 0) (toss ∙ ap (tossUp n) in-slot) ∙ ap (λ (k : ℕ). cond (tossUp k x) 1 0) (sym wide) in
+            promise-added (ownColumn n x) v p pairs' own store' own-is (row ∙ ap (ownRow n) in-slot) refl (ap allFinite (sym its-slot) ∙ ok) (kv ∙ long) made rec
 
 -- ---- what adding changes
 refusal-none : (r : Record) (s c : Column) (store : List ℕ) → adding r s c store .number ≡ 0 → addingRefusal r s c store ≡ 0

@@ -80,14 +80,18 @@ adding r s c store =
     let number = addingRefusal r s c store in
     cond (eqb number 0) (addingSettled r s store (addColumn (r .rows) (factorsIn (r .rows) (r .columns) (r .pairs) s store) c)) (record { number = number; told = r; factors = s; store = store })
 
--- what the call answers, and what each case of the answer stands for in document 01
-unfoldable pub addedOf : Factoring → Added
-addedOf o = cond (eqb (o .number) 0) (Accepted (o .told)) (Refused (o .number) (o .told))
+-- what the call answers, its own toss-up with it (document 02, request 3), and what each case of the answer stands for in document 01
+unfoldable pub addedOf : Factoring → ℕ → Added
+addedOf o tossed = cond (eqb (o .number) 0) (Accepted (o .told) tossed) (Refused (o .number) (o .told))
 
 unfoldable pub numberOf : Added → ℕ
-numberOf (Accepted r) = 0
+numberOf (Accepted r tossed) = 0
 numberOf (Refused number r) = number
 
 unfoldable pub recordIn : Added → Record
-recordIn (Accepted r) = r
+recordIn (Accepted r tossed) = r
 recordIn (Refused number r) = r
+
+unfoldable pub tossedOf : Added → ℕ
+tossedOf (Accepted r tossed) = tossed
+tossedOf (Refused number r) = 0

@@ -54,14 +54,18 @@ factoring m n a out store =
     let number = factoringRefusal m n a out store in
     cond (eqb number 0) (settled m n (eliminate m (columns m n a))) (record { number = number; told = recordOf m n 0; factors = out; store = store })
 
--- what the call answers, and what each case of the answer stands for in document 01
-unfoldable pub factoredOf : Factoring → Factored
-factoredOf o = cond (eqb (o .number) 0) (Accepted (o .told)) (Refused (o .number))
+-- what the call answers, the number of toss-ups with it (document 02, request 3: "a refusal gives 0"), and what each case of the answer stands for
+unfoldable pub factoredOf : Factoring → ℕ → Factored
+factoredOf o tossed = cond (eqb (o .number) 0) (Accepted (o .told) tossed) (Refused (o .number))
 
 unfoldable pub numberOf : Factored → ℕ
-numberOf (Accepted r) = 0
+numberOf (Accepted r tossed) = 0
 numberOf (Refused number) = number
 
 unfoldable pub pairsOf : Factored → ℕ
-pairsOf (Accepted r) = r .pairs
+pairsOf (Accepted r tossed) = r .pairs
 pairsOf (Refused number) = 0
+
+unfoldable pub tossedOf : Factored → ℕ
+tossedOf (Accepted r tossed) = tossed
+tossedOf (Refused number) = 0

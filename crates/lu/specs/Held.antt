@@ -12,6 +12,7 @@ use Rattle.lu.specs.declared.Factored.{Factored}
 use Rattle.lu.specs.declared.Factored.the-variants.{Accepted, Refused}
 use Rattle.lu.specs.Elimination.{Factors, eliminate}
 use Rattle.lu.specs.Factoring.{storeOf, recordOf}
+use Rattle.lu.specs.TossUps.{tossUps}
 
 -- the slice s holds the columns of f, an m by n matrix, and the store with its number of pairs holds the swaps
 pub record Held (m n : ℕ) (f : Factors) (s : Column) (store : List ℕ) (pairs : ℕ) : Type 0 where
@@ -27,5 +28,5 @@ pub record Recorded (i p pairs now-pairs : ℕ) (was is : List ℕ) : Type 0 whe
 
 -- what adding all columns of an m by n matrix leaves: where the factors are finite, they and the swaps; else refusal 7
 pub record AllAdded (m n : ℕ) (a : Column) (r : Factored) (s : Column) (store : List ℕ) : Type 0 where
-  pub answer : let f = eliminate m (columns m n a) in r ≡ cond (allFinite (flat (f .columns))) (Accepted (recordOf m n (length (f .swaps)))) (Refused 7)
+  pub answer : let f = eliminate m (columns m n a) in r ≡ cond (allFinite (flat (f .columns))) (Accepted (recordOf m n (length (f .swaps))) (tossUps m (columns m n a))) (Refused 7)
   pub held : let f = eliminate m (columns m n a) in allFinite (flat (f .columns)) ≡ true → (s ≡ flat (f .columns)) × (store ≡ storeOf (f .swaps))

@@ -3,4 +3,5 @@ pub mod Factoring
 pub mod Held
 pub mod Adding
 pub mod Own
+pub mod TossUps
 pub mod Removing

@@ -1,20 +1,23 @@
 // LU decomposition with partial (row) pivoting: linalg/lu.rs of nalgebra 0.35.0, for f64 matrices that lie column after column. What is read off the
 // factors is in the crate `from_factors`.
 ghost use mathlib.Core.Path.{_≡_};
-ghost use mathlib.Core.Bool.{true, _&&_};
+ghost use mathlib.Core.Bool.{true, cond, _&&_};
 ghost use mathlib.Core.List.{[], _∷_, _++_};
 ghost use Prim.Native.Nat.{_+_, _*_, _<_, _≤_, min};
 ghost use lib.ListN.{length, replicate};
 ghost use Rattle.blas.specs.Each.{turnsFrom};
 ghost use Rattle.store.specs.Columns.{columns, isMatrix};
 ghost use Rattle.permutation_sequence.specs.SwapList.{pairsOf, goodList};
-ghost use Rattle.store.specs.Steps.{swapInAll, eliminated};
+ghost use Rattle.blas.specs.TossUp.{tossUp};
+ghost use Rattle.store.specs.Steps.{column, swapInAll, eliminated};
 ghost use Rattle.lu.specs.Elimination.{Factors, scaled, step, eliminate};
 ghost use Rattle.lu.specs.Factoring.{storeOf, factoringRefusal, factoring, factoredOf};
 ghost use Rattle.lu.specs.Held.{Held, Recorded, AllAdded};
 ghost use Rattle.lu.specs.Adding.{reduced, factorsIn, earlyRefusal, adding, addedOf};
 ghost use Rattle.lu.specs.Own.{updatedAt, ownRow, ownColumn};
+ghost use Rattle.lu.specs.TossUps.{tossAt, tossUps, ownTossUp};
 ghost use Rattle.lu.specs.Removing.{undoes, goodUndoing, removingRefusal, removing, removedOf};
+use blas::FoundPivot;
 
 // What factoring tells beside the lent factors and swap store. Every call on factors takes the three together.
 pub struct Record {
@@ -23,10 +26,23 @@ pub struct Record {
     pub pairs: usize,
 }
 
-// What factoring answers.
+// What factoring answers: the record with the number of columns whose pivot was a toss-up, or a refusal's number.
 pub enum Factored {
-    Accepted(Record),
+    Accepted { told: Record, toss_ups: usize },
     Refused(usize),
+}
+
+// What the steps count as they go.
+struct Counts {
+    pairs: usize,
+    tossed: usize,
+}
+
+// A truth as a number.
+fn count(holds: bool) -> usize
+    ensures { λ r. ⌜ r ≡ cond holds 1 0 ⌝ }
+{
+    if holds { 1 } else { 0 }
 }
 
 // Every number of the store becomes 0.
@@ -82,50 +98,64 @@ fn gauss_step(s: &mut [f64], m: usize, n: usize, i: usize, piv: usize)
     store::eliminate(s, m, n, i);
 }
 
-// Step i. Answers the number of pairs.
+// Step i. Answers the counts with it.
 fn factor_step(
     s: &mut [f64],
     m: usize,
     n: usize,
     i: usize,
     swaps: &mut [usize],
-    pairs: usize,
-) -> usize
-    requires { ⌜ (i < m) × (i < n) × (pairs ≤ i) ⌝ }
+    counts: Counts,
+) -> Counts
+    requires { ⌜ (i < m) × (i < n) × (counts .pairs ≤ i) × (counts .tossed ≤ i) ⌝ }
     requires { ⌜ (isMatrix m n (now s) ≡ true) × (length (now swaps) ≡ 128) ⌝ }
-    ensures { λ r. ⌜ ((f : Factors) → Held m n f (now (s .entry)) (now (swaps .entry)) pairs → Held m n (step i f) (now (s .exit)) (now (swaps .exit)) r) ⌝ }
-    ensures { λ r. ⌜ r ≤ i + 1 ⌝ }
+    ensures { λ r. ⌜ ((f : Factors) → Held m n f (now (s .entry)) (now (swaps .entry)) (counts .pairs) → Held m n (step i f) (now (s .exit)) (now (swaps .exit)) (r .pairs)) ⌝ }
+    ensures { λ r. ⌜ (r .pairs ≤ i + 1) × (r .tossed ≤ i + 1) ⌝ }
+    ensures { λ r. ⌜ r .tossed ≡ counts .tossed + tossAt i (column (columns m n (now (s .entry))) i) ⌝ }
 {
+    let pairs = counts.pairs;
+    let tossed = counts.tossed;
     let a = i * m;
     let e = a + m;
-    let piv = blas::icamax(&s[a..e], i);
+    let found = blas::find_pivot(&s[a..e], i);
+    let piv = found.row;
+    let toss_up = found.tossed;
     let q = a + piv;
     let diag = s[q];
     if blas::is_zero(diag) {
-        return pairs;
+        return Counts { pairs, tossed };
     }
     gauss_step(s, m, n, i, piv);
-    record_swap(swaps, pairs, i, piv)
+    let now_pairs = record_swap(swaps, pairs, i, piv);
+    let own = count(toss_up);
+    Counts {
+        pairs: now_pairs,
+        tossed: tossed + own,
+    }
 }
 
-// All steps of the m by n matrix in s. Answers the number of pairs.
-fn factor_in_place(s: &mut [f64], m: usize, n: usize, swaps: &mut [usize]) -> usize
+// All steps of the m by n matrix in s. Answers what they counted.
+fn factor_in_place(s: &mut [f64], m: usize, n: usize, swaps: &mut [usize]) -> Counts
     requires { ⌜ (isMatrix m n (now s) ≡ true) × (now swaps ≡ storeOf []) ⌝ }
-    ensures { λ r. ⌜ Held m n (eliminate m (columns m n (now (s .entry)))) (now (s .exit)) (now (swaps .exit)) r ⌝ }
+    ensures { λ r. ⌜ Held m n (eliminate m (columns m n (now (s .entry)))) (now (s .exit)) (now (swaps .exit)) (r .pairs) ⌝ }
+    ensures { λ r. ⌜ r .tossed ≡ tossUps m (columns m n (now (s .entry))) ⌝ }
 {
     let min_nrows_ncols = store::min(m, n);
-    let mut pairs = 0;
+    let mut counts = Counts {
+        pairs: 0,
+        tossed: 0,
+    };
     let mut i = 0;
     while i < min_nrows_ncols {
-        pairs = factor_step(s, m, n, i, swaps, pairs);
+        counts = factor_step(s, m, n, i, swaps, counts);
         i += 1;
     }
-    pairs
+    counts
 }
 
 // Factors the m by n matrix a into out, and records the swaps.
 pub fn factor(a: &[f64], m: usize, n: usize, out: &mut [f64], swaps: &mut [usize]) -> Factored
-    ensures { λ r. ⌜ r ≡ factoredOf (factoring m n (now (a .entry)) (now (out .entry)) (now (swaps .entry))) ⌝ }
+    ensures { λ r. ⌜ r ≡ factoredOf (factoring m n (now (a .entry)) (now (out .entry)) (now (swaps .entry))) (tossUps m (columns m n (now (a .entry)))) ⌝ }
     ensures { λ _. ⌜ now (out .exit) ≡ factoring m n (now (a .entry)) (now (out .entry)) (now (swaps .entry)) .factors ⌝ }
     ensures { λ _. ⌜ now (swaps .exit) ≡ factoring m n (now (a .entry)) (now (out .entry)) (now (swaps .entry)) .store ⌝ }
 {
@@ -135,22 +165,25 @@ pub fn factor(a: &[f64], m: usize, n: usize, out: &mut [f64], swaps: &mut [usize
     }
     blas::copy(out, a);
     clear(swaps);
-    let pairs = factor_in_place(out, m, n, swaps);
+    let counts = factor_in_place(out, m, n, swaps);
+    let pairs = counts.pairs;
+    let toss_ups = counts.tossed;
     if blas::all_finite(out) {
-        return Factored::Accepted(Record {
+        let told = Record {
             rows: m,
             columns: n,
             pairs,
-        });
+        };
+        return Factored::Accepted { told, toss_ups };
     }
     blas::fill_zero(out);
     clear(swaps);
     Factored::Refused(7)
 }
 
-// What adding a column answers: the new record, or a refusal's number with the old record.
+// What adding a column answers: the new record with 0 or 1 for a toss-up of its own pivot, or a refusal's number with the old record.
 pub enum Added {
-    Accepted(Record),
+    Accepted { told: Record, toss_ups: usize },
     Refused { number: usize, told: Record },
 }
 
@@ -217,28 +250,36 @@ fn reduce_column(s: &mut [f64], m: usize, n: usize, c: &[f64], swaps: &[usize], 
     update_all(s, m, n);
 }
 
-// The new column's own step, n being its number. Answers the row that row n was exchanged with.
-fn own_step(col: &mut [f64], n: usize) -> usize
-    ensures { λ r. ⌜ r ≡ ownRow n (now (col .entry)) ⌝ }
+// The new column's own step, n being its number. Answers the row that row n was exchanged with, and whether the pivot was a toss-up.
+fn own_step(col: &mut [f64], n: usize) -> FoundPivot
+    ensures { λ r. ⌜ (r .row ≡ ownRow n (now (col .entry))) × (r .tossed ≡ tossUp n (now (col .entry))) ⌝ }
     ensures { λ _. ⌜ now (col .exit) ≡ ownColumn n (now (col .entry)) ⌝ }
 {
     if col.len() <= n {
-        return n;
+        return FoundPivot {
+            row: n,
+            tossed: false,
+        };
     }
-    let piv = blas::icamax(col, n);
+    let found = blas::find_pivot(col, n);
+    let piv = found.row;
+    let tossed = found.tossed;
     let diag = col[piv];
     if blas::is_zero(diag) {
-        return n;
+        return FoundPivot {
+            row: n,
+            tossed: false,
+        };
     }
     blas::swap(col, n, piv);
     let inv_diag = 1.0 / col[n];
     blas::scale(col, n + 1, inv_diag);
-    piv
+    FoundPivot { row: piv, tossed }
 }
 
 // Adds the raw column c to the factors in s, which has room for it behind its columns.
 pub fn add_column(s: &mut [f64], c: &[f64], swaps: &mut [usize], told: Record) -> Added
-    ensures { λ r. ⌜ r ≡ addedOf (adding told (now (s .entry)) (now (c .entry)) (now (swaps .entry))) ⌝ }
+    ensures { λ r. ⌜ r ≡ addedOf (adding told (now (s .entry)) (now (c .entry)) (now (swaps .entry))) (ownTossUp (told .rows) (factorsIn (told .rows) (told .columns) (told .pairs) (now (s .entry)) (now (swaps .entry))) (now (c .entry))) ⌝ }
     ensures { λ _. ⌜ now (s .exit) ≡ adding told (now (s .entry)) (now (c .entry)) (now (swaps .entry)) .factors ⌝ }
     ensures { λ _. ⌜ now (swaps .exit) ≡ adding told (now (s .entry)) (now (c .entry)) (now (swaps .entry)) .store ⌝ }
 {
@@ -256,18 +297,24 @@ pub fn add_column(s: &mut [f64], c: &[f64], swaps: &mut [usize], told: Record) -
         return Added::Refused { number: 5, told };
     }
     reduce_column(s, m, n, c, swaps, pairs);
-    let piv = own_step(&mut s[a..e], n);
+    let found = own_step(&mut s[a..e], n);
+    let piv = found.row;
+    let toss_ups = count(found.tossed);
     if !blas::all_finite(&s[a..e]) {
         blas::fill_zero(&mut s[a..e]);
         return Added::Refused { number: 7, told };
     }
     store::swap_rows(s, m, n + 1, n, piv, 0, n);
     let now_pairs = record_swap(swaps, pairs, n, piv);
-    Added::Accepted(Record {
+    let new = Record {
         rows: m,
         columns: n + 1,
         pairs: now_pairs,
-    })
+    };
+    Added::Accepted {
+        told: new,
+        toss_ups,
+    }
 }
 
 // What removing a column answers: the new record, or a refusal's number with the old record.
@@ -366,23 +413,32 @@ fn add_all(a: &[f64], m: usize, n: usize, out: &mut [f64], swaps: &mut [usize]) 
         columns: 0,
         pairs: 0,
     };
+    let mut tossed = 0;
     let mut k = 0;
     while k < n {
         let b = k * m;
         let e = b + m;
         let answer = add_column(&mut out[..e], &a[b..e], swaps, told);
-        let Added::Accepted(next) = answer else {
+        let Added::Accepted {
+            told: next,
+            toss_ups: own,
+        } = answer
+        else {
             return Factored::Refused(7);
         };
         told = next;
+        tossed += own;
         k += 1;
     }
-    Factored::Accepted(told)
+    Factored::Accepted {
+        told,
+        toss_ups: tossed,
+    }
 }
 
 // Factors the m by n matrix a into out by adding its columns one by one: the same outcome as `factor`, on every input.
 pub fn build_up(a: &[f64], m: usize, n: usize, out: &mut [f64], swaps: &mut [usize]) -> Factored
-    ensures { λ r. ⌜ r ≡ factoredOf (factoring m n (now (a .entry)) (now (out .entry)) (now (swaps .entry))) ⌝ }
+    ensures { λ r. ⌜ r ≡ factoredOf (factoring m n (now (a .entry)) (now (out .entry)) (now (swaps .entry))) (tossUps m (columns m n (now (a .entry)))) ⌝ }
     ensures { λ _. ⌜ now (out .exit) ≡ factoring m n (now (a .entry)) (now (out .entry)) (now (swaps .entry)) .factors ⌝ }
     ensures { λ _. ⌜ now (swaps .exit) ≡ factoring m n (now (a .entry)) (now (out .entry)) (now (swaps .entry)) .store ⌝ }
 {
@@ -392,7 +448,11 @@ pub fn build_up(a: &[f64], m: usize, n: usize, out: &mut [f64], swaps: &mut [usi
     }
     clear(swaps);
     let answer = add_all(a, m, n, out, swaps);
-    let Factored::Accepted(_) = answer else {
+    let Factored::Accepted {
+        told: _,
+        toss_ups: _,
+    } = answer
+    else {
         blas::fill_zero(out);
         clear(swaps);
         return answer;

@@ -20,20 +20,20 @@ module _ (n : ℕ) (a f0 : Column) (s0 : List ℕ) (e0 : f0 ≡ zeros (n * n)) (
   from-zeros : factoring n n a f0 s0 ≡ factored n a
   from-zeros = ap₂ (factoring n n a) e0 e1
 
-  pub determined : (made : Factored) (told : Record) (f1 : Column) (s1 : List ℕ) (answer : Det)
-      → made ≡ factoredOf (factoring n n a f0 s0) → made ≡ Accepted told → f1 ≡ factoring n n a f0 s0 .factors → s1 ≡ factoring n n a f0 s0 .store
+  pub determined : (made : Factored) (tossed : ℕ) (told : Record) (own : ℕ) (f1 : Column) (s1 : List ℕ) (answer : Det)
+      → made ≡ factoredOf (factoring n n a f0 s0) tossed → made ≡ Accepted told own → f1 ≡ factoring n n a f0 s0 .factors → s1 ≡ factoring n n a f0 s0 .store
       → answer ≡ determining told f1 s1 → answer ≡ stiffnessOf n a
   unfolding stiffnessOf
-  determined made told f1 s1 answer m t f s d =
+  determined made tossed told own f1 s1 answer m t f s d =
       let g = from-zeros in
-      let p = told-accepted (factored n a) told (sym (m ∙ ap factoredOf g) ∙ t) in
+      let p = told-accepted (factored n a) tossed told own (sym (m ∙ ap (λ (o : Factoring). factoredOf o tossed) g) ∙ t) in
       rw (eq-eqb (factored n a .number) 0 (p .0))
       (d ∙ (λ i. determining (p .1 i) ((f ∙ ap (λ (o : Factoring). o .factors) g) i) ((s ∙ ap (λ (o : Factoring). o .store) g) i)))
 
-  pub not-factored : (made : Factored) (number : ℕ) → made ≡ factoredOf (factoring n n a f0 s0) → made ≡ Refused number → NoNumber number ≡ stiffnessOf n a
+  pub not-factored : (made : Factored) (tossed number : ℕ) → made ≡ factoredOf (factoring n n a f0 s0) tossed → made ≡ Refused number → NoNumber number ≡ stiffnessOf n a
   unfolding stiffnessOf
-  not-factored made number m t =
-      let p = told-refused (factored n a) number (sym (m ∙ ap factoredOf from-zeros) ∙ t) in
+  not-factored made tossed number m t =
+      let p = told-refused (factored n a) tossed number (sym (m ∙ ap (λ (o : Factoring). factoredOf o tossed) from-zeros) ∙ t) in
       rw (ne-eqb (factored n a .number) 0 (p .0)) (ap NoNumber (p .1))
 
 module _ (bytes : List ℕ) where

@@ -41,19 +41,19 @@ pub number-told : (k : ℕ) → numberOf (answerOf k) ≡ k
 unfolding answerOf numberOf
 number-told k = test-cases (eqb k 0) (λ e. rw e (sym (eqb-true k 0 e))) (λ e. rw e)
 
-pub told-accepted : (f : Factoring) (told : Record) → factoredOf f ≡ Accepted told → (f .number ≡ 0) × (told ≡ f .told)
+pub told-accepted : (f : Factoring) (tossed : ℕ) (told : Record) (own : ℕ) → factoredOf f tossed ≡ Accepted told own → (f .number ≡ 0) × (told ≡ f .told)
 unfolding factoredOf
-told-accepted f told e = go (eqb (f .number) 0) refl e
+told-accepted f tossed told own e = go (eqb (f .number) 0) refl e
   where
-    go : (t : Bool) → eqb (f .number) 0 ≡ t → cond t (Accepted (f .told)) (Refused (f .number)) ≡ Accepted told → (f .number ≡ 0) × (told ≡ f .told)
+    go : (t : Bool) → eqb (f .number) 0 ≡ t → cond t (Accepted (f .told) tossed) (Refused (f .number)) ≡ Accepted told own → (f .number ≡ 0) × (told ≡ f .told)
     go true d e = (eqb-true (f .number) 0 d, (cc))
     go false d e = absurd (let z : _≡_ {A = ℕ} 0 1 = cc in omega arith)
 
-pub told-refused : (f : Factoring) (number : ℕ) → factoredOf f ≡ Refused number → (f .number ≡ 0 → ⊥) × (number ≡ f .number)
+pub told-refused : (f : Factoring) (tossed number : ℕ) → factoredOf f tossed ≡ Refused number → (f .number ≡ 0 → ⊥) × (number ≡ f .number)
 unfolding factoredOf
-told-refused f number e = go (eqb (f .number) 0) refl e
+told-refused f tossed number e = go (eqb (f .number) 0) refl e
   where
-    go : (t : Bool) → eqb (f .number) 0 ≡ t → cond t (Accepted (f .told)) (Refused (f .number)) ≡ Refused number → (f .number ≡ 0 → ⊥) × (number ≡ f .number)
+    go : (t : Bool) → eqb (f .number) 0 ≡ t → cond t (Accepted (f .told) tossed) (Refused (f .number)) ≡ Refused number → (f .number ≡ 0 → ⊥) × (number ≡ f .number)
     go true d e = absurd (let z : _≡_ {A = ℕ} 0 1 = cc in omega arith)
     go false d e = (eqb-false (f .number) 0 d, (cc))
 
@@ -63,24 +63,24 @@ module _ (transposed : Bool) (n : ℕ) (a b x f0 : Column) (s0 : List ℕ) (e0 :
   from-zeros : factoring n n a f0 s0 ≡ factored n a
   from-zeros = ap₂ (factoring n n a) e0 e1
 
-  pub loads-solved : (made : Factored) (told : Record) (f1 : Column) (s1 : List ℕ) (x1 : Column) (number : ℕ)
-      → made ≡ factoredOf (factoring n n a f0 s0) → made ≡ Accepted told → f1 ≡ factoring n n a f0 s0 .factors → s1 ≡ factoring n n a f0 s0 .store
+  pub loads-solved : (made : Factored) (tossed : ℕ) (told : Record) (own : ℕ) (f1 : Column) (s1 : List ℕ) (x1 : Column) (number : ℕ)
+      → made ≡ factoredOf (factoring n n a f0 s0) tossed → made ≡ Accepted told own → f1 ≡ factoring n n a f0 s0 .factors → s1 ≡ factoring n n a f0 s0 .store
       → number ≡ systemOf transposed told f1 s1 1 b x .number → x1 ≡ systemOf transposed told f1 s1 1 b x .result
       → (number ≡ loadingBy transposed n a b x .number) × (x1 ≡ loadingBy transposed n a b x .result)
   unfolding loadingBy
-  loads-solved made told f1 s1 x1 number m t f s d r =
+  loads-solved made tossed told own f1 s1 x1 number m t f s d r =
       let g = from-zeros in
-      let p = told-accepted (factored n a) told (sym (m ∙ ap factoredOf g) ∙ t) in
+      let p = told-accepted (factored n a) tossed told own (sym (m ∙ ap (λ (o : Factoring). factoredOf o tossed) g) ∙ t) in
       let same : systemOf transposed told f1 s1 1 b x ≡ systemOf transposed (factored n a .told) (factored n a .factors) (factored n a .store) 1 b x =
       λ i. systemOf transposed (p .1 i) ((f ∙ ap (λ (o : Factoring). o .factors) g) i) ((s ∙ ap (λ (o : Factoring). o .store) g) i) 1 b x in
       rw (eq-eqb (factored n a .number) 0 (p .0))
       (d ∙ ap (λ (o : Outcome). o .number) same, r ∙ ap (λ (o : Outcome). o .result) same)
 
-  pub loads-refused : (made : Factored) (x1 : Column) (number : ℕ) → made ≡ factoredOf (factoring n n a f0 s0) → made ≡ Refused number → x1 ≡ zeros (length x)
+  pub loads-refused : (made : Factored) (tossed : ℕ) (x1 : Column) (number : ℕ) → made ≡ factoredOf (factoring n n a f0 s0) tossed → made ≡ Refused number → x1 ≡ zeros (length x)
       → (number ≡ loadingBy transposed n a b x .number) × (x1 ≡ loadingBy transposed n a b x .result)
   unfolding loadingBy
-  loads-refused made x1 number m t r =
-      let p = told-refused (factored n a) number (sym (m ∙ ap factoredOf from-zeros) ∙ t) in
+  loads-refused made tossed x1 number m t r =
+      let p = told-refused (factored n a) tossed number (sym (m ∙ ap (λ (o : Factoring). factoredOf o tossed) from-zeros) ∙ t) in
       rw (ne-eqb (factored n a .number) 0 (p .0)) (p .1, r)
 
 -- ---- solving, then ranking

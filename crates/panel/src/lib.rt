@@ -70,7 +70,14 @@ fn solve_loads(
     ensures { λ _. ⌜ length (now (x .exit)) ≡ length (now (x .entry)) ⌝ }
 {
     match lu::factor(a, n, n, factors, swaps) {
-        Factored::Accepted(told) => solve_system(transposed, factors, swaps, told, b, x),
+        Factored::Accepted { told, toss_ups: _ } => solve_system(
+            transposed,
+            factors,
+            swaps,
+            told,
+            b,
+            x,
+        ),
         Factored::Refused(number) => {
             blas::fill_zero(x);
             number
@@ -139,7 +146,7 @@ fn determinant_by(n: usize, a: &[f64], factors: &mut [f64], swaps: &mut [usize])
     ensures { λ r. ⌜ r ≡ stiffnessOf n (now (a .entry)) ⌝ }
 {
     match lu::factor(a, n, n, factors, swaps) {
-        Factored::Accepted(told) => from_factors::determinant(factors, swaps, told),
+        Factored::Accepted { told, toss_ups: _ } => from_factors::determinant(factors, swaps, told),
         Factored::Refused(number) => Det::Refused(number),
     }
 }

@@ -55,6 +55,21 @@ fn put_factors(
     put_wholes(text, part, swaps)
 }
 
+// That line with the number of toss-ups behind it.
+fn put_counted(
+    text: &mut [u8],
+    from: usize,
+    number: usize,
+    pairs: usize,
+    store: &[f64],
+    swaps: &[usize],
+    toss_ups: usize,
+) -> usize {
+    let at = put_factors(text, from, number, pairs, store, swaps);
+    let bar = put_bar(text, at);
+    put_whole(text, bar, toss_ups)
+}
+
 // The line of a refused call that would have answered a number.
 fn put_none(text: &mut [u8], from: usize, number: usize) -> usize {
     let at = put_whole(text, from, number);
@@ -71,8 +86,10 @@ pub fn factor(
     swaps: &mut [usize],
 ) -> usize {
     match lu::factor(a, sizes.m, sizes.n, out, swaps) {
-        Factored::Accepted(told) => put_factors(text, from, 0, told.pairs, out, swaps),
-        Factored::Refused(number) => put_factors(text, from, number, 0, out, swaps),
+        Factored::Accepted { told, toss_ups } => {
+            put_counted(text, from, 0, told.pairs, out, swaps, toss_ups)
+        }
+        Factored::Refused(number) => put_counted(text, from, number, 0, out, swaps, 0),
     }
 }
 
@@ -86,8 +103,13 @@ pub fn add_column(
     swaps: &mut [usize],
 ) -> usize {
     match lu::add_column(s, column, swaps, told) {
-        Added::Accepted(new) => put_factors(text, from, 0, new.pairs, s, swaps),
-        Added::Refused { number, told } => put_factors(text, from, number, told.pairs, s, swaps),
+        Added::Accepted {
+            told: new,
+            toss_ups,
+        } => { put_counted(text, from, 0, new.pairs, s, swaps, toss_ups) }
+        Added::Refused { number, told: old } => {
+            put_counted(text, from, number, old.pairs, s, swaps, 0)
+        }
     }
 }
 
@@ -103,6 +125,17 @@ pub fn remove_column(
         Removed::Accepted(new) => put_factors(text, from, 0, new.pairs, s, swaps),
         Removed::Refused { number, told } => put_factors(text, from, number, told.pairs, s, swaps),
     }
+}
+
+// Op 23.
+pub fn find_pivot(text: &mut [u8], from: usize, row: usize, column: &[f64]) -> usize {
+    let found = blas::find_pivot(column, row);
+    let tossed = if found.tossed { 1 } else { 0 };
+    let at = put_whole(text, from, 0);
+    let bar = put_bar(text, at);
+    let end = put_whole(text, bar, found.row);
+    let last = put_bar(text, end);
+    put_whole(text, last, tossed)
 }
 
 // Op 3.

@@ -110,6 +110,22 @@ pub fn remove_column(
     from
 }
 
+// Op 23.
+pub fn find_pivot(
+    text: &mut [u8],
+    from: usize,
+    row: usize,
+    column: &mut [f64],
+    bytes: &mut [u8],
+    going: &mut bool,
+) -> usize {
+    let rows = read_floats(column, bytes, going);
+    if *going {
+        return calls::find_pivot(text, from, row, &column[..rows]);
+    }
+    from
+}
+
 // What op 3 takes behind the factors.
 fn solve(
     text: &mut [u8],

@@ -67,6 +67,7 @@ fn one_case(
         20 => cases::panel_answer(text, at, sizes.k, bytes, going),
         21 => cases::write_file(text, at, sizes, a, b, bytes, going),
         22 => cases::remove_column(text, at, sizes, x, swaps, bytes, going),
+        23 => cases::find_pivot(text, at, sizes.m, b, bytes, going),
         24 => cases::solve_triangular(text, at, op, sizes, a, b, x, bytes, going),
         _ => {
             *going = false;

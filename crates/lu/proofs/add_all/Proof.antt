@@ -1,25 +1,28 @@
 -- After k columns the slices hold the outcome of factoring the first k (`Build`). Assumes nothing.
-use Prim.Native.Nat.{_-_, _*_, _+_, _≤_}
+use Prim.Native.Nat.{ℕ, _-_, _*_, _+_, _≤_}
 use mathlib.Core.Path.{_≡_, refl, sym, ap, _∙_}
+use mathlib.Core.List.{_++_}
 use native.Mathlib.Nat.{zero-mul}
 use native.Mathlib.Omega.{arith}
 use borrow.Author.Needs.{needs}
 use lib.ListN.{length, take, drop, length-drop}
 use lib.Seq.{length-take-le, length-front}
-use Rattle.store.specs.Columns.{flat}
+use Rattle.store.specs.Columns.{columns, flat}
 use Rattle.lu.specs.Factoring.{Factoring}
+use Rattle.lu.specs.TossUps.{tossUps}
 use Rattle.store.proofs.Columns.{sized, column-within}
-use Rattle.lu.proofs.Build.{outcomeAt, start-built, went-on, gave-up, all-added, not-added}
+use Rattle.lu.proofs.Build.{outcomeAt, start-built, Grown, went-on, gave-up, all-added, not-added}
 use Rattle.lu.proofs.Shape.{ok}
+use Rattle.lu.proofs.Tossing.{toss-empty}
 use Rattle.lu.proofs.add_all.Statement.{statement}
 use Rattle.lu.proofs.add_all.Tie as tie
 
 abbrev Inv-loop : tie.InvT-loop
-Inv-loop a m n out₀ swaps₀ told₀ k₀ out swaps told k = (length out ≡ length out₀) × (length swaps ≡ length swaps₀) × (k ≤ n) × (outcomeAt m k a .number ≡ 0) × (told ≡ outcomeAt m k a .told)
-    × (take (k * m) out ≡ outcomeAt m k a .factors) × (swaps ≡ outcomeAt m k a .store)
+Inv-loop a m n out₀ swaps₀ told₀ tossed₀ k₀ out swaps told tossed k = (length out ≡ length out₀) × (length swaps ≡ length swaps₀) × (k ≤ n) × (outcomeAt m k a .number ≡ 0) × (told ≡ outcomeAt m k a .told)
+    × (take (k * m) out ≡ outcomeAt m k a .factors) × (swaps ≡ outcomeAt m k a .store) × (tossed ≡ tossUps m (columns m k (take (k * m) a))) × (tossed ≤ k)
 
 abbrev μ-loop : tie.MeasureT-loop
-μ-loop a m n out₀ swaps₀ told₀ k₀ out swaps told k = n - k
+μ-loop a m n out₀ swaps₀ told₀ tossed₀ k₀ out swaps told tossed k = n - k
 
 -- in a turn, column k ends within the matrix and within the slice
 within : (c : tie.In-loop Inv-loop μ-loop) → let g = (c .before .before .before .before .before .args) in let l = (c .before .loop) in (l .k * g .m + g .m ≤ length (g .a .now)) × (l .k * g .m + g .m ≤ length (l .out))
@@ -33,7 +36,7 @@ loop-holds : tie.Need-loop-holds Inv-loop μ-loop
 unfolding flat
 loop-holds c = let g = c .before .before .before .args in
     let e = start-built _ _ _ _ _ (c .before .before .before .pre .0) in
-    (refl, refl, omega arith, ap (λ (o : Factoring). o .number) e, sym (ap (λ (o : Factoring). o .told) e), ap (λ k. take k (g .out .now)) (zero-mul (g .m)) ∙ sym (ap (λ (o : Factoring). o .factors) e), (c .before .before .before .pre .1) ∙ sym (ap (λ (o : Factoring). o .store) e))
+    (refl, refl, omega arith, ap (λ (o : Factoring). o .number) e, sym (ap (λ (o : Factoring). o .told) e), ap (λ k. take k (g .out .now)) (zero-mul (g .m)) ∙ sym (ap (λ (o : Factoring). o .factors) e), (c .before .before .before .pre .1) ∙ sym (ap (λ (o : Factoring). o .store) e), sym (toss-empty (g .m) (take (0 * g .m) (g .a .now))), omega arith)
 
 mul-b : tie.Need-mul-b Inv-loop μ-loop
 mul-b c = omega (arith, within c)
@@ -94,11 +97,10 @@ returns c =
     let long : length z ≡ g .m = length-take-le (g .m) (drop (l .k * g .m) (l .out)) (omega (arith, length-drop (l .k * g .m) (l .out))) in
     not-added _ _ _ _ _ (at-start .pre .0) _ _ (gave-up (g .m) (g .n) (g .a .now) _ _ (at-start .pre .0) (l .k) (at-loop-test .loop-test .taken) z long (l .inv .3) (l .out) (l .swaps) (l .told) _ _ _ (w .1) (l .inv .4) (l .inv .5) (l .inv .6) refl (k .ensures .0) (k .ensures .1 .0) (k .ensures .1 .1) _ _ (c .enum-told .given .1))
 
-add-k : tie.Need-add-k Inv-loop μ-loop
-add-k c = omega arith
-
-loop-again : tie.Need-loop-again Inv-loop μ-loop
-loop-again c =
+-- a record was answered: one column more
+grown : (c : tie.After-known-told Inv-loop μ-loop) → let at-add-column = c .before .before .before .before .before .before .before in let l = at-add-column .before .before .before .before .before .loop in let g = at-add-column .before .before .before .before .before .before .before .before .before .args in
+    Grown (g .m) (l .k) (g .a .now) (c .before .answer .given .0 .0) (c .before .answer .given .0 .1 .0) (at-add-column .add-column .last .0 ++ drop (l .k * g .m + g .m) (l .out)) (at-add-column .add-column .last .1 .1 .0)
+grown c =
     let at-answer = c .before in
     let at-add-column = at-answer .before .before .before .before .before .before in
     let at-loop-test = at-add-column .before .before .before .before in
@@ -110,8 +112,26 @@ loop-again c =
     let w = within at-loop-test in
     let z = take (g .m) (drop (l .k * g .m) (l .out)) in
     let long : length z ≡ g .m = length-take-le (g .m) (drop (l .k * g .m) (l .out)) (omega (arith, length-drop (l .k * g .m) (l .out))) in
-    let next = went-on (g .m) (g .n) (g .a .now) _ _ (at-start .pre .0) (l .k) (at-loop-test .loop-test .taken) z long (l .inv .3) (l .out) (l .swaps) (l .told) _ _ _ (w .1) (l .inv .4) (l .inv .5) (l .inv .6) refl (k .ensures .0) (k .ensures .1 .0) (k .ensures .1 .1) _ (at-answer .answer .given .1) in
-    (length-front (l .out) (k .last .0) (l .k * g .m + g .m) (k .kept .0) ∙ l .inv .0, k .kept .1 .1 .0 ∙ l .inv .1, omega arith, next .0, next .1, next .2, next .3)
+    went-on (g .m) (g .n) (g .a .now) _ _ (at-start .pre .0) (l .k) (at-loop-test .loop-test .taken) z long (l .inv .3) (l .out) (l .swaps) (l .told) _ _ _ (w .1) (l .inv .4) (l .inv .5) (l .inv .6) refl (k .ensures .0) (k .ensures .1 .0) (k .ensures .1 .1) _ _ (at-answer .answer .given .1)
+
+add-tossed : tie.Need-add-tossed Inv-loop μ-loop
+add-tossed c =
+    let l = c .before .before .before .before .before .before .before .before .before .before .before .before .loop in
+    omega (arith, l .inv .2, l .inv .8, grown c .at-most-one, ok _ _ _ _ _ (c .before .before .before .before .before .before .before .before .before .before .before .before .before .before .before .before .pre .0) .cols .at-most)
+
+add-k : tie.Need-add-k Inv-loop μ-loop
+add-k c = omega arith
+
+loop-again : tie.Need-loop-again Inv-loop μ-loop
+loop-again c =
+    let at-add-column = c .before .before .before .before .before .before .before in
+    let at-loop = at-add-column .before .before .before .before .before in
+    let at-start = at-loop .before .before .before .before in
+    let g = at-start .args in
+    let l = at-loop .loop in
+    let k = at-add-column .add-column in
+    let next = grown c in
+    (length-front (l .out) (k .last .0) (l .k * g .m + g .m) (k .kept .0) ∙ l .inv .0, k .kept .1 .1 .0 ∙ l .inv .1, omega arith, next .accepted, next .told-is, next .front-is, next .store-is, ap (λ (t : ℕ). t + c .before .answer .given .0 .1 .0) (l .inv .7) ∙ sym (next .counted), omega (arith, l .inv .8, next .at-most-one))
 
 same-length-3 : tie.Need-same-length-3 Inv-loop μ-loop
 same-length-3 c = search needs
@@ -128,7 +148,7 @@ returns-2 c =
     let p = ok _ _ _ _ _ (at-start .pre .0) in
     let e : l .k ≡ g .n = omega arith in
     let done = l .inv in
-    all-added (g .m) (g .n) (g .a .now) _ _ (at-start .pre .0) (l .out) (l .swaps) (l .told) (done .0 ∙ sized _ _ _ (p .slice) .size) (rw e at (done .3)) (rw e at (done .4)) (rw e at (done .5)) (rw e at (done .6))
+    all-added (g .m) (g .n) (g .a .now) _ _ (at-start .pre .0) (l .out) (l .swaps) (l .told) (l .tossed) (rw e at (done .7)) (done .0 ∙ sized _ _ _ (p .slice) .size) (rw e at (done .3)) (rw e at (done .4)) (rw e at (done .5)) (rw e at (done .6))
 
 pub add-all-spec : {M : Type 1} → statement M
 add-all-spec =
@@ -151,6 +171,7 @@ add-all-spec =
     same-length
     same-length-2
     returns
+    add-tossed
     add-k
     (λ c. omega arith)
     loop-again

@@ -48,7 +48,7 @@ reduce-column-requires c κs =
 same-length-5 : tie.Need-same-length-5
 same-length-5 c =
     let at-fill-zero = c .before .before in
-    let at-own-step = at-fill-zero .before .before .before .before .before .before .before .before in
+    let at-own-step = at-fill-zero .before .before .before .before .before .before .before .before .before in
     let at-reduce-column = at-own-step .before .before .before .before in
     let at-start = at-reduce-column .before .before .before .before .before .before .before .before .before .before .before .before .before .before in
     let r = at-start .args .told in
@@ -61,18 +61,18 @@ returns-3 c =
     let at-fill-zero = c .before .before in
     let at-if3 = at-fill-zero .before .before in
     let at-all-finite3 = at-if3 .before in
-    let at-own-step = at-all-finite3 .before .before .before .before .before in
+    let at-own-step = at-all-finite3 .before .before .before .before .before .before in
     let at-reduce-column = at-own-step .before .before .before .before in
     let at-if2 = at-reduce-column .before .before .before in
     let at-all-finite2 = at-if2 .before in
     let at-all-finite = at-all-finite2 .before in
     let at-if1 = at-all-finite .before .before in
     let at-adding-refusal = at-if1 .before in
-    overflows _ _ _ _ _ (at-adding-refusal .adding-refusal .ensures) (at-if1 .if1 .left) _ (ap₂ (λ (a b : Bool). a && b) (at-all-finite .all-finite .ensures) (at-all-finite2 .all-finite2 .ensures)) (not-false _ (at-if2 .if2 .left)) _ _ _ (at-reduce-column .reduce-column .kept .0) (at-reduce-column .reduce-column .ensures) (at-own-step .own-step .kept .0) (at-own-step .own-step .ensures .0) (at-own-step .own-step .ensures .1) _ (sym (at-all-finite3 .all-finite3 .ensures) ∙ not-true _ (at-if3 .if3 .taken)) (at-fill-zero .fill-zero .kept .0) (at-fill-zero .fill-zero .ensures)
+    overflows _ _ _ _ _ (at-adding-refusal .adding-refusal .ensures) (at-if1 .if1 .left) _ (ap₂ (λ (a b : Bool). a && b) (at-all-finite .all-finite .ensures) (at-all-finite2 .all-finite2 .ensures)) (not-false _ (at-if2 .if2 .left)) _ _ _ (at-reduce-column .reduce-column .kept .0) (at-reduce-column .reduce-column .ensures) (at-own-step .own-step .kept .0) (at-own-step .own-step .ensures .0 .0) (at-own-step .own-step .ensures .1) _ (sym (at-all-finite3 .all-finite3 .ensures) ∙ not-true _ (at-if3 .if3 .taken)) (at-fill-zero .fill-zero .kept .0) (at-fill-zero .fill-zero .ensures)
 
 record-swap-requires : tie.Need-record-swap-requires
 record-swap-requires c κs =
-    let at-if1 = c .before .before .before .before .before .before .before .before .before .before .before .before .before .before .before .before .before .before .before .before .before .before in
+    let at-if1 = c .before .before .before .before .before .before .before .before .before .before .before .before .before .before .before .before .before .before .before .before .before .before .before in
     let p = past at-if1 in
     let few = good _ _ _ _ (p .list) .few in
     let cols = p .few in
@@ -84,14 +84,14 @@ returns-4 c =
     let at-swap-rows = at-record-swap .before .before .before .before in
     let at-if3 = at-swap-rows .before .before in
     let at-all-finite3 = at-if3 .before in
-    let at-own-step = at-all-finite3 .before .before .before .before .before in
+    let at-own-step = at-all-finite3 .before .before .before .before .before .before in
     let at-reduce-column = at-own-step .before .before .before .before in
     let at-if2 = at-reduce-column .before .before .before in
     let at-all-finite2 = at-if2 .before in
     let at-all-finite = at-all-finite2 .before in
     let at-if1 = at-all-finite .before .before in
     let at-adding-refusal = at-if1 .before in
-    joins _ _ _ _ _ (at-adding-refusal .adding-refusal .ensures) (at-if1 .if1 .left) _ (ap₂ (λ (a b : Bool). a && b) (at-all-finite .all-finite .ensures) (at-all-finite2 .all-finite2 .ensures)) (not-false _ (at-if2 .if2 .left)) _ _ _ (at-reduce-column .reduce-column .kept .0) (at-reduce-column .reduce-column .ensures) (at-own-step .own-step .kept .0) (at-own-step .own-step .ensures .0) (at-own-step .own-step .ensures .1) _ _ _ (sym (at-all-finite3 .all-finite3 .ensures) ∙ not-false _ (at-if3 .if3 .left)) (at-swap-rows .swap-rows .kept .0) (at-swap-rows .swap-rows .ensures) (at-record-swap .record-swap .ensures)
+    joins _ _ _ _ _ (at-adding-refusal .adding-refusal .ensures) (at-if1 .if1 .left) _ (ap₂ (λ (a b : Bool). a && b) (at-all-finite .all-finite .ensures) (at-all-finite2 .all-finite2 .ensures)) (not-false _ (at-if2 .if2 .left)) _ _ _ (at-reduce-column .reduce-column .kept .0) (at-reduce-column .reduce-column .ensures) (at-own-step .own-step .kept .0) (at-own-step .own-step .ensures .0 .0) (at-own-step .own-step .ensures .1) _ _ _ _ _ (at-own-step .own-step .ensures .0 .1) (at-all-finite3 .before .before .before .count .ensures) (sym (at-all-finite3 .all-finite3 .ensures) ∙ not-false _ (at-if3 .if3 .left)) (at-swap-rows .swap-rows .kept .0) (at-swap-rows .swap-rows .ensures) (at-record-swap .record-swap .ensures)
 
 pub add-column-spec : {M : Type 1} → statement M
 add-column-spec =
@@ -116,23 +116,24 @@ add-column-spec =
     (λ c. search needs)
     (λ c. omega (arith, within (c .before .before .before .before .before .before .before .before .before)))
     (λ c κs. search needs)
-    (λ c. omega (arith, within (c .before .before .before .before .before .before .before .before .before .before .before .before .before)))
-    (λ c. search needs)
-    (λ c. search needs)
-    (λ c. omega (arith, within (c .before .before .before .before .before .before .before .before .before .before .before .before .before .before)))
     (λ c κs. search needs)
-    (λ c. omega (arith, within (c .before .before .before .before .before .before .before .before .before .before .before .before .before .before .before .before .before)))
+    (λ c. omega (arith, within (c .before .before .before .before .before .before .before .before .before .before .before .before .before .before)))
     (λ c. search needs)
     (λ c. search needs)
-    (λ c. omega (arith, within (c .before .before .before .before .before .before .before .before .before .before .before .before .before .before .before .before .before)))
+    (λ c. omega (arith, within (c .before .before .before .before .before .before .before .before .before .before .before .before .before .before .before)))
+    (λ c κs. search needs)
+    (λ c. omega (arith, within (c .before .before .before .before .before .before .before .before .before .before .before .before .before .before .before .before .before .before)))
+    (λ c. search needs)
+    (λ c. search needs)
+    (λ c. omega (arith, within (c .before .before .before .before .before .before .before .before .before .before .before .before .before .before .before .before .before .before)))
     (λ c κs. search needs)
     same-length-5
     (λ c. search needs)
     returns-3
-    (λ c. omega (arith, within (c .before .before .before .before .before .before .before .before .before .before .before .before .before .before .before .before .before .before)))
+    (λ c. omega (arith, within (c .before .before .before .before .before .before .before .before .before .before .before .before .before .before .before .before .before .before .before)))
     (λ c κs. search needs)
     record-swap-requires
-    (λ c. omega (arith, within (c .before .before .before .before .before .before .before .before .before .before .before .before .before .before .before .before .before .before .before .before .before .before .before .before .before)))
+    (λ c. omega (arith, within (c .before .before .before .before .before .before .before .before .before .before .before .before .before .before .before .before .before .before .before .before .before .before .before .before .before .before)))
     (λ c. search needs)
     (λ c. search needs)
     returns-4)

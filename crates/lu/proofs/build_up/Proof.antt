@@ -41,7 +41,7 @@ returns-3 c =
     let at-add-all = c .before .before .before .before .before .before in
     let at-if1 = at-add-all .before .before .before .before .before .before .before in
     let at-factor-refusal = at-if1 .before in
-    built-all _ _ _ _ _ (sym (at-factor-refusal .factor-refusal .ensures) ∙ (at-if1 .if1 .left)) _ _ _ (at-add-all .add-all .ensures) _ (c .enum-told .given .1)
+    built-all _ _ _ _ _ (sym (at-factor-refusal .factor-refusal .ensures) ∙ (at-if1 .if1 .left)) _ _ _ (at-add-all .add-all .ensures) _ _ (c .enum-told .given .1)
 
 pub build-up-spec : {M : Type 1} → statement M
 build-up-spec =

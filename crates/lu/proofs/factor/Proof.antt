@@ -39,7 +39,7 @@ returns-2 c =
     let at-if1 = at-copy .before .before in
     let at-factor-refusal = at-if1 .before in
     let p = past at-if1 in
-    promise-accepted _ _ _ _ _ _ (at-factor-refusal .factor-refusal .ensures) (at-if1 .if1 .left) _ _ _ _ (copy-is at-copy) (at-factor-in-place .factor-in-place .ensures) (sym (at-all-finite .all-finite .ensures) ∙ (c .if2 .taken))
+    promise-accepted _ _ _ _ _ _ (at-factor-refusal .factor-refusal .ensures) (at-if1 .if1 .left) _ _ _ _ (copy-is at-copy) (at-factor-in-place .factor-in-place .ensures .0) _ (at-factor-in-place .factor-in-place .ensures .1) (sym (at-all-finite .all-finite .ensures) ∙ (c .if2 .taken))
 
 returns-3 : tie.Need-returns-3
 returns-3 c =
@@ -53,7 +53,7 @@ returns-3 c =
     let at-if1 = at-copy .before .before in
     let at-factor-refusal = at-if1 .before in
     let room = past at-if1 .room in
-    promise-overflow _ _ _ _ _ _ (at-factor-refusal .factor-refusal .ensures) (at-if1 .if1 .left) _ _ _ _ (copy-is at-copy) (at-factor-in-place .factor-in-place .ensures) _ _ (sym (at-all-finite .all-finite .ensures) ∙ (at-if2 .if2 .left)) (at-fill-zero .fill-zero .ensures) (at-clear2 .clear2 .ensures) ((at-factor-in-place .factor-in-place .kept .1 .1 .1 .0) ∙ (at-clear .clear .kept .0) ∙ room)
+    promise-overflow _ _ _ _ _ _ (at-factor-refusal .factor-refusal .ensures) (at-if1 .if1 .left) _ _ _ _ (copy-is at-copy) (at-factor-in-place .factor-in-place .ensures .0) _ _ (sym (at-all-finite .all-finite .ensures) ∙ (at-if2 .if2 .left)) (at-fill-zero .fill-zero .ensures) (at-clear2 .clear2 .ensures) ((at-factor-in-place .factor-in-place .kept .1 .1 .1 .0) ∙ (at-clear .clear .kept .0) ∙ room)
 
 pub factor-spec : {M : Type 1} → statement M
 factor-spec =

@@ -1,0 +1,228 @@
+-- In a finite column the toss-up is what its name says: two different rows at or below have the greatest magnitude, and this is not zero. Of two finite
+-- numbers the magnitudes are equal exactly when neither is smaller; and the rows that share the pivot's magnitude are as great as the pivot, which is the
+-- first of the greatest. Assumes nothing.
+use mathlib.Core.Logic.{_⊎_, inl, inr}
+use mathlib.Core.Path.{_≡_, refl, sym, ap, _∙_}
+use mathlib.Core.Bool.{Bool, true, false, not, _&&_, _||_, Bool·beq, true≢false, false≢true}
+use Prim.Native.Nat.{ℕ, zero, suc, _+_, _-_, _*_, _≤_, _<_}
+use native.Mathlib.Nat.{zero-mul, mul-pos, eq-or-lt-of-le}
+use native.Mathlib.Omega.{arith}
+use borrow.Author.Tests.{eqb-true, eqb-false, eq-eqb, ne-eqb, not-false, not-true, ltb-false, lt-ltb, le-ltb}
+use lib.Dec.{eqb}
+use lib.IntN.{ℤ}
+use lib.ListN.{length, drop}
+use lib.Ieee.{Float, nan, inf, fin, up, down, eq, lt, ofBits}
+use lib.Ieee.Fits.{up-pos, down-pos}
+use lib.Ieee.Scale.{finite}
+use Rattle.blas.specs.Numbers.{magnitude, isZero}
+use Rattle.blas.specs.Column.{Column, entry, pivotRow, allFinite}
+use Rattle.blas.specs.TossUp.{sharedFrom, tossUp}
+use Rattle.blas.proofs.Choice.{test-cases, and-first, and-second, and-both}
+use Rattle.blas.proofs.Finite.{finite-entry}
+use Rattle.blas.proofs.Pivot.{bare, bare-cases, smaller, smaller-bare, smaller-trans, First, pivot-first, pivot-from, pivot-to}
+use Rattle.blas.proofs.TossUp.{shared-next, shared-end}
+
+-- ---- equal magnitudes
+-- -0.0 equals what +0.0 equals
+zero-left : (e : ℤ) (y : Float) → eq (fin true 0 e) y ≡ eq (fin false 0 e) y
+unfolding eq
+zero-left e nan = refl
+zero-left e (inf t) = refl
+zero-left e (fin true n d) = simp zero-mul
+zero-left e (fin false n d) = simp zero-mul
+
+zero-right : (x : Float) (e : ℤ) → eq x (fin true 0 e) ≡ eq x (fin false 0 e)
+unfolding eq
+zero-right nan e = refl
+zero-right (inf s) e = refl
+zero-right (fin true m f) e = simp zero-mul (alike (eqb (m * up f * down e) 0))
+  where
+    alike : (b : Bool) → (b && true) ≡ (b && b)
+    alike true = refl
+    alike false = refl
+zero-right (fin false m f) e = simp zero-mul (alike (eqb (m * up f * down e) 0))
+  where
+    alike : (b : Bool) → (b && b) ≡ (b && true)
+    alike true = refl
+    alike false = refl
+
+-- x and y are of equal magnitude
+abbrev pub equal : Float → Float → Bool
+equal x y = eq (magnitude x) (magnitude y)
+
+equal-bare : (x y : Float) → equal x y ≡ eq (bare x) (bare y)
+equal-bare x y =
+    bare-cases (λ a b. eq a (magnitude y) ≡ eq b (magnitude y)) (λ a. refl) (λ e. zero-left e (magnitude y)) x
+    ∙ bare-cases (λ a b. eq (bare x) a ≡ eq (bare x) b) (λ a. refl) (zero-right (bare x)) y
+
+bare-equal : (x y : Float) → finite x ≡ true → finite y ≡ true → lt (bare x) (bare y) ≡ false → lt (bare y) (bare x) ≡ false → eq (bare x) (bare y) ≡ true
+unfolding lt eq
+bare-equal nan y fx fy p q = absurd (false≢true fx)
+bare-equal (inf s) y fx fy p q = absurd (false≢true fx)
+bare-equal (fin s a e) nan fx fy p q = absurd (false≢true fy)
+bare-equal (fin s a e) (inf t) fx fy p q = absurd (false≢true fy)
+bare-equal (fin s a e) (fin t b f) fx fy p q =
+    let lo : b * up f * down e ≤ a * up e * down f = ltb-false _ _ p in
+    let hi : a * up e * down f ≤ b * up f * down e = ltb-false _ _ q in
+    rw (eq-eqb (a * up e * down f) (b * up f * down e) (omega arith))
+
+bare-neither : (x y : Float) → finite x ≡ true → finite y ≡ true → eq (bare x) (bare y) ≡ true → lt (bare x) (bare y) ≡ false
+unfolding lt eq
+bare-neither nan y fx fy p = absurd (false≢true fx)
+bare-neither (inf s) y fx fy p = absurd (false≢true fx)
+bare-neither (fin s a e) nan fx fy p = absurd (false≢true fy)
+bare-neither (fin s a e) (inf t) fx fy p = absurd (false≢true fy)
+bare-neither (fin s a e) (fin t b f) fx fy p =
+    let same : a * up e * down f ≡ b * up f * down e = eqb-true _ _ (and-first (eqb (a * up e * down f) (b * up f * down e)) _ p) in
+    le-ltb (a * up e * down f) (b * up f * down e) (omega arith)
+
+pub neither-equal : (x y : Float) → finite x ≡ true → finite y ≡ true → smaller x y ≡ false → smaller y x ≡ false → equal x y ≡ true
+neither-equal x y fx fy p q = equal-bare x y ∙ bare-equal x y fx fy (sym (smaller-bare x y) ∙ p) (sym (smaller-bare y x) ∙ q)
+
+pub equal-neither : (x y : Float) → finite x ≡ true → finite y ≡ true → equal x y ≡ true → smaller x y ≡ false
+equal-neither x y fx fy p = smaller-bare x y ∙ bare-neither x y fx fy (sym (equal-bare x y) ∙ p)
+
+-- zero is smaller than what is not zero
+bare-zero : (x y : Float) → finite x ≡ true → finite y ≡ true → isZero x ≡ true → isZero y ≡ false → lt (bare x) (bare y) ≡ true
+unfolding lt eq isZero ofBits
+bare-zero nan y fx fy p q = absurd (false≢true fx)
+bare-zero (inf s) y fx fy p q = absurd (false≢true fx)
+bare-zero (fin s a e) nan fx fy p q = absurd (false≢true fy)
+bare-zero (fin s a e) (inf t) fx fy p q = absurd (false≢true fy)
+bare-zero (fin s a e) (fin t b f) fx fy p q =
+    let none : a * up e * 1 ≡ 0 * 1 * down e = eqb-true _ _ (and-first (eqb (a * up e * 1) (0 * 1 * down e)) _ p) in
+    let left : a * up e ≡ 0 = omega arith in
+    test-cases (eqb (b * up f * 1) 0)
+    (λ z.
+    let gone : b * up f * 1 ≡ 0 = eqb-true _ _ z in
+    let level : eqb (b * up f * 1) (0 * 1 * down f) ≡ true = eq-eqb (b * up f * 1) (0 * 1 * down f) (omega arith) in
+    absurd (true≢false (sym (both (eqb (b * up f * 1) (0 * 1 * down f)) (Bool·beq t false) (eqb (b * up f * 1) 0) level z) ∙ q)))
+    (λ z.
+    let some : b * up f * 1 ≡ 0 → ⊥ = eqb-false _ _ z in
+    let more : 0 < b * up f = omega arith in
+    lt-ltb (a * up e * down f) (b * up f * down e) (rw left (omega (arith, mul-pos more (down-pos e)))))
+  where
+    both : (u v w : Bool) → u ≡ true → w ≡ true → (u && (v || w)) ≡ true
+    both true true w g h = refl
+    both true false true g h = refl
+    both true false false g h = h
+    both false v w g h = g
+
+pub zero-smaller : (x y : Float) → finite x ≡ true → finite y ≡ true → isZero x ≡ true → isZero y ≡ false → smaller x y ≡ true
+zero-smaller x y fx fy p q = smaller-bare x y ∙ bare-zero x y fx fy p q
+
+-- ---- the rows that share a magnitude
+module _ (v : Float) (p : ℕ) (c : Column) where
+  -- row j is another one with the magnitude v
+  pub record Shares (k j : ℕ) : Type 0 where
+    pub from : k ≤ j
+    pub within : j < length c
+    pub other : j ≡ p → ⊥
+    pub same : eq (magnitude (entry c j)) v ≡ true
+
+  shared-some : (n k : ℕ) → length c - k ≡ n → sharedFrom v p k (drop k c) ≡ true → (j : ℕ) × Shares k j
+  shared-some zero k e t = absurd (false≢true (sym (shared-end v p c k (omega arith)) ∙ t))
+  shared-some (suc n) k e t =
+      let h : k < length c = omega arith in
+      let test = not (eqb k p) && eq (magnitude (entry c k)) v in
+      test-cases test
+      (λ b. (k, record { from = omega arith; within = h; other = eqb-false k p (not-true (eqb k p) (and-first (not (eqb k p)) (eq (magnitude (entry c k)) v) b)); same = and-second (not (eqb k p)) (eq (magnitude (entry c k)) v) b }))
+      (λ b.
+      let later = shared-some n (k + 1) (omega arith) (sym (shared-next v p c k h false b) ∙ t) in
+      (later .0, record { from = (let up : k + 1 ≤ later .0 = later .1 .from in omega arith); within = later .1 .within; other = later .1 .other; same = later .1 .same }))
+
+  shared-one : (n k j : ℕ) → j - k ≡ n → Shares k j → sharedFrom v p k (drop k c) ≡ true
+  shared-one zero k j e s =
+      let up = s .from in
+      let is : k ≡ j = omega arith in
+      let here : (not (eqb k p) && eq (magnitude (entry c k)) v) ≡ true = rw (is, ne-eqb j p (s .other), s .same) in
+      shared-next v p c k (rw is (s .within)) true here
+  shared-one (suc n) k j e s =
+      let up = s .from in
+      let last = s .within in
+      let test = not (eqb k p) && eq (magnitude (entry c k)) v in
+      let later : sharedFrom v p (k + 1) (drop (k + 1) c) ≡ true = shared-one n (k + 1) j (omega arith) (record { from = omega arith; within = last; other = s .other; same = s .same }) in
+      test-cases test
+      (λ b. shared-next v p c k (omega arith) true b)
+      (λ b. shared-next v p c k (omega arith) false b ∙ later)
+
+-- ---- two different rows at or below have the greatest magnitude, and it is not zero
+abbrev Greatest : Column → ℕ → ℕ → Type 0
+Greatest c from b = (j : ℕ) → from ≤ j → j < length c → smaller (entry c b) (entry c j) ≡ false
+
+pub record TwoGreatest (c : Column) (from : ℕ) : Type 0 where
+  pub one : ℕ
+  pub other : ℕ
+  pub apart : one ≡ other → ⊥
+  pub one-within : (from ≤ one) × (one < length c)
+  pub other-within : (from ≤ other) × (other < length c)
+  pub one-greatest : Greatest c from one
+  pub other-greatest : Greatest c from other
+  pub not-zero : isZero (entry c one) ≡ false
+
+module _ (from : ℕ) (c : Column) (f : allFinite c ≡ true) (h : from < length c) where
+  abbrev p : ℕ
+  p = pivotRow from c
+
+  first : First c from (length c) p
+  first = pivot-first from c f h
+
+  low : from ≤ p
+  low = pivot-from from c
+
+  high : p < length c
+  high = pivot-to from c h
+
+  fine : (j : ℕ) → j < length c → finite (entry c j) ≡ true
+  fine j g = finite-entry c j f g
+
+  -- what is as great as the pivot is greatest
+  as-great : (k : ℕ) → k < length c → equal (entry c k) (entry c p) ≡ true → Greatest c from k
+  as-great k g e j lo hi =
+      test-cases (smaller (entry c k) (entry c j))
+      (λ t.
+      let more = smaller-trans (entry c p) (entry c k) (entry c j) (fine p high) (fine k g) (fine j hi) (equal-neither (entry c k) (entry c p) (fine k g) (fine p high) e) t in
+      absurd (true≢false (sym more ∙ first .greatest j lo hi)))
+      (λ t. t)
+
+  -- and the other way round
+  greatest-equal : (k : ℕ) → from ≤ k → k < length c → Greatest c from k → equal (entry c k) (entry c p) ≡ true
+  greatest-equal k lo g great = neither-equal (entry c k) (entry c p) (fine k g) (fine p high) (great p low high) (first .greatest k lo g)
+
+  tossed : tossUp from c ≡ true → TwoGreatest c from
+  unfolding tossUp
+  tossed t =
+      let nonzero = not-true (isZero (entry c p)) (and-first (not (isZero (entry c p))) _ t) in
+      let found = shared-some (magnitude (entry c p)) p c (length c - from) from refl (and-second (not (isZero (entry c p))) _ t) in
+      let k = found .0 in
+      let s = found .1 in
+      record {
+        one = p;
+        other = k;
+        apart = λ e. s .other (sym e);
+        one-within = (low, high);
+        other-within = (s .from, s .within);
+        one-greatest = first .greatest;
+        other-greatest = as-great k (s .within) (s .same);
+        not-zero = nonzero;
+      }
+
+  two-tossed : TwoGreatest c from → tossUp from c ≡ true
+  unfolding tossUp
+  two-tossed w =
+      let share : (k : ℕ) → (k ≡ p → ⊥) → (from ≤ k) × (k < length c) → Greatest c from k → sharedFrom (magnitude (entry c p)) p from (drop from c) ≡ true =
+      λ k apart within great.
+      shared-one (magnitude (entry c p)) p c (k - from) from k refl (record { from = within .0; within = within .1; other = apart; same = greatest-equal k (within .0) (within .1) great }) in
+      let shared : sharedFrom (magnitude (entry c p)) p from (drop from c) ≡ true =
+      test-cases (eqb (w .one) p)
+      (λ e. share (w .other) (λ g. w .apart (eqb-true (w .one) p e ∙ sym g)) (w .other-within) (w .other-greatest))
+      (λ e. share (w .one) (eqb-false (w .one) p e) (w .one-within) (w .one-greatest)) in
+      let some : isZero (entry c p) ≡ false =
+      test-cases (isZero (entry c p))
+      (λ z. absurd (true≢false (sym (zero-smaller (entry c p) (entry c (w .one)) (fine p high) (fine (w .one) (w .one-within .1)) z (w .not-zero)) ∙ first .greatest (w .one) (w .one-within .0) (w .one-within .1))))
+      (λ z. z) in
+      rw (some, shared)
+
+  -- THEOREM. In a finite column the pivot was a toss-up exactly when two different rows at or below have the greatest magnitude and it is not zero.
+  pub toss-up-is : (tossUp from c ≡ true → TwoGreatest c from) × (TwoGreatest c from → tossUp from c ≡ true)
+  toss-up-is = (tossed, two-tossed)

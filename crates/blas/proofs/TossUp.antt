@@ -1,0 +1,70 @@
+-- The toss-up: one turn of its test and the end, that a pivot of zero is none, and in a finite column what its name says: two different rows at or below
+-- have the greatest magnitude, and this is not zero. Of two finite numbers neither is of smaller magnitude exactly when the magnitudes are equal.
+-- Assumes nothing.
+use mathlib.Core.Logic.{_⊎_, inl, inr}
+use mathlib.Core.Path.{_≡_, refl, sym, ap, ap₂, _∙_}
+use mathlib.Core.Bool.{Bool, true, false, not, _&&_, _||_, true≢false, false≢true}
+use mathlib.Core.List.{[], _∷_}
+use Prim.Native.Nat.{ℕ, zero, suc, _+_, _-_, _*_, _≤_, _<_}
+use native.Mathlib.Numerals.{add-one}
+use native.Mathlib.Omega.{arith}
+use borrow.Author.Tests.{eqb-true, eqb-false, ne-eqb, eq-eqb}
+use lib.Dec.{eqb}
+use lib.ListN.{length, drop, drop-of-length-le}
+use lib.Ieee.{Float, nan, inf, fin, eq, lt}
+use lib.Ieee.Scale.{finite}
+use Rattle.blas.specs.Numbers.{magnitude, isZero}
+use Rattle.blas.specs.Column.{Column, entry, pivotRow, allFinite}
+use Rattle.blas.specs.declared.FoundPivot.{FoundPivot}
+use Rattle.blas.specs.TossUp.{sharedFrom, tossUp, pivotOf}
+use Rattle.blas.proofs.Choice.{test-cases, and-first, and-second, and-both}
+use Rattle.blas.proofs.Walk.{drop-next}
+
+-- ---- the test row by row
+module _ (v : Float) (p : ℕ) (c : Column) where
+  pub shared-next : (k : ℕ) → k < length c → (b : Bool) → (not (eqb k p) && eq (magnitude (entry c k)) v) ≡ b
+      → sharedFrom v p k (drop k c) ≡ (b || sharedFrom v p (k + 1) (drop (k + 1) c))
+  unfolding sharedFrom
+  shared-next k h b e =
+      ap (sharedFrom v p k) (drop-next c k nan h) ∙ (λ i. e i || sharedFrom v p (sym (add-one k) i) (drop (k + 1) c))
+
+  pub shared-end : (k : ℕ) → length c ≤ k → sharedFrom v p k (drop k c) ≡ false
+  unfolding sharedFrom
+  shared-end k h = ap (sharedFrom v p k) (drop-of-length-le c h)
+
+-- a pivot of zero, and a column with no row to look at, are no toss-ups
+pub zero-tossUp : (from : ℕ) (c : Column) → isZero (entry c (pivotRow from c)) ≡ true → tossUp from c ≡ false
+unfolding tossUp
+zero-tossUp from c z = rw z
+
+pub none-tossUp : (from : ℕ) (c : Column) → length c ≤ from → tossUp from c ≡ false
+unfolding tossUp
+none-tossUp from c h =
+    let p = pivotRow from c in
+    rw (shared-end (magnitude (entry c p)) p c from h) (and-false (not (isZero (entry c p))))
+  where
+    and-false : (b : Bool) → (b && false) ≡ false
+    and-false true = refl
+    and-false false = refl
+
+-- ---- the answer, from what the code finds
+module _ (from row : ℕ) (c : Column) (is : row ≡ pivotRow from c) where
+  pub found-none : length c ≤ from → record { row = row; tossed = false } ≡ pivotOf from c
+  unfolding pivotOf
+  found-none h = λ i. record { row = is i; tossed = sym (none-tossUp from c h) i }
+
+  pub found-by : (zero-there shared : Bool) → zero-there ≡ isZero (entry c row) → shared ≡ sharedFrom (magnitude (entry c row)) row from (drop from c)
+      → record { row = row; tossed = not zero-there && shared } ≡ pivotOf from c
+  unfolding pivotOf tossUp
+  found-by zero-there shared z s =
+      λ i. record { row = is i; tossed = (ap₂ (λ (a b : Bool). not a && b) z s ∙ ap (λ (p : ℕ). not (isZero (entry c p)) && sharedFrom (magnitude (entry c p)) p from (drop from c)) is) i }
+
+-- ---- the answer's two parts
+module _ (from : ℕ) (c : Column) (r : FoundPivot) (is : r ≡ pivotOf from c) where
+  pub found-row : r .row ≡ pivotRow from c
+  unfolding pivotOf
+  found-row = ap (λ (q : FoundPivot). q .row) is
+
+  pub found-tossed : r .tossed ≡ tossUp from c
+  unfolding pivotOf
+  found-tossed = ap (λ (q : FoundPivot). q .tossed) is

@@ -1,0 +1,25 @@
+-- Document 02, request 3: whether the pivot was a toss-up, "whether another row at or below has the pivot's magnitude, this not being zero"; magnitudes are equal as
+-- IEEE compares them.
+use mathlib.Core.Bool.{Bool, false, not, _&&_, _||_}
+use mathlib.Core.List.{[], _∷_}
+use Prim.Native.Nat.{ℕ, suc}
+use lib.Dec.{eqb}
+use lib.ListN.{drop}
+use lib.Ieee.{Float, eq}
+use Rattle.blas.specs.declared.FoundPivot.{FoundPivot}
+use Rattle.blas.specs.Numbers.{magnitude, isZero}
+use Rattle.blas.specs.Column.{Column, entry, pivotRow}
+
+-- of the entries from row k on some other one than row p's has the magnitude v
+unfoldable pub sharedFrom : Float → ℕ → ℕ → Column → Bool
+sharedFrom v p k [] = false
+sharedFrom v p k (x ∷ xs) = not (eqb k p) && eq (magnitude x) v || sharedFrom v p (suc k) xs
+
+unfoldable pub tossUp : ℕ → Column → Bool
+tossUp from c =
+    let p = pivotRow from c in
+    not (isZero (entry c p)) && sharedFrom (magnitude (entry c p)) p from (drop from c)
+
+-- what the pivot search answers
+unfoldable pub pivotOf : ℕ → Column → FoundPivot
+pivotOf from c = record { row = pivotRow from c; tossed = tossUp from c }
