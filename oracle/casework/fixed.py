@@ -6,6 +6,7 @@ from array import array
 
 from . import floats
 from .make import MAKERS, SQUARE, file_case, panel
+from .rules import GIVEN
 from .wire import Case, FLOATS, LONGEST, NEWLINE, OPS, encode, hexes, line, words
 
 
@@ -73,6 +74,9 @@ def table():
         ('given diagonal 2, entry below 1, b (4,6)',
          Case(11, 0, 2, 1, [doubles(5.0, 1.0, 5.0, 5.0), doubles(2.0), doubles(4.0, 6.0), spare(2)]),
          line(0, [hexes(doubles(4.0, 4.0))])),
+        ('the same, corrected',
+         Case(24, 0, 2, 1, [doubles(5.0, 1.0, 5.0, 5.0), doubles(2.0), doubles(4.0, 6.0), spare(2)]),
+         line(0, [hexes(doubles(2.0, 2.0))])),
         ('loads 1, -3, 3', Case(19, 0, 3, 0, [doubles(1.0, -3.0, 3.0), array('Q', [9, 9, 9])]), line(0, ['2 3 1'])),
         ('0 rows', factoring(0, 1), line(1, ['0', '', words(swap_store(9))])),
         ('0 rows, 0 columns', factoring(0, 0), line(1, ['0', '', words(swap_store(9))])),
@@ -109,12 +113,13 @@ def added():
     yield adding(64, doubles(*[0.0] * 4096), doubles(*[1.0] * 64))              # the longest slice of all
 
 
-# ---- a given diagonal whose last quotient overflows: it is not formed
+# ---- a given diagonal whose last quotient overflows: the crate's way does not form it, the corrected way does
 
 def given():
     small, large = doubles(2.0 ** -1000), 2.0 ** 100
-    yield Case(11, 0, 1, 1, [doubles(1.0), small, doubles(large), spare(1)])
-    yield Case(11, 0, 2, 1, [doubles(1.0, 0.0, 0.0, 1.0), small, doubles(1.0, large), spare(2)])
+    for op in GIVEN:
+        yield Case(op, 0, 1, 1, [doubles(1.0), small, doubles(large), spare(1)])
+        yield Case(op, 0, 2, 1, [doubles(1.0, 0.0, 0.0, 1.0), small, doubles(1.0, large), spare(2)])
 
 
 # ---- one fault at a time
@@ -187,6 +192,7 @@ def good(op):
         18: lambda: Case(18, 3, 0, 0, [*list_, array('Q', [5, 2])]),
         19: lambda: Case(19, 0, 3, 0, [doubles(2.0, -2.0, 5.0), array('Q', [7, 8, 9])]),
         21: lambda: writing(2, doubles(4.0, -0.0, 2.0 ** -1074, -8.0), doubles(5.0, 0.1), 57),
+        24: lambda: Case(24, 0, 3, 2, [matrix, doubles(2.0), b, x]),
     }.get(op, lambda: Case(op, 0, 3, 2, [matrix, b, x]) if op < 14 else Case(op, 4, 3, 0, [*list_, tall]))()
 
 

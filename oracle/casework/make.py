@@ -5,12 +5,12 @@ from array import array
 
 from . import floats
 from .judge import finite
-from .rules import MOST, STORE, request_factoring
+from .rules import GIVEN, MOST, STORE, request_factoring
 from .wire import Case, FLOATS, LONGEST, OPS, unhex
 
 # how often each op comes in a round
 TURNS = {1: 3, 2: 3, 3: 3, 4: 2, 5: 1, 6: 1, 7: 3, 8: 3, 9: 2, 10: 2, 11: 2, 12: 3, 13: 3,
-         14: 3, 15: 3, 16: 3, 17: 3, 18: 2, 19: 1, 20: 2, 21: 2}
+         14: 3, 15: 3, 16: 3, 17: 3, 18: 2, 19: 1, 20: 2, 21: 2, 24: 2}
 ROUND = [(op, turn) for turn in range(max(TURNS.values())) for op in TURNS if turn < TURNS[op]]
 
 JUNK = [0, 1, 63, 64, 65, 255, 2 ** 32, 2 ** 63, 2 ** 64 - 1]
@@ -124,7 +124,7 @@ def make_triangular(r, op, n, k):
     matrix = floats.matrix(r, n, n)
     if r.random() < 0.85:
         floats.without_zero_diagonal(r, n, matrix)
-    given = [array('d', [r.choice((1.0, 2.0, -3.0, 0.1, floats.numbers(r, 1)[0]))])] if op == 11 else []
+    given = [array('d', [r.choice((1.0, 2.0, -3.0, 0.1, floats.numbers(r, 1)[0]))])] if op in GIVEN else []
     return Case(op, 0, n, k, [matrix, *given, floats.matrix(r, n, k), floats.anything(r, n * k)])
     yield
 
@@ -178,8 +178,8 @@ def make_write(r, op, n, k):
 MAKERS = {1: make_factor, 2: make_add, 3: make_solve, 4: make_square, 5: make_square, 6: make_square, 7: make_l_or_u, 8: make_l_or_u,
           9: make_triangular, 10: make_triangular, 11: make_triangular, 12: make_triangular, 13: make_triangular,
           14: make_permute, 15: make_permute, 16: make_permute, 17: make_permute, 18: make_append, 19: make_rank, 20: make_file,
-          21: make_write}
-SQUARE = (3, 4, 5, 6, 9, 10, 11, 12, 13, 19, 20, 21)      # ops whose two sizes are the matrix's and the right-hand columns'
+          21: make_write, 24: make_triangular}
+SQUARE = (3, 4, 5, 6, 9, 10, 11, 12, 13, 19, 20, 21, 24)      # ops whose two sizes are the matrix's and the right-hand columns'
 
 
 # ---- faults: each changes a good case in place; the rules say what the changed case gives
@@ -239,7 +239,7 @@ def number_fault(r, c):
 
 
 def zero_fault(r, c):
-    at = 1 if c.op == 11 and r.random() < 0.7 else 0
+    at = 1 if c.op in GIVEN and r.random() < 0.7 else 0
     items = c.slices[at]
     if len(items):
         i = 0 if at else r.randrange(max(1, min(c.n, 64))) * (c.n + 1)
@@ -264,7 +264,7 @@ def faults_of(op):
         kinds += [list_fault, list_fault]
     if any(kind == FLOATS for _, kind in OPS[op].slices):
         kinds += [number_fault, number_fault]
-    if op in (3, 4, 5, 6, 9, 10, 11, 12, 13):
+    if op in (3, 4, 5, 6, 9, 10, 11, 12, 13, 24):
         kinds.append(zero_fault)
     if op == 18:
         kinds += [append_fault] * 3

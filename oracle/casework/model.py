@@ -7,7 +7,7 @@ import struct
 import sys
 
 TAKES = {1: 'FFW', 2: 'FFWW', 3: 'FWWFF', 4: 'FWWF', 5: 'FWW', 6: 'FWW', 7: 'FWWF', 8: 'FWWF', 9: 'FFF', 10: 'FFF', 11: 'FFFF', 12: 'FFF',
-         13: 'FFF', 14: 'WWF', 15: 'WWF', 16: 'WWF', 17: 'WWF', 18: 'WWW', 19: 'FW', 20: 'W', 21: 'FFW'}
+         13: 'FFF', 14: 'WWF', 15: 'WWF', 16: 'WWF', 17: 'WWF', 18: 'WWW', 19: 'FW', 20: 'W', 21: 'FFW', 24: 'FFFF'}
 
 
 class Refused(Exception):
@@ -341,12 +341,22 @@ def ran(run, n, k, t, b):
     return made,
 
 
-def given_diagonal(m, n, k, matrix, d, b, x0):
-    size(n, 1), size(k, 1)
-    length(matrix, n * n), length(b, n * k), length(x0, n * k)
-    numbers(matrix), numbers(b), numbers(d)
-    refuse(6, d[0] == 0.0)
-    return ran(lambda t, column: unit_lower(t, column, d[0]), n, k, rows_of(n, n, matrix), b)
+def given_diagonal(run):
+    def call(m, n, k, matrix, d, b, x0):
+        size(n, 1), size(k, 1)
+        length(matrix, n * n), length(b, n * k), length(x0, n * k)
+        numbers(matrix), numbers(b), numbers(d)
+        refuse(6, d[0] == 0.0)
+        return ran(lambda t, column: run(t, column, d[0]), n, k, rows_of(n, n, matrix), b)
+    return call
+
+
+def corrected(t, b, d):
+    """Row by row: what the rows above leave of entry r, divided and stored."""
+    for r in range(len(b)):
+        for i in range(r):
+            b[r] += (-b[i]) * t[r][i]
+        b[r] /= d
 
 
 def permute(of_columns, backwards):
@@ -448,12 +458,13 @@ def last_left(number, *case):
 CALLS = {
     1: (factor, factor_left), 2: (add, add_left), 3: (solve, last_left), 4: (inverse, last_left),
     5: (determinant, lambda *case: ('-',)), 6: (invertible, lambda *case: ('-',)), 7: (l_of, last_left), 8: (u_of, last_left),
-    9: (triangular(lower), last_left), 10: (triangular(upper), last_left), 11: (given_diagonal, last_left),
+    9: (triangular(lower), last_left), 10: (triangular(upper), last_left), 11: (given_diagonal(unit_lower), last_left),
     12: (triangular(transposed_lower), last_left), 13: (triangular(transposed_upper), last_left),
     14: (permute(False, False), last_left), 15: (permute(False, True), last_left),
     16: (permute(True, False), last_left), 17: (permute(True, True), last_left),
     18: (append, lambda number, m, n, k, swaps, count, two: (count, swaps)), 19: (rank, last_left),
     20: (panel_file, lambda number, *case: (f'refused {number}\n',)), 21: (write_file, write_left),
+    24: (given_diagonal(corrected), last_left),
 }
 
 

@@ -202,15 +202,43 @@ def invertible_made(c):
     return 0, [(yield encode(c))]
 
 
-# ---- 9 to 13: triangular solves
+# ---- 9 to 13 and 24: triangular solves
+
+GIVEN = (11, 24)        # the ops that take a diagonal
+
 
 def triangular_tests(c):
     matrix, b, x0 = c.slices[0], *c.slices[-2:]
     yield 1, outside(1, c.n) or outside(1, c.k)
     yield 3, len(matrix) != c.n * c.n or len(b) != c.n * c.k or len(x0) != c.n * c.k
-    given = c.slices[1] if c.op == 11 else array('d')
+    given = c.slices[1] if c.op in GIVEN else array('d')
     yield 5, not_finite(matrix, b, given)
-    yield 6, given[0] == 0.0 if c.op == 11 else zero_on_diagonal(c.n, matrix)
+    yield 6, given[0] == 0.0 if c.op in GIVEN else zero_on_diagonal(c.n, matrix)
+
+
+def for_crate(c):
+    """The case as the crate knows it: the corrected diagonal is not there, and its case is one of the crate's own given diagonal."""
+    return encode(Case(11, c.m, c.n, c.k, c.slices) if c.op == 24 else c)
+
+
+def corrected_made(c):
+    """Each entry is divided by d, stored, and drives the updates: run here. The crate drives them by the same quotients and leaves its
+    entries undivided, so these numbers must be the crate's, each divided once."""
+    matrix, (d,), b, x0 = c.slices
+    made = array('d')
+    for j in range(c.k):
+        column = b[j * c.n:(j + 1) * c.n]
+        for i in range(c.n):
+            column[i] = column[i] / d
+            for r in range(i + 1, c.n):
+                column[r] = -column[i] * matrix[i * c.n + r] + column[r]
+        made += column
+    undivided = yield for_crate(c)
+    if finite(undivided):
+        assert hexes(made) == hexes(array('d', [x / d for x in unhex(undivided)])), "not the crate's numbers divided once"
+    else:
+        assert not finite(hexes(made)), "finite where the crate's numbers are not"
+    return numbers_or_seven(hexes(made), x0)
 
 
 # ---- 14 to 18: swap lists
@@ -341,6 +369,7 @@ RULES = {
     19: (rank_tests, rank_left, rank_made),
     20: (file_tests, None, file_made),
     21: (write_tests, write_left, write_made),
+    24: (triangular_tests, result_left, corrected_made),
 }
 
 
@@ -353,6 +382,6 @@ def expected(c):
     else:
         parts = refused(number)[1] if c.op == 20 else left(c)
         if number == 6:      # the one refusal that the crate has too: it must agree
-            answer = yield encode(c)
+            answer = yield for_crate(c)
             assert answer == 'none', answer
     return line(number, parts)

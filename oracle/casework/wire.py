@@ -45,6 +45,7 @@ OPS = {
     19: Op('rank', 'n', 'loads', 'ranks0'),
     20: Op('panel file', 'k', 'file'),
     21: Op('write a panel file', 'nk', 'matrix', 'readings', 'lent bytes'),
+    24: Op('solve lower with the given diagonal, corrected', 'nk', 'matrix', 'diagonal', 'right-hand sides', 'x0'),
 }
 
 
