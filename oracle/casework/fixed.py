@@ -113,13 +113,68 @@ def added():
     yield adding(64, doubles(*[0.0] * 4096), doubles(*[1.0] * 64))              # the longest slice of all
 
 
-# ---- a given diagonal whose last quotient overflows: the crate's way does not form it, the corrected way does
+# ---- a given diagonal and a quotient that overflows: the last one is not formed in the crate's way, but is in the corrected one
 
 def given():
-    small, large = doubles(2.0 ** -1000), 2.0 ** 100
+    matrix, small, large = doubles(1.0, 0.0, 0.0, 1.0), doubles(2.0 ** -1000), 2.0 ** 100
     for op in GIVEN:
         yield Case(op, 0, 1, 1, [doubles(1.0), small, doubles(large), spare(1)])
-        yield Case(op, 0, 2, 1, [doubles(1.0, 0.0, 0.0, 1.0), small, doubles(1.0, large), spare(2)])
+        yield Case(op, 0, 2, 1, [matrix, small, doubles(1.0, large), spare(2)])
+        yield Case(op, 0, 2, 1, [matrix, small, doubles(large, 1.0), spare(2)])
+
+
+# ---- removing: which pair goes, which list is too long, and what stays
+
+def removing(m, n, list_, *numbers):
+    """Any factors with that list; if no numbers are given, those of the places."""
+    numbers = numbers or [float(x + 1) for x in range(m * n)]
+    return Case(22, m, n, 0, [doubles(*numbers), swap_store(*list_), pairs(len(list_) // 2)])
+
+
+def removing_factored(m, n, factors, list_, whole):
+    return Case(22, m, n, 0, [factors, swap_store(*list_), pairs(len(list_) // 2)], whole)
+
+
+def removed():
+    step_swaps, none_swaps = doubles(2.0, 0.0, 0.0, 1.0), doubles(4.0, 0.5, 2.0, 7.0)
+    yield removing_factored(2, 2, step_swaps, [0, 1], doubles(0.0, 2.0, 1.0, 0.0))      # the table's: its swap is the first column's
+    yield removing_factored(2, 1, doubles(2.0, 0.0), [0, 1], doubles(0.0, 2.0))         # no column remains, and no pair
+    yield removing_factored(2, 2, none_swaps, [], doubles(4.0, 2.0, 2.0, 8.0))
+    yield removing_factored(3, 2, doubles(4.0, 0.25, 0.5, 2.0, 8.0, 0.5), [1, 2], doubles(4.0, 2.0, 1.0, 2.0, 5.0, 8.5))
+    yield removing_factored(2, 1, doubles(0.0, -0.0), [], doubles(0.0, -0.0))           # a zero column
+    yield removing_factored(1, 2, doubles(3.0, 5.0), [], doubles(3.0, 5.0))             # m < n
+    yield removing(1, 1, [], -0.0)
+    yield removing(2, 1, [0, 1])
+    yield removing(2, 1, [1, 0])                                                        # a pair would remain with no column
+    yield removing(2, 2, [0, 1], -0.0, 0.0, -0.0, -0.0)
+    yield removing(2, 2, [1, 0])                                                        # second below first
+    yield removing(2, 2, [0, 1, 1, 0])
+    yield removing(2, 2, [0, 1, 0, 1])                                                  # two pairs would remain
+    yield removing(2, 3, [0, 1, 1, 0])                                                  # m < n: any list stays
+    yield removing(3, 4, [1, 2, 2, 0, 0, 1])
+    yield removing(4, 4, [0, 1, 1, 2, 2, 3])
+    yield removing(4, 4, [0, 1, 1, 2, 3, 2])
+    yield removing(4, 3, [2, 3])
+    yield removing(4, 3, [3, 2])                                                        # it ends with the column's number
+    yield removing(4, 3, [2, 3, 0, 1])                                                  # not the last pair
+    yield removing(4, 3, [2, 3, 2, 3])
+    yield removing(4, 3, [0, 1, 1, 2, 2, 3])
+    yield removing(4, 3, [0, 1, 1, 2, 1, 3])                                            # three would remain
+    yield removing(4, 3, [0, 1, 2, 1, 2, 3])
+    yield removing(4, 3, [0, 1, 2, 1])
+    yield removing(5, 3, [2, 4])
+    beyond = removing(4, 3, [0, 1, 1, 2])
+    yield changed(beyond, 1, swap_store(0, 1, 1, 2, 2, 3, 9))                           # behind the last pair: not read, stays
+    yield changed(removing(4, 3, []), 1, swap_store(2, 3))
+    yield changed(removing(4, 3, [0, 1, 2, 3]), 1, swap_store(0, 1, 2, 3, 2, 3, 9))
+    each = [x for i in range(63) for x in (i, 63)]
+    yield removing(64, 63, each)                                                        # 63 pairs, the last undone
+    yield removing(64, 64, each)                                                        # 63 pairs, all stay
+    yield removing(64, 64, each + [63, 0])
+    yield removing(64, 64, each + [0, 63])
+    yield removing(2, 64, [0, 1, 1, 0])
+    yield removing(1, 64, [])
+    yield removing(64, 1, [0, 63])
 
 
 # ---- one fault at a time
@@ -161,8 +216,10 @@ def faults_of(case):
                 yield changed(case, at, with_item(items, 0, 0.0))
                 yield changed(case, at, with_item(items, len(items) - 1, -0.0))
         if name == 'pairs':
+            full = changed(case, at - 1, array('Q', [0, 1] * 64))
             for count in COUNTS:
                 yield changed(case, at, pairs(count))
+                yield changed(full, at, pairs(count))       # good pairs, at most too many
         if name == 'swaps' and case.op != 1:
             for row in ROWS:
                 yield changed(case, at, with_item(items, 0, row))
@@ -192,14 +249,9 @@ def good(op):
         18: lambda: Case(18, 3, 0, 0, [*list_, array('Q', [5, 2])]),
         19: lambda: Case(19, 0, 3, 0, [doubles(2.0, -2.0, 5.0), array('Q', [7, 8, 9])]),
         21: lambda: writing(2, doubles(4.0, -0.0, 2.0 ** -1074, -8.0), doubles(5.0, 0.1), 57),
+        22: lambda: Case(22, 4, 3, 0, [tall, swap_store(0, 1, 2, 3), pairs(2)]),
         24: lambda: Case(24, 0, 3, 2, [matrix, doubles(2.0), b, x]),
     }.get(op, lambda: Case(op, 0, 3, 2, [matrix, b, x]) if op < 14 else Case(op, 4, 3, 0, [*list_, tall]))()
-
-
-def crowded():
-    """One good pair more than min(m, n), in each call on factors."""
-    for op in range(3, 9):
-        yield changed(changed(good(op), 1, swap_store(0, 1, 1, 2, 0, 2, 0, 1)), 2, pairs(4))
 
 
 def writing(n, matrix, readings, room):
@@ -254,7 +306,7 @@ def files():
 
 
 def largest():
-    """63 and 64: whole for the square calls, adding and permuting rows, thin for the others; lists of 62, 63 and 64 pairs."""
+    """63 and 64: whole for the square calls, adding, removing and permuting rows, thin for the others; lists of 62, 63 and 64 pairs."""
     for op, make in MAKERS.items():
         r = random.Random(f'largest {op}')
         if op in SQUARE:
@@ -263,7 +315,7 @@ def largest():
             if op in (3, 12):
                 yield make(r, op, 63, 2)
         else:
-            if op in (2, 14):       # the table has factoring's
+            if op in (2, 14, 22):       # the table has factoring's
                 yield make(r, op, 64, 64)
             for m, n in ((64, 0), (63, 1), (1, 64), (2, 63)):
                 yield make(r, op, m, n)
@@ -283,7 +335,7 @@ def fixed():
     """All of them, as generators: makers ask the oracle."""
     for _, case, _ in table():
         yield done(case)
-    for case in (*added(), *given(), *crowded()):
+    for case in (*added(), *given(), *removed()):
         yield done(case)
     for op in OPS:
         if op == 20:

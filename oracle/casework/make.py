@@ -10,7 +10,7 @@ from .wire import Case, FLOATS, LONGEST, OPS, unhex
 
 # how often each op comes in a round
 TURNS = {1: 3, 2: 3, 3: 3, 4: 2, 5: 1, 6: 1, 7: 3, 8: 3, 9: 2, 10: 2, 11: 2, 12: 3, 13: 3,
-         14: 3, 15: 3, 16: 3, 17: 3, 18: 2, 19: 1, 20: 2, 21: 2, 24: 2}
+         14: 3, 15: 3, 16: 3, 17: 3, 18: 2, 19: 1, 20: 2, 21: 2, 22: 3, 24: 2}
 ROUND = [(op, turn) for turn in range(max(TURNS.values())) for op in TURNS if turn < TURNS[op]]
 
 JUNK = [0, 1, 63, 64, 65, 255, 2 ** 32, 2 ** 63, 2 ** 64 - 1]
@@ -175,10 +175,31 @@ def make_write(r, op, n, k):
     yield
 
 
+def make_remove(r, op, m, n):
+    n = min(n + 1, MOST)
+    whole = floats.matrix(r, m, n)
+    if r.random() < 0.6:
+        made = yield from factored(m, n, whole)
+        if made:
+            factors, pairs = made
+            return Case(op, m, n, 0, [factors, *list_slices(r, pairs)], fresh=whole)
+    return Case(op, m, n, 0, [whole, *list_slices(r, pairs_to_remove_from(r, m, n))])
+
+
+def pairs_to_remove_from(r, m, n):
+    """A list that removing takes; most often its last pair, of the last column and a row below it, goes."""
+    pairs = good_pairs(r, m, min(m, n - 1))
+    if pairs and pairs[-1][0] == n - 1 > pairs[-1][1]:
+        pairs[-1] = pairs[-1][::-1]
+    if n < m and r.random() < 0.6:
+        pairs.append((n - 1, r.randrange(n, m)))
+    return pairs
+
+
 MAKERS = {1: make_factor, 2: make_add, 3: make_solve, 4: make_square, 5: make_square, 6: make_square, 7: make_l_or_u, 8: make_l_or_u,
           9: make_triangular, 10: make_triangular, 11: make_triangular, 12: make_triangular, 13: make_triangular,
           14: make_permute, 15: make_permute, 16: make_permute, 17: make_permute, 18: make_append, 19: make_rank, 20: make_file,
-          21: make_write, 24: make_triangular}
+          21: make_write, 22: make_remove, 24: make_triangular}
 SQUARE = (3, 4, 5, 6, 9, 10, 11, 12, 13, 19, 20, 21, 24)      # ops whose two sizes are the matrix's and the right-hand columns'
 
 
@@ -246,6 +267,22 @@ def zero_fault(r, c):
         items[i % len(items)] = r.choice((0.0, -0.0))
 
 
+def remove_fault(r, c):
+    """A last pair of the last column with a row above it, or one pair more than may remain."""
+    swaps, pairs = c.part('swaps'), c.part('pairs')
+    if not 2 <= c.n <= c.m <= MOST or len(swaps) != STORE:
+        return
+    last = c.n - 1
+    if r.random() < 0.5:
+        pairs[0] = max(1, min(pairs[0], c.n))
+        swaps[2 * pairs[0] - 2:2 * pairs[0]] = array('Q', [last, r.randrange(last)])
+    else:
+        pairs[0] = c.n
+        swaps[:2 * c.n] = array('Q', [x for _ in range(c.n) for x in r.sample(range(c.m), 2)])
+        if swaps[2 * last] == last:
+            swaps[2 * last:2 * c.n] = array('Q', [swaps[2 * last + 1], last])
+
+
 def append_fault(r, c):
     two, pairs = c.part('two numbers'), c.part('pairs')
     how = r.randrange(3)
@@ -268,6 +305,8 @@ def faults_of(op):
         kinds.append(zero_fault)
     if op == 18:
         kinds += [append_fault] * 3
+    if op == 22:
+        kinds += [remove_fault] * 2
     return kinds
 
 

@@ -1,13 +1,13 @@
 #!/usr/bin/env python3
-"""A second replay program, for the self-test alone: document 01 and the replay format once more, in plain Python, sharing nothing with the
-modules beside it and asking no oracle. It reads a list on standard input and prints the lines.
+"""A second replay program, for the self-test alone: document 01, document 02's requests and the replay format once more, in plain Python,
+sharing nothing with the modules beside it and asking no oracle. It reads a list on standard input and prints the lines.
 
 Matrices are lists of rows here. Every operation is one Python operation on floats, so one rounding to binary64."""
 import struct
 import sys
 
 TAKES = {1: 'FFW', 2: 'FFWW', 3: 'FWWFF', 4: 'FWWF', 5: 'FWW', 6: 'FWW', 7: 'FWWF', 8: 'FWWF', 9: 'FFF', 10: 'FFF', 11: 'FFFF', 12: 'FFF',
-         13: 'FFF', 14: 'WWF', 15: 'WWF', 16: 'WWF', 17: 'WWF', 18: 'WWW', 19: 'FW', 20: 'W', 21: 'FFW', 24: 'FFFF'}
+         13: 'FFF', 14: 'WWF', 15: 'WWF', 16: 'WWF', 17: 'WWF', 18: 'WWW', 19: 'FW', 20: 'W', 21: 'FFW', 22: 'FWW', 24: 'FFFF'}
 
 
 class Refused(Exception):
@@ -450,6 +450,22 @@ def write_left(number, m, n, k, matrix, readings, items):
     return '-', struct.pack(f'<{len(items)}Q', *items)[:k].hex()
 
 
+def remove(m, n, k, store, swaps, count):
+    size(m, 1), size(n, 1)
+    length(store, m * n), length(swaps, 128)
+    pairs = swap_list(swaps, count[0], m, min(m, n))
+    undone = [pair for pair in pairs[-1:] if pair[0] == n - 1]
+    left = len(pairs) - len(undone)
+    refuse(4, left > min(m, n - 1))
+    for i, j in undone:
+        refuse(4, j < i)
+    numbers(store)
+    older = rows_of(m, n - 1, store)
+    swap(older, undone)
+    after = [0 if 2 * left <= at < 2 * len(pairs) else x for at, x in enumerate(swaps)]
+    return [left], flat_of(m, n - 1, older) + [0.0] * m, after
+
+
 def last_left(number, *case):
     """The lent result is the last slice: +0.0 after an overflow, else as it was."""
     return [0.0] * len(case[-1]) if number == 7 else case[-1],
@@ -464,6 +480,7 @@ CALLS = {
     16: (permute(True, False), last_left), 17: (permute(True, True), last_left),
     18: (append, lambda number, m, n, k, swaps, count, two: (count, swaps)), 19: (rank, last_left),
     20: (panel_file, lambda number, *case: (f'refused {number}\n',)), 21: (write_file, write_left),
+    22: (remove, lambda number, m, n, k, store, swaps, count: (count, store, swaps)),
     24: (given_diagonal(corrected), last_left),
 }
 

@@ -1,6 +1,7 @@
-"""The line that each case must give: document 01's refusals in their order, and the oracle's numbers for what is accepted.
+"""The line that each case must give: the refusals of document 01 and of document 02's requests in their order, and the oracle's numbers
+for what is accepted.
 
-A call has three parts here. Its tests give pairs (number, does it hold), in document 01's order; the first that holds
+A call has three parts here. Its tests give pairs (number, does it hold), in the documents' order; the first that holds
 is the refusal. `left` gives the parts of the line when a test refuses. `made` is a generator that asks the oracle (it
 yields a request and is sent the oracle's line) and returns the refusal number, 0 or 7, with the parts."""
 import math
@@ -352,6 +353,56 @@ def write_made(c):
     yield       # a generator that asks nothing
 
 
+# ---- 22: removing the last column (document 02, request 2)
+
+def undoes(c):
+    """The last pair begins with the last column's number."""
+    _, swaps, (pairs,) = c.slices
+    return pairs > 0 and swaps[2 * pairs - 2] == c.n - 1
+
+
+def remove_tests(c):
+    store, swaps, (pairs,) = c.slices
+    yield 1, outside(1, c.m) or outside(1, c.n)
+    yield 3, len(store) != c.m * c.n or len(swaps) != STORE
+    yield 4, bad_list(swaps, pairs, c.m, min(c.m, c.n))
+    yield 4, pairs - undoes(c) > min(c.m, c.n - 1)
+    yield 4, undoes(c) and swaps[2 * pairs - 1] < swaps[2 * pairs - 2]
+    yield 5, not_finite(store)
+
+
+def remove_left(c):
+    store, swaps, pairs = c.slices
+    return [words(pairs), hexes(store), words(swaps)]
+
+
+def remove_made(c):
+    """Where the whole matrix is known, the oracle factors the columns that remain afresh; else the two rows are swapped back here."""
+    _, swaps, (old,) = c.slices
+    if c.fresh is None:
+        count, older = removed(c)
+    else:
+        count, text, list_ = (yield request_factoring(c.m, c.n - 1, c.fresh[:c.m * (c.n - 1)])).split(' | ')
+        count, older = int(count), unhex(text)
+        assert [int(w) for w in list_.split()] == list(swaps[:2 * count]), 'the pairs that remain are not those of the columns that remain'
+    swaps = swaps[:]
+    swaps[2 * count:2 * old] = array('Q', [0] * (2 * (old - count)))
+    return 0, [str(count), hexes(older + array('d', bytes(8 * c.m))), words(swaps)]
+
+
+def removed(c):
+    """The count of pairs and the older columns, on any factors."""
+    store, swaps, (pairs,) = c.slices
+    m, n = c.m, c.n - 1
+    older = store[:m * n]
+    if not undoes(c):
+        return pairs, older
+    row = swaps[2 * pairs - 1]
+    for start in range(0, m * n, m):
+        older[start + n], older[start + row] = older[start + row], older[start + n]
+    return pairs - 1, older
+
+
 # ---- all calls
 
 RULES = {
@@ -369,6 +420,7 @@ RULES = {
     19: (rank_tests, rank_left, rank_made),
     20: (file_tests, None, file_made),
     21: (write_tests, write_left, write_made),
+    22: (remove_tests, remove_left, remove_made),
     24: (triangular_tests, result_left, corrected_made),
 }
 

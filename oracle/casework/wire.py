@@ -45,13 +45,14 @@ OPS = {
     19: Op('rank', 'n', 'loads', 'ranks0'),
     20: Op('panel file', 'k', 'file'),
     21: Op('write a panel file', 'nk', 'matrix', 'readings', 'lent bytes'),
+    22: Op('remove the last column', 'mn', 'store', 'swaps', 'pairs'),
     24: Op('solve lower with the given diagonal, corrected', 'nk', 'matrix', 'diagonal', 'right-hand sides', 'x0'),
 }
 
 
 class Case:
     """One case: slices are arrays of doubles or of 64-bit numbers, a panel file's or lent bytes as bytes.
-    `fresh` (adding a column only) is the whole matrix that the factors and the column came from, where they did."""
+    `fresh` (adding and removing a column only) is the whole matrix that the factors, and the column to add, came from, where they did."""
     __slots__ = ('op', 'm', 'n', 'k', 'slices', 'fresh')
 
     def __init__(self, op, m, n, k, slices, fresh=None):

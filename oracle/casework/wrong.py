@@ -88,6 +88,19 @@ WRONG = [
     ('tests the numbers to write before the slice', "    refuse(3, k < count)\n    numbers(matrix), numbers(readings)\n",
      "    numbers(matrix), numbers(readings)\n    refuse(3, k < count)\n"),
     ('clears what follows the written file', '    return [count], data.hex()', '    data[count:] = bytes(len(data) - count)\n    return [count], data.hex()'),
+    ('leaves the rows swapped when removing', '    swap(older, undone)\n', ''),
+    ('undoes any last pair when removing', 'undone = [pair for pair in pairs[-1:] if pair[0] == n - 1]', 'undone = pairs[-1:]'),
+    ("undoes any pair of the column's when removing", 'for pair in pairs[-1:] if pair[0] == n - 1', 'for pair in pairs if pair[0] == n - 1'),
+    ('undoes a pair that ends with the column when removing', 'if pair[0] == n - 1]', 'if n - 1 in pair]'),
+    ('leaves the pair in the store when removing', '0 if 2 * left <= at < 2 * len(pairs) else x', 'x'),
+    ('clears what follows the last pair when removing', '0 if 2 * left <= at < 2 * len(pairs) else x', '0 if 2 * left <= at else x'),
+    ('leaves the slot when removing', 'flat_of(m, n - 1, older) + [0.0] * m, after', 'flat_of(m, n - 1, older) + store[m * (n - 1):], after'),
+    ('lets too many pairs remain', '    refuse(4, left > min(m, n - 1))\n', ''),
+    ('counts the pair that goes among those that remain', 'refuse(4, left > min(m, n - 1))', 'refuse(4, len(pairs) > min(m, n - 1))'),
+    ('undoes a pair with its second number below', '        refuse(4, j < i)\n', '        pass\n'),
+    ('does not test the column that it removes', '    numbers(store)\n    older', '    numbers(store[:m * n - m])\n    older'),
+    ('takes no columns when removing', 'size(m, 1), size(n, 1)\n    length(store, m * n), length(swaps, 128)',
+     'size(m, 1), size(n, 0)\n    length(store, m * n), length(swaps, 128)'),
 ]
 
 # one rounding of the exact product and sum
