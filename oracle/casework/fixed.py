@@ -32,12 +32,16 @@ def factoring(m, n, *numbers):
     return Case(1, m, n, 0, [doubles(*numbers), spare(m * n), swap_store(9)])
 
 
-def factored(count, rows, *numbers):
-    return line(0, [str(count), hexes(doubles(*numbers)), words(swap_store(*rows))])
+def factored(count, rows, *numbers, toss_ups=0):
+    return line(0, [str(count), hexes(doubles(*numbers)), words(swap_store(*rows)), str(toss_ups)])
 
 
 def overflowed(m, n):
-    return line(7, ['0', hexes(doubles(*[0.0] * m * n)), words(swap_store())])
+    return line(7, ['0', hexes(doubles(*[0.0] * m * n)), words(swap_store()), '0'])
+
+
+def size_refused(count):
+    return line(1, ['0', hexes(spare(count)), words(swap_store(9)), '0'])
 
 
 def table():
@@ -55,8 +59,8 @@ def table():
         ('1 by 1: 2^-1024', factoring(1, 1, 2.0 ** -1024), factored(0, [], 2.0 ** -1024)),
         ('2 by 1: (2^-1024, 0)', factoring(2, 1, 2.0 ** -1024, 0.0), overflowed(2, 1)),
         ('2 by 1: (2^-1023, 0)', factoring(2, 1, 2.0 ** -1023, 0.0), factored(0, [], 2.0 ** -1023, 0.0)),
-        ('2 by 1: (2, -2)', factoring(2, 1, 2.0, -2.0), factored(0, [], 2.0, -1.0)),
-        ('2 by 1: 1.75*2^1023 twice', factoring(2, 1, top, top), factored(0, [], top, 1.0 + 2.0 ** -51)),
+        ('2 by 1: (2, -2)', factoring(2, 1, 2.0, -2.0), factored(0, [], 2.0, -1.0, toss_ups=1)),
+        ('2 by 1: 1.75*2^1023 twice', factoring(2, 1, top, top), factored(0, [], top, 1.0 + 2.0 ** -51, toss_ups=1)),
         ('columns (0,0),(-1,-0.0), fresh', factoring(2, 2, 0.0, 0.0, -1.0, -0.0), factored(0, [], 0.0, 0.0, -1.0, -0.0)),
         ('columns (0,0),(-1,-0.0), added',
          Case(2, 2, 1, 0, [doubles(0.0, 0.0) + spare(2), doubles(-1.0, -0.0), *none], doubles(0.0, 0.0, -1.0, -0.0)),
@@ -78,10 +82,10 @@ def table():
          Case(24, 0, 2, 1, [doubles(5.0, 1.0, 5.0, 5.0), doubles(2.0), doubles(4.0, 6.0), spare(2)]),
          line(0, [hexes(doubles(2.0, 2.0))])),
         ('loads 1, -3, 3', Case(19, 0, 3, 0, [doubles(1.0, -3.0, 3.0), array('Q', [9, 9, 9])]), line(0, ['2 3 1'])),
-        ('0 rows', factoring(0, 1), line(1, ['0', '', words(swap_store(9))])),
-        ('0 rows, 0 columns', factoring(0, 0), line(1, ['0', '', words(swap_store(9))])),
-        ('65 rows', factoring(65, 1, *[1.0] * 65), line(1, ['0', hexes(spare(65)), words(swap_store(9))])),
-        ('65 columns', factoring(1, 65, *[1.0] * 65), line(1, ['0', hexes(spare(65)), words(swap_store(9))])),
+        ('0 rows', factoring(0, 1), size_refused(0)),
+        ('0 rows, 0 columns', factoring(0, 0), size_refused(0)),
+        ('65 rows', factoring(65, 1, *[1.0] * 65), size_refused(65)),
+        ('65 columns', factoring(1, 65, *[1.0] * 65), size_refused(65)),
         ('64 by 64', factoring(64, 64, *floats.unit(r, 4096)), '0 | '),
         ('3 by 0', factoring(3, 0), factored(0, [])),
         ('the panel file of the whole case', file_case(panel(2, doubles(0.0, 2.0, 1.0, 0.0, 5.0, 8.0))),
@@ -121,6 +125,45 @@ def given():
         yield Case(op, 0, 1, 1, [doubles(1.0), small, doubles(large), spare(1)])
         yield Case(op, 0, 2, 1, [matrix, small, doubles(1.0, large), spare(2)])
         yield Case(op, 0, 2, 1, [matrix, small, doubles(large, 1.0), spare(2)])
+
+
+# ---- toss-ups
+
+def searching(start, *numbers):
+    return Case(23, start, 0, 0, [doubles(*numbers)])
+
+
+def tossed():
+    tiny = 2.0 ** -1024
+    yield factoring(3, 1, 1.0, 3.0, -3.0)                                               # between two rows below
+    yield factoring(3, 1, 3.0, 1.0, -1.0)                                               # lesser ones: none
+    yield factoring(3, 1, 3.0, -3.0, 3.0)                                               # three rows: one step
+    yield factoring(3, 1, 0.0, -0.0, 0.0)                                               # zeros: none
+    yield factoring(3, 1, tiny, 0.0, -tiny)                                             # refused: 0
+    yield factoring(3, 2, 1.0, 0.0, 0.0, 5.0, 5.0, 1.0)                                 # with a row above: none
+    yield factoring(3, 2, 4.0, 2.0, 0.0, 4.0, 3.0, 3.0)                                 # before its step only: none
+    yield factoring(3, 2, 4.0, 2.0, 0.0, 2.0, 3.0, -2.0)                                # at its step only
+    yield factoring(3, 3, 1.0, 1.0, 1.0, 1.0, 2.0, 0.0, 7.0, 8.0, 9.0)                  # two steps
+    yield factoring(3, 3, *[1.0] * 9)                                                   # the first step alone
+    yield factoring(2, 4, 1.0, 0.0, 0.0, 1.0, 7.0, 7.0, 3.0, -3.0)                      # past the last row: none
+    yield factoring(64, 1, *[-1.0] * 64)
+    for n in (4, 64):                                                                   # every step but the last
+        yield factoring(n, n, *[(-1.0) ** bin(i & j).count('1') for i in range(n) for j in range(n)])
+    for column in ((2.0, -2.0), (0.0, -0.0), (tiny, tiny), (tiny, 1.0)):
+        yield adding(2, doubles(), doubles(*column))
+    for column in ((5.0, 1.0, -1.0), (1.0, 1.0, 0.5), (3.0, 0.0, 3.0), (9.0, 0.0, -0.0)):
+        yield adding(3, doubles(1.0, 0.0, 0.0), doubles(*column))
+        yield Case(2, 3, 1, 0, [doubles(1.0, 0.5, 0.0) + spare(3), doubles(*column), swap_store(0, 1), pairs(1)])
+    yield adding(2, doubles(1.0, 0.0), doubles(3.0, 3.0))                               # its own row alone is left
+    yield adding(2, doubles(1.0, 0.0, 0.0, 1.0), doubles(5.0, 5.0))
+    infinite, nan = floats.NOT_FINITE[0], floats.NOT_FINITE[2]
+    for numbers in ((), (1.0,), (0.0, -0.0), (2.0, -2.0), (-2.0, 1.0, 2.0), (1.0, -3.0, 3.0, 3.0), (3.0, 2.0, 2.0), (0.0, 1.0, -1.0),
+                    (nan,), (nan, nan), (nan, 1.0, 1.0), (1.0, nan, -1.0), (1.0, nan, 2.0), (0.0, nan), (-0.0, nan, 0.0),
+                    (infinite, -infinite), (1.0, -infinite, infinite), (infinite, nan), (tiny, -tiny), (5e-324, -5e-324, 0.0)):
+        for start in range(len(numbers) + 2):
+            yield searching(start, *numbers)
+    for start in (0, 1, LONGEST - 1):
+        yield searching(start, -2.0, *[1.0] * (LONGEST - 2), 2.0)
 
 
 # ---- removing: which pair goes, which list is too long, and what stays
@@ -250,6 +293,7 @@ def good(op):
         19: lambda: Case(19, 0, 3, 0, [doubles(2.0, -2.0, 5.0), array('Q', [7, 8, 9])]),
         21: lambda: writing(2, doubles(4.0, -0.0, 2.0 ** -1074, -8.0), doubles(5.0, 0.1), 57),
         22: lambda: Case(22, 4, 3, 0, [tall, swap_store(0, 1, 2, 3), pairs(2)]),
+        23: lambda: searching(1, 3.0, -2.0, 1.0, 2.0, 3.0),
         24: lambda: Case(24, 0, 3, 2, [matrix, doubles(2.0), b, x]),
     }.get(op, lambda: Case(op, 0, 3, 2, [matrix, b, x]) if op < 14 else Case(op, 4, 3, 0, [*list_, tall]))()
 
@@ -335,7 +379,7 @@ def fixed():
     """All of them, as generators: makers ask the oracle."""
     for _, case, _ in table():
         yield done(case)
-    for case in (*added(), *given(), *removed()):
+    for case in (*added(), *given(), *tossed(), *removed()):
         yield done(case)
     for op in OPS:
         if op == 20:

@@ -7,7 +7,7 @@ import struct
 import sys
 
 TAKES = {1: 'FFW', 2: 'FFWW', 3: 'FWWFF', 4: 'FWWF', 5: 'FWW', 6: 'FWW', 7: 'FWWF', 8: 'FWWF', 9: 'FFF', 10: 'FFF', 11: 'FFFF', 12: 'FFF',
-         13: 'FFF', 14: 'WWF', 15: 'WWF', 16: 'WWF', 17: 'WWF', 18: 'WWW', 19: 'FW', 20: 'W', 21: 'FFW', 22: 'FWW', 24: 'FFFF'}
+         13: 'FFF', 14: 'WWF', 15: 'WWF', 16: 'WWF', 17: 'WWF', 18: 'WWW', 19: 'FW', 20: 'W', 21: 'FFW', 22: 'FWW', 23: 'F', 24: 'FFFF'}
 
 
 class Refused(Exception):
@@ -104,18 +104,34 @@ def swap(rows, pairs):
 
 # ---- elimination: document 01, steps 1 to 5
 
-def pivot_row(a, i):
+def magnitude(x):
+    return -x if x < 0.0 else x
+
+
+def pivot_row(column, i):
     best = i
-    for r in range(i + 1, len(a)):
-        if abs(a[best][i]) < abs(a[r][i]):
+    for r in range(i + 1, len(column)):
+        if magnitude(column[best]) < magnitude(column[r]):
             best = r
     return best
 
 
+def toss_up(column, i, best):
+    """Another row at or below i has the pivot's magnitude, this not being zero."""
+    if best < len(column) and column[best] != 0.0:
+        for r in range(i, len(column)):
+            if r != best and magnitude(column[r]) == magnitude(column[best]):
+                return 1
+    return 0
+
+
 def eliminate(m, n, a):
-    pairs = []
+    """Gives the pairs and the number of toss-ups."""
+    pairs, tosses = [], 0
     for i in range(min(m, n)):
-        p = pivot_row(a, i)
+        column = [row[i] for row in a]
+        p = pivot_row(column, i)
+        tosses += toss_up(column, i, p)
         if a[p][i] == 0.0:
             continue
         if p != i:
@@ -126,12 +142,12 @@ def eliminate(m, n, a):
         for r in range(i + 1, m):
             for j in range(i + 1, n):
                 a[r][j] = (-a[i][j]) * a[r][i] + a[r][j]
-    return pairs
+    return pairs, tosses
 
 
 def add_column(m, n, a, pairs, column):
-    """The rows of a get one entry more; gives the new pairs."""
-    new = list(column)
+    """The rows of a get one entry more; gives the new pairs and the number of toss-ups."""
+    new, tosses = list(column), 0
     swap(new, pairs)
     for i in range(min(m, n)):
         if a[i][i] == 0.0:
@@ -141,14 +157,15 @@ def add_column(m, n, a, pairs, column):
     for r in range(m):
         a[r].append(new[r])
     if n < m:
-        p = pivot_row(a, n)
+        p = pivot_row(new, n)
+        tosses = toss_up(new, n, p)
         if a[p][n] != 0.0:
             if p != n:
                 pairs = pairs + [(n, p)]
                 a[n], a[p] = a[p], a[n]
             for r in range(n + 1, m):
                 a[r][n] *= 1.0 / a[n][n]
-    return pairs
+    return pairs, tosses
 
 
 # ---- solves of one right-hand column
@@ -219,17 +236,17 @@ def factor(m, n, k, matrix, out0, swaps):
     length(matrix, m * n), length(out0, m * n), length(swaps, 128)
     numbers(matrix)
     a = rows_of(m, n, matrix)
-    pairs = eliminate(m, n, a)
+    pairs, tosses = eliminate(m, n, a)
     made = flat_of(m, n, a)
     overflow(made)
     used = [x for p in pairs for x in p]
-    return [len(pairs)], made, used + [0] * (128 - len(used))
+    return [len(pairs)], made, used + [0] * (128 - len(used)), [tosses]
 
 
 def factor_left(number, m, n, k, matrix, out0, swaps):
     if number == 7:
-        return [0], [0.0] * len(out0), [0] * 128
-    return [0], out0, swaps
+        return [0], [0.0] * len(out0), [0] * 128, [0]
+    return [0], out0, swaps, [0]
 
 
 def add(m, n, k, store, column, swaps, count):
@@ -238,19 +255,19 @@ def add(m, n, k, store, column, swaps, count):
     pairs = swap_list(swaps, count[0], m, min(m, n))
     numbers(store[:m * n]), numbers(column)
     a = rows_of(m, n, store)
-    pairs = add_column(m, n, a, pairs, column)
+    pairs, tosses = add_column(m, n, a, pairs, column)
     made = flat_of(m, n + 1, a)
     overflow(made)
     after = list(swaps)
     for p, pair in enumerate(pairs):
         after[2 * p:2 * p + 2] = pair
-    return [len(pairs)], made, after
+    return [len(pairs)], made, after, [tosses]
 
 
 def add_left(number, m, n, k, store, column, swaps, count):
     if number == 7:
         store = store[:m * n] + [0.0] * m
-    return count, store, swaps
+    return count, store, swaps, [0]
 
 
 def factors(m, n, flat, swaps, count, square, *others):
@@ -422,7 +439,7 @@ def panel_file(m, n, k, items):
     values = [x for x, in struct.iter_unpack('<d', data[6:])]
     numbers(values)
     t = rows_of(pads, pads, values)
-    pairs = eliminate(pads, pads, t)
+    pairs, _ = eliminate(pads, pads, t)
     overflow(flat_of(pads, pads, t))
     zero_diagonal(pads, t)
     loads = values[pads * pads:]
@@ -466,6 +483,11 @@ def remove(m, n, k, store, swaps, count):
     return [left], flat_of(m, n - 1, older) + [0.0] * m, after
 
 
+def search(m, n, k, column):
+    row = pivot_row(column, m)
+    return [row], [toss_up(column, m, row)]
+
+
 def last_left(number, *case):
     """The lent result is the last slice: +0.0 after an overflow, else as it was."""
     return [0.0] * len(case[-1]) if number == 7 else case[-1],
@@ -481,7 +503,7 @@ CALLS = {
     18: (append, lambda number, m, n, k, swaps, count, two: (count, swaps)), 19: (rank, last_left),
     20: (panel_file, lambda number, *case: (f'refused {number}\n',)), 21: (write_file, write_left),
     22: (remove, lambda number, m, n, k, store, swaps, count: (count, store, swaps)),
-    24: (given_diagonal(corrected), last_left),
+    23: (search, None), 24: (given_diagonal(corrected), last_left),
 }
 
 

@@ -56,6 +56,31 @@ def numbers_or_seven(text, items):
     return (0, [text]) if finite(text) else (7, [zeros(items)])
 
 
+# ---- 23: the pivot search and its toss-ups (document 02, request 3); 1 and 2 pass their number on
+
+def greatest(column, start):
+    """The first row at or below the start with the greatest magnitude. What cannot be compared is passed over, unless it stands at
+    the start, which then stays; a start past the end is the row itself."""
+    row = start
+    for r in range(start + 1, len(column)):
+        if abs(column[r]) > abs(column[row]):
+            row = r
+    return row
+
+
+def is_toss_up(column, start, row):
+    """1 where the entry of the row found is not zero and some other one at or below the start has its magnitude, else 0."""
+    if row >= len(column) or column[row] == 0.0:
+        return 0
+    return int(sum(abs(x) == abs(column[row]) for x in column[start:]) > 1)
+
+
+def search_made(c):
+    row = greatest(c.slices[0], c.m)
+    return 0, [str(row), str(is_toss_up(c.slices[0], c.m, row))]
+    yield
+
+
 # ---- 1 and 2: factoring, adding a column
 
 def request_factoring(m, n, matrix):
@@ -70,16 +95,28 @@ def factor_tests(c):
 
 
 def factor_left(c):
-    return ['0', hexes(c.slices[1]), words(c.slices[2])]
+    return ['0', hexes(c.slices[1]), words(c.slices[2]), '0']
 
 
 def factor_made(c):
     matrix, _, _ = c.slices
     pairs, factors, swaps = (yield request_factoring(c.m, c.n, matrix)).split(' | ')
     if not finite(factors):
-        return 7, ['0', zeros(matrix), words([0] * STORE)]
+        return 7, ['0', zeros(matrix), words([0] * STORE), '0']
+    built, toss_ups = built_up(c.m, c.n, matrix)
+    assert built == factors, 'building up in Python gives other factors than the crate'
     store = swaps.split() + ['0'] * (STORE - 2 * int(pairs))
-    return 0, [pairs, factors, ' '.join(store)]
+    return 0, [pairs, factors, ' '.join(store), str(toss_ups)]
+
+
+def built_up(m, n, matrix):
+    """Column after column, from none: the factors as text, and at how many columns the pivot was a toss-up."""
+    older, list_, toss_ups = array('d'), [], 0
+    for j in range(n):
+        older, pair, toss_up = added(m, j, older, matrix[j * m:j * m + m], list_)
+        list_ += pair
+        toss_ups += toss_up
+    return hexes(older), toss_ups
 
 
 def add_tests(c):
@@ -92,44 +129,39 @@ def add_tests(c):
 
 def add_left(c):
     store, _, swaps, pairs = c.slices
-    return [words(pairs), hexes(store), words(swaps)]
+    return [words(pairs), hexes(store), words(swaps), '0']
 
 
 def add_made(c):
-    """Where the whole matrix is known, the oracle factors it afresh; else document 01's steps are run here."""
-    store, _, swaps, (old,) = c.slices
-    if c.fresh is None:
-        count, text, pair = added(c)
-    else:
-        count, text, list_ = (yield request_factoring(c.m, c.n + 1, c.fresh)).split(' | ')
-        count, pair = int(count), [int(w) for w in list_.split()[2 * old:]]
+    """Document 01's steps are run here; where the whole matrix is known, the oracle factors it afresh, and its numbers are taken."""
+    store, column, swaps, (old,) = c.slices
+    made, pair, toss_up = added(c.m, c.n, store[:c.m * c.n], column, swaps[:2 * old])
+    text = hexes(made)
+    if c.fresh is not None:
+        _, text, list_ = (yield request_factoring(c.m, c.n + 1, c.fresh)).split(' | ')
+        pair = [int(w) for w in list_.split()[2 * old:]]
     if not finite(text):
-        return 7, [str(old), hexes(store[:c.m * c.n] + array('d', bytes(8 * c.m))), words(swaps)]
+        return 7, [str(old), hexes(store[:c.m * c.n] + array('d', bytes(8 * c.m))), words(swaps), '0']
     swaps = swaps[:]
-    swaps[2 * old:2 * count] = array('Q', pair)
-    return 0, [str(count), text, words(swaps)]
+    swaps[2 * old:2 * old + len(pair)] = array('Q', pair)
+    return 0, [str(old + len(pair) // 2), text, words(swaps), str(toss_up)]
 
 
-def added(c):
-    """Document 01, "Adding a column", on any factors: the count of pairs, the store as text, and the new pair if there is one.
-    Python's floats are binary64 and each operation rounds once, so the bits are document 01's."""
-    store, column, swaps, (pairs,) = c.slices
-    m, n = c.m, c.n
+def added(m, n, store, column, list_):
+    """Document 01, "Adding a column", on any n columns of factors with any list: the columns, the new pair if there is one, and 1 where the
+    new column's pivot was a toss-up, else 0. Python's floats are binary64 and each operation rounds once, so the bits are document 01's."""
     col = list(column)
-    for p in range(pairs):
-        i, j = swaps[2 * p], swaps[2 * p + 1]
+    for i, j in zip(list_[::2], list_[1::2]):
         col[i], col[j] = col[j], col[i]
     for i in range(min(m, n)):
         if store[i * m + i] != 0.0:
             for r in range(i + 1, m):
                 col[r] = -col[i] * store[i * m + r] + col[r]
-    older = store[:m * n]
-    new_pair = []
+    older = store[:]
+    new_pair, toss_up = [], 0
     if n < m:
-        pivot = n
-        for r in range(n + 1, m):
-            if abs(col[r]) > abs(col[pivot]):
-                pivot = r
+        pivot = greatest(col, n)
+        toss_up = is_toss_up(col, n, pivot)
         if col[pivot] != 0.0:
             if pivot != n:
                 new_pair = [n, pivot]
@@ -141,7 +173,7 @@ def added(c):
                 reciprocal = 1.0 / col[n]
                 for r in range(n + 1, m):
                     col[r] = col[r] * reciprocal
-    return pairs + len(new_pair) // 2, hexes(older + array('d', col)), new_pair
+    return older + array('d', col), new_pair, toss_up
 
 
 # ---- 3 to 8: calls on factors
@@ -421,6 +453,7 @@ RULES = {
     20: (file_tests, None, file_made),
     21: (write_tests, write_left, write_made),
     22: (remove_tests, remove_left, remove_made),
+    23: (lambda c: [], None, search_made),
     24: (triangular_tests, result_left, corrected_made),
 }
 

@@ -46,6 +46,7 @@ OPS = {
     20: Op('panel file', 'k', 'file'),
     21: Op('write a panel file', 'nk', 'matrix', 'readings', 'lent bytes'),
     22: Op('remove the last column', 'mn', 'store', 'swaps', 'pairs'),
+    23: Op('pivot search', 'm', 'column'),
     24: Op('solve lower with the given diagonal, corrected', 'nk', 'matrix', 'diagonal', 'right-hand sides', 'x0'),
 }
 
