@@ -220,6 +220,31 @@ def removed():
     yield removing(64, 1, [0, 63])
 
 
+# ---- the transposed solve: which reading moves which pad
+
+def transposing(n, k, factors, list_, b):
+    return Case(25, n, n, k, [factors, swap_store(*list_), pairs(len(list_) // 2), b, spare(n * k)])
+
+
+def transposed():
+    packed = doubles(2.0, 0.0, 0.0, 1.0)
+    one, identity = doubles(1.0, 0.0, 0.0, 1.0), doubles(1.0, 0.0, 0.0, 0.0, 1.0, 0.0, 0.0, 0.0, 1.0)
+    most = 1.75 * 2.0 ** 1023
+    yield transposing(2, 2, packed, [0, 1], one)                                        # the table's first matrix, both unit columns
+    yield transposing(3, 1, identity, [0, 1, 1, 2], doubles(1.0, 2.0, 3.0))             # the list in reverse: not as in order
+    yield transposing(3, 2, identity, [0, 2, 1, 2, 0, 1], doubles(1.0, 2.0, 3.0, -4.0, 5.0, -6.0))
+    yield transposing(2, 1, doubles(4.0, 0.5, 8.0, 16.0), [], doubles(4.0, 8.0))        # ones for the diagonal in the second pass
+    yield transposing(2, 1, doubles(1.0, 3.0, 1.0, 1.0), [0, 1], doubles(-0.0, -0.0))
+    yield transposing(1, 1, doubles(2.0 ** -1000), [], doubles(2.0 ** 100))             # overflow in the first pass
+    yield transposing(2, 1, doubles(1.0, most, 0.0, 1.0), [0, 1], doubles(0.0, 2.0))    # in the second
+    yield transposing(2, 1, doubles(1.0, most, 0.0, 1.0), [0, 1], doubles(2.0, 0.0))    # just not
+    yield transposing(2, 2, doubles(1.0, most, 0.0, 1.0), [0, 1], doubles(0.0, 1.0, 0.0, 2.0))           # in one column of two
+    yield transposing(2, 1, doubles(1.0, 0.0, most, 1.0), [], doubles(2.0, 0.0))        # an infinity, then a zero times it
+    for n in (9, 10, 12, 16, 17, 18, 25, 33):                                           # the order of the sums
+        r = random.Random(f'sums of {n}')
+        yield transposing(n, 2, floats.without_zero_diagonal(r, n, floats.unit(r, n * n)), [0, 1, n - 1, 0], floats.unit(r, 2 * n))
+
+
 # ---- one fault at a time
 
 SIZES = (0, 65, 2 ** 63, 2 ** 64 - 1)
@@ -295,6 +320,7 @@ def good(op):
         22: lambda: Case(22, 4, 3, 0, [tall, swap_store(0, 1, 2, 3), pairs(2)]),
         23: lambda: searching(1, 3.0, -2.0, 1.0, 2.0, 3.0),
         24: lambda: Case(24, 0, 3, 2, [matrix, doubles(2.0), b, x]),
+        25: lambda: Case(25, 3, 3, 2, [matrix, *list_, b, x]),
     }.get(op, lambda: Case(op, 0, 3, 2, [matrix, b, x]) if op < 14 else Case(op, 4, 3, 0, [*list_, tall]))()
 
 
@@ -356,7 +382,7 @@ def largest():
         if op in SQUARE:
             if op not in (20, 21):
                 yield make(r, op, 64, 1)
-            if op in (3, 12):
+            if op in (3, 12, 25):
                 yield make(r, op, 63, 2)
         else:
             if op in (2, 14, 22):       # the table has factoring's
@@ -379,7 +405,7 @@ def fixed():
     """All of them, as generators: makers ask the oracle."""
     for _, case, _ in table():
         yield done(case)
-    for case in (*added(), *given(), *tossed(), *removed()):
+    for case in (*added(), *given(), *tossed(), *removed(), *transposed()):
         yield done(case)
     for op in OPS:
         if op == 20:

@@ -10,7 +10,7 @@ from .wire import Case, FLOATS, LONGEST, OPS, unhex
 
 # how often each op comes in a round
 TURNS = {1: 3, 2: 3, 3: 3, 4: 2, 5: 1, 6: 1, 7: 3, 8: 3, 9: 2, 10: 2, 11: 2, 12: 3, 13: 3,
-         14: 3, 15: 3, 16: 3, 17: 3, 18: 2, 19: 1, 20: 2, 21: 2, 22: 3, 23: 2, 24: 2}
+         14: 3, 15: 3, 16: 3, 17: 3, 18: 2, 19: 1, 20: 2, 21: 2, 22: 3, 23: 2, 24: 2, 25: 3}
 ROUND = [(op, turn) for turn in range(max(TURNS.values())) for op in TURNS if turn < TURNS[op]]
 
 JUNK = [0, 1, 63, 64, 65, 255, 2 ** 32, 2 ** 63, 2 ** 64 - 1]
@@ -210,8 +210,8 @@ def make_search(r, op, m, n):
 MAKERS = {1: make_factor, 2: make_add, 3: make_solve, 4: make_square, 5: make_square, 6: make_square, 7: make_l_or_u, 8: make_l_or_u,
           9: make_triangular, 10: make_triangular, 11: make_triangular, 12: make_triangular, 13: make_triangular,
           14: make_permute, 15: make_permute, 16: make_permute, 17: make_permute, 18: make_append, 19: make_rank, 20: make_file,
-          21: make_write, 22: make_remove, 23: make_search, 24: make_triangular}
-SQUARE = (3, 4, 5, 6, 9, 10, 11, 12, 13, 19, 20, 21, 24)      # ops whose two sizes are the matrix's and the right-hand columns'
+          21: make_write, 22: make_remove, 23: make_search, 24: make_triangular, 25: make_solve}
+SQUARE = (3, 4, 5, 6, 9, 10, 11, 12, 13, 19, 20, 21, 24, 25)      # ops whose two sizes are the matrix's and the right-hand columns'
 
 
 # ---- faults: each changes a good case in place; the rules say what the changed case gives
@@ -312,7 +312,7 @@ def faults_of(op):
         kinds += [list_fault, list_fault]
     if any(kind == FLOATS for _, kind in OPS[op].slices):
         kinds += [number_fault, number_fault]
-    if op in (3, 4, 5, 6, 9, 10, 11, 12, 13, 24):
+    if op in (3, 4, 5, 6, 9, 10, 11, 12, 13, 24, 25):
         kinds.append(zero_fault)
     if op == 18:
         kinds += [append_fault] * 3

@@ -7,7 +7,8 @@ import struct
 import sys
 
 TAKES = {1: 'FFW', 2: 'FFWW', 3: 'FWWFF', 4: 'FWWF', 5: 'FWW', 6: 'FWW', 7: 'FWWF', 8: 'FWWF', 9: 'FFF', 10: 'FFF', 11: 'FFFF', 12: 'FFF',
-         13: 'FFF', 14: 'WWF', 15: 'WWF', 16: 'WWF', 17: 'WWF', 18: 'WWW', 19: 'FW', 20: 'W', 21: 'FFW', 22: 'FWW', 23: 'F', 24: 'FFFF'}
+         13: 'FFF', 14: 'WWF', 15: 'WWF', 16: 'WWF', 17: 'WWF', 18: 'WWW', 19: 'FW', 20: 'W', 21: 'FFW', 22: 'FWW', 23: 'F', 24: 'FFFF',
+         25: 'FWWFF'}
 
 
 class Refused(Exception):
@@ -217,12 +218,24 @@ def transposed_upper(t, b):
         b[i] = (b[i] - dot([t[r][i] for r in range(i)], b[:i])) / t[i][i]
 
 
+def transposed_unit_lower(t, b):
+    for i in reversed(range(len(b))):
+        b[i] -= dot([row[i] for row in t[i + 1:]], b[i + 1:])
+
+
 def solved(n, t, pairs, b):
     """Factors t, right-hand columns b as a list of columns."""
     for column in b:
         swap(column, pairs)
         unit_lower(t, column)
         upper(t, column)
+
+
+def transposed_solved(n, t, pairs, b):
+    for column in b:
+        transposed_upper(t, column)
+        transposed_unit_lower(t, column)
+        swap(column, reversed(pairs))
 
 
 def columns_of(n, k, flat):
@@ -290,15 +303,17 @@ def zero_diagonal(n, t):
         refuse(6, t[i][i] == 0.0)
 
 
-def solve(m, n, k, flat, swaps, count, b, x0):
-    size(k, 1)
-    t, pairs = factors(m, n, flat, swaps, count, True, (b, m * k, True), (x0, m * k, False))
-    zero_diagonal(n, t)
-    x = columns_of(n, k, b)
-    solved(n, t, pairs, x)
-    made = sum(x, [])
-    overflow(made)
-    return made,
+def solving(run):
+    def call(m, n, k, flat, swaps, count, b, x0):
+        size(k, 1)
+        t, pairs = factors(m, n, flat, swaps, count, True, (b, m * k, True), (x0, m * k, False))
+        zero_diagonal(n, t)
+        x = columns_of(n, k, b)
+        run(n, t, pairs, x)
+        made = sum(x, [])
+        overflow(made)
+        return made,
+    return call
 
 
 def inverse(m, n, k, flat, swaps, count, x0):
@@ -494,7 +509,7 @@ def last_left(number, *case):
 
 
 CALLS = {
-    1: (factor, factor_left), 2: (add, add_left), 3: (solve, last_left), 4: (inverse, last_left),
+    1: (factor, factor_left), 2: (add, add_left), 3: (solving(solved), last_left), 4: (inverse, last_left),
     5: (determinant, lambda *case: ('-',)), 6: (invertible, lambda *case: ('-',)), 7: (l_of, last_left), 8: (u_of, last_left),
     9: (triangular(lower), last_left), 10: (triangular(upper), last_left), 11: (given_diagonal(unit_lower), last_left),
     12: (triangular(transposed_lower), last_left), 13: (triangular(transposed_upper), last_left),
@@ -503,7 +518,7 @@ CALLS = {
     18: (append, lambda number, m, n, k, swaps, count, two: (count, swaps)), 19: (rank, last_left),
     20: (panel_file, lambda number, *case: (f'refused {number}\n',)), 21: (write_file, write_left),
     22: (remove, lambda number, m, n, k, store, swaps, count: (count, store, swaps)),
-    23: (search, None), 24: (given_diagonal(corrected), last_left),
+    23: (search, None), 24: (given_diagonal(corrected), last_left), 25: (solving(transposed_solved), last_left),
 }
 
 

@@ -250,7 +250,9 @@ def triangular_tests(c):
 
 
 def for_crate(c):
-    """The case as the crate knows it: the corrected diagonal is not there, and its case is one of the crate's own given diagonal."""
+    """The case as the crate knows it: of the corrected diagonal its own given diagonal, of the transposed solve the first pass."""
+    if c.op == 25:
+        return first_pass(c.n, c.k, c.slices[0], c.slices[3])
     return encode(Case(11, c.m, c.n, c.k, c.slices) if c.op == 24 else c)
 
 
@@ -435,6 +437,34 @@ def removed(c):
     return pairs - 1, older
 
 
+# ---- 25: the transposed solve (document 02, request 5)
+
+def with_nans(text):
+    """The oracle's numbers, NaNs too."""
+    return unhex(text.replace('nan', '7ff8000000000000'))
+
+
+def first_pass(n, k, factors, b):
+    return encode(Case(13, 0, n, k, [factors, b, array('d')]))
+
+
+def transposed_solved(n, k, factors, swaps, pairs, b):
+    """Three requests: transposed upper; transposed lower with ones on the diagonal, by which the crate divides without changing a bit;
+    the rows permuted in reverse. Gives the last line, or `none` where the crate refuses the first."""
+    passed = yield first_pass(n, k, factors, b)
+    if passed == 'none':
+        return passed
+    unit = factors[:]
+    unit[::n + 1] = array('d', [1.0] * n)
+    passed = yield encode(Case(12, 0, n, k, [unit, with_nans(passed), array('d')]))
+    return (yield encode(Case(15, n, k, 0, [swaps, pairs, with_nans(passed)])))
+
+
+def transposed_made(c):
+    factors, swaps, pairs, b, x0 = c.slices
+    return numbers_or_seven((yield from transposed_solved(c.n, c.k, factors, swaps, pairs, b)), x0)
+
+
 # ---- all calls
 
 RULES = {
@@ -455,6 +485,7 @@ RULES = {
     22: (remove_tests, remove_left, remove_made),
     23: (lambda c: [], None, search_made),
     24: (triangular_tests, result_left, corrected_made),
+    25: (solve_tests, result_left, transposed_made),
 }
 
 

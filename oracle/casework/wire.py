@@ -48,6 +48,7 @@ OPS = {
     22: Op('remove the last column', 'mn', 'store', 'swaps', 'pairs'),
     23: Op('pivot search', 'm', 'column'),
     24: Op('solve lower with the given diagonal, corrected', 'nk', 'matrix', 'diagonal', 'right-hand sides', 'x0'),
+    25: Op('transposed solve', 'mnk', 'factors', 'swaps', 'pairs', 'right-hand sides', 'x0'),
 }
 
 

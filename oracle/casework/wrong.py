@@ -127,6 +127,19 @@ WRONG = [
     ('takes NaNs for equal', 'magnitude(column[r]) == magnitude(column[best])', 'text([magnitude(column[r])]) == text([magnitude(column[best])])'),
     ('takes a NaN for the greatest', 'if magnitude(column[best]) < magnitude(column[r]):', 'if not magnitude(column[best]) >= magnitude(column[r]):'),
     ('stays within the column', '    row = pivot_row(column, m)\n', '    row = pivot_row(column, min(m, max(1, len(column)) - 1))\n'),
+    ('applies the list in order in a transposed solve', 'swap(column, reversed(pairs))', 'swap(column, pairs)'),
+    ('applies the list before a transposed solve',
+     '        transposed_upper(t, column)\n        transposed_unit_lower(t, column)\n        swap(column, reversed(pairs))\n',
+     '        swap(column, pairs)\n        transposed_upper(t, column)\n        transposed_unit_lower(t, column)\n'),
+    ('divides by the diagonal in the transposed unit pass', '        transposed_unit_lower(t, column)\n', '        transposed_lower(t, column)\n'),
+    ('takes the transposed passes the other way round', '        transposed_upper(t, column)\n        transposed_unit_lower(t, column)\n',
+     '        transposed_unit_lower(t, column)\n        transposed_upper(t, column)\n'),
+    ('solves the plain system in a transposed solve', '        transposed_upper(t, column)\n        transposed_unit_lower(t, column)\n',
+     '        unit_lower(t, column)\n        upper(t, column)\n'),
+    ('updates instead of summing in the transposed unit pass', 'b[i] -= dot([row[i] for row in t[i + 1:]], b[i + 1:])',
+     'for r in range(i + 1, len(b)):\n            b[i] -= t[r][i] * b[r]'),
+    ('sums the transposed unit pass in one run', 'b[i] -= dot([row[i] for row in t[i + 1:]], b[i + 1:])',
+     'b[i] -= sum((t[r][i] * b[r] for r in range(i + 1, len(b))), 0.0)'),
 ]
 
 # one rounding of the exact product and sum
