@@ -5,7 +5,7 @@ import struct
 from array import array
 
 from . import floats
-from .make import MAKERS, SQUARE, file_case, panel
+from .make import MAKERS, SQUARE, file_case, moves_case, panel
 from .rules import GIVEN
 from .wire import Case, FLOATS, LONGEST, NEWLINE, OPS, encode, hexes, line, words
 
@@ -375,12 +375,40 @@ def files():
     yield panel(64, floats.unit(r, LONGEST))[:8 * LONGEST]                            # cut short by six bytes
 
 
+def moves():
+    """Each of those files with its first pad; good files with every pad and with numbers of no pad; two faults at once."""
+    for file in files():
+        yield moves_case(1, file)
+    numbers = (4.0, 1.0, -2.0, 0.5, 6.0, 1.0, 3.0, 8.0, 1.0, 1.0, 2.0, 3.0)
+    whole, three = panel(2, doubles(0.0, 2.0, 1.0, 0.0, 5.0, 8.0)), panel(3, doubles(*numbers))
+    for pad in (0, 1, 2, 3, 64, 65, 2 ** 32 + 1, 2 ** 63, 2 ** 63 + 1, 2 ** 64 - 1):
+        yield moves_case(pad, whole)
+        yield moves_case(pad, three)
+    singular, overflowing = doubles(1.0, 2.0, 2.0, 4.0, 5.0, 8.0), doubles(2.0 ** -1024, 0.0, 0.0, 0.0, 5.0, 8.0)
+    for file in (b'', whole[:5], b'LXQ' + whole[3:], whole[:5] + b'\0' + whole[6:], whole[:5] + b'\x41' + whole[6:], whole[:-1], whole + b'\0',
+                 panel(2, doubles(0.0, 2.0, 1.0, 0.0, 5.0, floats.NOT_FINITE[2])), panel(2, singular), panel(2, overflowing)):
+        for pad in (0, 3):
+            yield moves_case(pad, file)
+    yield moves_case(2, panel(2, singular))
+    yield moves_case(2, panel(2, overflowing))
+    yield moves_case(1, panel(1, doubles(2.0 ** -1074, 0.0)))                          # the solve's 7
+    yield moves_case(1, panel(2, doubles(2.0 ** -1074, 0.0, 0.0, 1.0, 5.0, 8.0)))      # factoring's
+    yield moves_case(1, panel(2, doubles(1.0, 0.0, 0.0, 2.0 ** -1074, 5.0, 8.0)))      # only the other pad's solve overflows
+    yield moves_case(2, panel(2, doubles(1.0, 0.0, 0.0, 2.0 ** -1074, 5.0, 8.0)))
+    r = random.Random('pads moved')
+    for n in (4, 9, 10, 17):
+        file = panel(n, floats.unit(r, n * n + n))
+        yield moves_case(1, file)
+        yield moves_case(n, file)
+        yield moves_case(n + 1, file)
+
+
 def largest():
     """63 and 64: whole for the square calls, adding, removing and permuting rows, thin for the others; lists of 62, 63 and 64 pairs."""
     for op, make in MAKERS.items():
         r = random.Random(f'largest {op}')
         if op in SQUARE:
-            if op not in (20, 21):
+            if op not in (20, 21, 26):
                 yield make(r, op, 64, 1)
             if op in (3, 12, 25):
                 yield make(r, op, 63, 2)
@@ -411,6 +439,9 @@ def fixed():
         if op == 20:
             for file in files():
                 yield done(file_case(file))
+        elif op == 26:
+            for case in moves():
+                yield done(case)
         else:
             yield done(good(op))
             for bad in faults_of(good(op)):

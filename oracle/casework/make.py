@@ -10,7 +10,7 @@ from .wire import Case, FLOATS, LONGEST, OPS, unhex
 
 # how often each op comes in a round
 TURNS = {1: 3, 2: 3, 3: 3, 4: 2, 5: 1, 6: 1, 7: 3, 8: 3, 9: 2, 10: 2, 11: 2, 12: 3, 13: 3,
-         14: 3, 15: 3, 16: 3, 17: 3, 18: 2, 19: 1, 20: 2, 21: 2, 22: 3, 23: 2, 24: 2, 25: 3}
+         14: 3, 15: 3, 16: 3, 17: 3, 18: 2, 19: 1, 20: 2, 21: 2, 22: 3, 23: 2, 24: 2, 25: 3, 26: 2}
 ROUND = [(op, turn) for turn in range(max(TURNS.values())) for op in TURNS if turn < TURNS[op]]
 
 JUNK = [0, 1, 63, 64, 65, 255, 2 ** 32, 2 ** 63, 2 ** 64 - 1]
@@ -207,11 +207,21 @@ def make_search(r, op, m, n):
     yield
 
 
+def make_moves(r, op, n, k):
+    whole = yield from make_file(r, op, n, k)
+    return moves_case(r.randint(1, min(n, 63)), whole.slices[0])
+
+
+def moves_case(pad, file):
+    whole = file_case(file)
+    return Case(26, pad, 0, whole.k, whole.slices)
+
+
 MAKERS = {1: make_factor, 2: make_add, 3: make_solve, 4: make_square, 5: make_square, 6: make_square, 7: make_l_or_u, 8: make_l_or_u,
           9: make_triangular, 10: make_triangular, 11: make_triangular, 12: make_triangular, 13: make_triangular,
           14: make_permute, 15: make_permute, 16: make_permute, 17: make_permute, 18: make_append, 19: make_rank, 20: make_file,
-          21: make_write, 22: make_remove, 23: make_search, 24: make_triangular, 25: make_solve}
-SQUARE = (3, 4, 5, 6, 9, 10, 11, 12, 13, 19, 20, 21, 24, 25)      # ops whose two sizes are the matrix's and the right-hand columns'
+          21: make_write, 22: make_remove, 23: make_search, 24: make_triangular, 25: make_solve, 26: make_moves}
+SQUARE = (3, 4, 5, 6, 9, 10, 11, 12, 13, 19, 20, 21, 24, 25, 26)      # ops whose two sizes are the matrix's and the right-hand columns'
 
 
 # ---- faults: each changes a good case in place; the rules say what the changed case gives
@@ -350,12 +360,23 @@ def damaged(r, c):
     return file_case(file)
 
 
+def damaged_moves(r, c):
+    """The file damaged, or another pad number."""
+    file = c.slices[0]
+    if r.random() < 0.6:
+        return moves_case(c.m, damaged(r, c).slices[0])
+    pads = file[5] if len(file) > 5 else 0
+    return moves_case(r.choice([0, pads + 1, pads + 1, pads, 64, 65, 2 ** 32 + c.m, 2 ** 63, 2 ** 64 - 1, r.randint(1, 64)]) % 2 ** 64, file)
+
+
 def spoiled(r, c):
     """The case with one fault, or two or three at once: the order of the tests then shows."""
     times = r.choice((1, 1, 1, 2, 2, 3))
     for _ in range(times):
         if c.op == 20:
             c = damaged(r, c)
+        elif c.op == 26:
+            c = damaged_moves(r, c)
         else:
             r.choice(FAULTS[c.op])(r, c)
     c.fresh = None

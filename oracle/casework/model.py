@@ -8,7 +8,7 @@ import sys
 
 TAKES = {1: 'FFW', 2: 'FFWW', 3: 'FWWFF', 4: 'FWWF', 5: 'FWW', 6: 'FWW', 7: 'FWWF', 8: 'FWWF', 9: 'FFF', 10: 'FFF', 11: 'FFFF', 12: 'FFF',
          13: 'FFF', 14: 'WWF', 15: 'WWF', 16: 'WWF', 17: 'WWF', 18: 'WWW', 19: 'FW', 20: 'W', 21: 'FFW', 22: 'FWW', 23: 'F', 24: 'FFFF',
-         25: 'FWWFF'}
+         25: 'FWWFF', 26: 'W'}
 
 
 class Refused(Exception):
@@ -444,7 +444,7 @@ def rank(m, n, k, loads, out0):
     return order(loads),
 
 
-def panel_file(m, n, k, items):
+def read_panel(k, items):
     data = struct.pack(f'<{len(items)}Q', *items)[:k]
     refuse(8, k < 6)
     refuse(8, data[:5] != b'LXP\x01\x00')
@@ -453,10 +453,20 @@ def panel_file(m, n, k, items):
     refuse(3, k != 6 + 8 * pads * (pads + 1))
     values = [x for x, in struct.iter_unpack('<d', data[6:])]
     numbers(values)
+    return pads, values
+
+
+def factored_panel(pads, values):
     t = rows_of(pads, pads, values)
     pairs, _ = eliminate(pads, pads, t)
     overflow(flat_of(pads, pads, t))
     zero_diagonal(pads, t)
+    return t, pairs
+
+
+def panel_file(m, n, k, items):
+    pads, values = read_panel(k, items)
+    t, pairs = factored_panel(pads, values)
     loads = values[pads * pads:]
     solved(pads, t, pairs, [loads])
     overflow(loads)
@@ -503,6 +513,18 @@ def search(m, n, k, column):
     return [row], [toss_up(column, m, row)]
 
 
+def moves(m, n, k, items):
+    pads, values = read_panel(k, items)
+    refuse(1, m < 1)
+    refuse(1, m > pads)
+    t, pairs = factored_panel(pads, values)
+    unit = [0.0] * pads
+    unit[m - 1] = 1.0
+    transposed_solved(pads, t, pairs, [unit])
+    overflow(unit)
+    return unit,
+
+
 def last_left(number, *case):
     """The lent result is the last slice: +0.0 after an overflow, else as it was."""
     return [0.0] * len(case[-1]) if number == 7 else case[-1],
@@ -519,6 +541,7 @@ CALLS = {
     20: (panel_file, lambda number, *case: (f'refused {number}\n',)), 21: (write_file, write_left),
     22: (remove, lambda number, m, n, k, store, swaps, count: (count, store, swaps)),
     23: (search, None), 24: (given_diagonal(corrected), last_left), 25: (solving(transposed_solved), last_left),
+    26: (moves, lambda *case: ('-',)),
 }
 
 

@@ -347,18 +347,23 @@ def refused(number):
     return number, printed(f'refused {number}')
 
 
-def file_made(c):
-    """Factoring's 7, then the solve's 6, then its 7."""
+def file_factored(c):
+    """The number of pads, the readings, and the factors with their list and count of pairs, or nothing where factoring overflows."""
     file = c.slices[0]
     n = file[5]
     numbers = array('d', file[6:])
-    matrix, readings = numbers[:n * n], numbers[n * n:]
-    pairs, factors, swaps = (yield request_factoring(n, n, matrix)).split(' | ')
-    if not finite(factors):
+    pairs, factors, swaps = (yield request_factoring(n, n, numbers[:n * n])).split(' | ')
+    held = [unhex(factors), array('Q', map(int, swaps.split())), array('Q', [int(pairs)])] if finite(factors) else None
+    return n, numbers[n * n:], held
+
+
+def file_made(c):
+    """Factoring's 7, then the solve's 6, then its 7."""
+    n, readings, held = yield from file_factored(c)
+    if held is None:
         return refused(7)
-    factors, list_ = unhex(factors), array('Q', map(int, swaps.split()))
-    loads = yield encode(Case(3, n, n, 1, [factors, list_, array('Q', [int(pairs)]), readings, array('d')]))
-    if zero_on_diagonal(n, factors):
+    loads = yield encode(Case(3, n, n, 1, [*held, readings, array('d')]))
+    if zero_on_diagonal(n, held[0]):
         assert loads == 'none', loads
         return refused(6)
     if not finite(loads):
@@ -465,6 +470,26 @@ def transposed_made(c):
     return numbers_or_seven((yield from transposed_solved(c.n, c.k, factors, swaps, pairs, b)), x0)
 
 
+# ---- 26: how a pad's load moves with each reading (document 02, request 5)
+
+def moves_tests(c):
+    yield from file_tests(c)
+    yield 1, outside(1, c.m, c.slices[0][5])
+
+
+def moves_made(c):
+    """The transposed solve of the pad's unit column: factoring's 7, then the solve's 6, then its 7."""
+    n, _, held = yield from file_factored(c)
+    if held is None:
+        return 7, ['-']
+    unit = array('d', [float(pad == c.m) for pad in range(1, n + 1)])
+    moves = yield from transposed_solved(n, 1, *held, unit)
+    if zero_on_diagonal(n, held[0]):
+        assert moves == 'none', moves
+        return 6, ['-']
+    return (0, [moves]) if finite(moves) else (7, ['-'])
+
+
 # ---- all calls
 
 RULES = {
@@ -486,6 +511,7 @@ RULES = {
     23: (lambda c: [], None, search_made),
     24: (triangular_tests, result_left, corrected_made),
     25: (solve_tests, result_left, transposed_made),
+    26: (moves_tests, dash, moves_made),
 }
 
 

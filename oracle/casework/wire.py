@@ -49,6 +49,7 @@ OPS = {
     23: Op('pivot search', 'm', 'column'),
     24: Op('solve lower with the given diagonal, corrected', 'nk', 'matrix', 'diagonal', 'right-hand sides', 'x0'),
     25: Op('transposed solve', 'mnk', 'factors', 'swaps', 'pairs', 'right-hand sides', 'x0'),
+    26: Op('how a pad moves, of a panel file', 'mk', 'file'),
 }
 
 

@@ -140,6 +140,19 @@ WRONG = [
      'for r in range(i + 1, len(b)):\n            b[i] -= t[r][i] * b[r]'),
     ('sums the transposed unit pass in one run', 'b[i] -= dot([row[i] for row in t[i + 1:]], b[i + 1:])',
      'b[i] -= sum((t[r][i] * b[r] for r in range(i + 1, len(b))), 0.0)'),
+    ('counts the pads that move from 0', 'unit[m - 1] = 1.0', 'unit[m % pads] = 1.0'),
+    ('takes pad 0 for the last', '    refuse(1, m < 1)\n', ''),
+    ('takes pads past the last one', '    refuse(1, m > pads)\n', '    m = min(m, pads)\n'),
+    ('tests the pad number before the file', '    pads, values = read_panel(k, items)\n    refuse(1, m < 1)\n',
+     '    refuse(1, m < 1)\n    pads, values = read_panel(k, items)\n'),
+    ('tests the pad number after factoring', '    refuse(1, m > pads)\n    t, pairs = factored_panel(pads, values)\n',
+     '    t, pairs = factored_panel(pads, values)\n    refuse(1, m > pads)\n'),
+    ('solves the plain system for moves', 'transposed_solved(pads, t, pairs, [unit])', 'solved(pads, t, pairs, [unit])'),
+    ("moves the pad by the file's readings", 'transposed_solved(pads, t, pairs, [unit])',
+     'unit = values[pads * pads:]\n    transposed_solved(pads, t, pairs, [unit])'),
+    ('refuses moves where the loads overflow', '    unit = [0.0] * pads\n',
+     '    loads = values[pads * pads:]\n    solved(pads, t, pairs, [loads]), overflow(loads)\n    unit = [0.0] * pads\n'),
+    ('forgets the overflow of moves', '    overflow(unit)\n', ''),
 ]
 
 # one rounding of the exact product and sum
