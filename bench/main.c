@@ -1,4 +1,4 @@
-// Measures the calls of `src/lib.rt`. With -DBARE it is a program for x86-64 that needs no library, so that an emulator can run it.
+// Measures the calls of `lib.rt.in`. With -DBARE it is a program for x86-64 that needs no library, so that an emulator can run it.
 //   (none)  bytes of stack that a call takes at 64 pads: the stack is painted, and what the call wrote over is counted. Standard input is a panel file.
 //   N R     factors an N by N matrix R times
 typedef unsigned long word;
