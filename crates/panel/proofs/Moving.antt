@@ -10,7 +10,6 @@ use borrow.Author.Tests.{eqb-false, ltb-false, eq-eqb, ne-eqb}
 use lib.Dec.{eqb, ltb}
 use lib.ListN.{length, getD, set, take, drop, replicate}
 use lib.Seq.{take-at, take-set-lt}
-use Rattle.blas.specs.Each.{listOf}
 use Rattle.blas.specs.Numbers.{zero64, one64}
 use Rattle.blas.specs.Column.{Column, entry, allFinite, zeros}
 use Rattle.blas.proofs.Choice.{cond-cases}

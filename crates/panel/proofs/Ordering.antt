@@ -13,7 +13,6 @@ use Rattle.blas.specs.Column.{Column, allFinite, zeros}
 use lib.Seq.{length-take-le, take-at}
 use Rattle.blas.proofs.Each.{length-list}
 use Rattle.blas.proofs.Choice.{test-cases, cond-cases}
-use Rattle.refusals.specs.declared.Answer.{Answer}
 use Rattle.refusals.specs.Refusals.{answerOf, numberOf, Outcome}
 use Rattle.lu.specs.declared.Record.{Record}
 use Rattle.lu.specs.declared.Factored.{Factored}

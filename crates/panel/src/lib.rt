@@ -233,6 +233,7 @@ fn move_file(file: &[u8], pad: usize, out: &mut [f64]) -> Order
 pub fn moves(file: &[u8], pad: usize, out: &mut [f64; 64]) -> Order
     ensures { λ r. ⌜ r ≡ movesOf (now (file .entry)) (moving (now (file .entry)) pad (now (out .entry))) ⌝ }
     ensures { λ _. ⌜ now (out .exit) ≡ moving (now (file .entry)) pad (now (out .entry)) .result ⌝ }
+    ensures { λ _. ⌜ length (now (out .exit)) ≡ 64 ⌝ }
 {
     move_file(file, pad, out)
 }

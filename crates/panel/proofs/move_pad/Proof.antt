@@ -1,9 +1,9 @@
 -- The pad number's test, then the transposed solve in the front of its store. Assumes nothing.
 use Prim.Native.Nat.{_-_, _*_, _≤_}
-use mathlib.Core.Path.{_≡_, refl, sym, _∙_}
+use mathlib.Core.Path.{refl, _∙_}
 use native.Mathlib.Omega.{arith}
 use borrow.Author.Needs.{needs}
-use lib.ListN.{length, take, length-set}
+use lib.ListN.{length, length-set}
 use lib.Seq.{length-take-le}
 use Rattle.blas.specs.Numbers.{zero64}
 use Rattle.panel.proofs.Ordering.{square, taken-zeros, taken-count, zeros-count, same-pads, no-pads}
