@@ -4,6 +4,7 @@ use crate::text::put_bar;
 use crate::text::put_bytes;
 use crate::text::put_float;
 use crate::text::put_floats;
+use crate::text::put_front;
 use crate::text::put_shown;
 use crate::text::put_whole;
 use crate::text::put_wholes;
@@ -14,6 +15,7 @@ use lu::Added;
 use lu::Factored;
 use lu::Record;
 use lu::Removed;
+use panel::Order;
 use panel_file::Written;
 use permutation_sequence::Appended;
 use refusals::Answer;
@@ -138,10 +140,27 @@ pub fn find_pivot(text: &mut [u8], from: usize, row: usize, column: &[f64]) -> u
     put_whole(text, last, tossed)
 }
 
-// Op 3.
+// The call of op 3 or 25.
+fn run_solve(
+    op: u8,
+    told: Record,
+    factors: &[f64],
+    swaps: &[usize],
+    b: &[f64],
+    k: usize,
+    x: &mut [f64],
+) -> Answer {
+    if op == 25 {
+        return from_factors::tr_solve(factors, swaps, told, b, k, x);
+    }
+    from_factors::solve(factors, swaps, told, b, k, x)
+}
+
+// Ops 3 and 25.
 pub fn solve(
     text: &mut [u8],
     from: usize,
+    op: u8,
     told: Record,
     factors: &[f64],
     swaps: &[usize],
@@ -149,7 +168,7 @@ pub fn solve(
     k: usize,
     x: &mut [f64],
 ) -> usize {
-    let answer = from_factors::solve(factors, swaps, told, b, k, x);
+    let answer = run_solve(op, told, factors, swaps, b, k, x);
     put_result(text, from, answer, x)
 }
 
@@ -329,12 +348,32 @@ fn digit_of(answer: &[u8]) -> u8 {
 }
 
 // Op 20.
-pub fn panel_answer(text: &mut [u8], from: usize, file: &[u8]) -> usize {
+fn printed(text: &mut [u8], from: usize, file: &[u8]) -> usize {
     let mut answer = [0u8; 1288];
     let n = panel::text(file, &mut answer);
     let at = put(text, from, digit_of(&answer[..n]));
     let bar = put_bar(text, at);
     put_shown(text, bar, &answer[..n])
+}
+
+// Op 26.
+fn moves(text: &mut [u8], from: usize, pad: usize, file: &[u8]) -> usize {
+    let mut numbers = [0.0f64; 64];
+    match panel::moves(file, pad, &mut numbers) {
+        Order::Pads(n) => {
+            let at = put_whole(text, from, 0);
+            put_front(text, at, n, &numbers)
+        }
+        Order::Refused(number) => put_none(text, from, number),
+    }
+}
+
+// Ops 20 and 26.
+pub fn panel_answer(text: &mut [u8], from: usize, op: u8, pad: usize, file: &[u8]) -> usize {
+    if op == 26 {
+        return moves(text, from, pad, file);
+    }
+    printed(text, from, file)
 }
 
 // Op 21.

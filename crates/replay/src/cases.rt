@@ -126,10 +126,11 @@ pub fn find_pivot(
     from
 }
 
-// What op 3 takes behind the factors.
+// What ops 3 and 25 take behind the factors.
 fn solve(
     text: &mut [u8],
     from: usize,
+    op: u8,
     told: Record,
     factors: &[f64],
     swaps: &[usize],
@@ -145,6 +146,7 @@ fn solve(
         return calls::solve(
             text,
             from,
+            op,
             told,
             factors,
             swaps,
@@ -194,7 +196,7 @@ fn number_of_factors(
     calls::is_invertible(text, from, told, factors, swaps)
 }
 
-// What ops 3 to 8 take behind the factors.
+// What ops 3 to 8 and 25 take behind the factors.
 fn behind_factors(
     text: &mut [u8],
     from: usize,
@@ -209,13 +211,13 @@ fn behind_factors(
     going: &mut bool,
 ) -> usize {
     match op {
-        3 => solve(text, from, told, factors, swaps, k, b, x, bytes, going),
+        3 | 25 => solve(text, from, op, told, factors, swaps, k, b, x, bytes, going),
         5 | 6 => number_of_factors(text, from, op, told, factors, swaps, *going),
         _ => matrix_of_factors(text, from, op, told, factors, swaps, x, bytes, going),
     }
 }
 
-// Ops 3 to 8.
+// Ops 3 to 8 and 25.
 pub fn of_factors(
     text: &mut [u8],
     from: usize,
@@ -367,14 +369,16 @@ fn read_bytes(k: usize, bytes: &mut [u8], going: &mut bool) {
     }
 }
 
-// Op 20. The file has as many bytes as its case says, at most those of its items.
+// Ops 20 and 26. The file has as many bytes as its case says, at most those of its items.
 pub fn panel_answer(
     text: &mut [u8],
     from: usize,
-    k: usize,
+    op: u8,
+    sizes: Sizes,
     bytes: &mut [u8],
     going: &mut bool,
 ) -> usize {
+    let k = sizes.k;
     read_bytes(k, bytes, going);
     if !*going {
         return from;
@@ -382,7 +386,7 @@ pub fn panel_answer(
     if bytes.len() < k {
         return from;
     }
-    calls::panel_answer(text, from, &bytes[..k])
+    calls::panel_answer(text, from, op, sizes.m, &bytes[..k])
 }
 
 // What op 21 takes behind the readings: the bytes that are lent, as many as its case says.

@@ -64,11 +64,12 @@ fn one_case(
         14..=17 => cases::permute(text, at, op, sizes, a, swaps, bytes, going),
         18 => cases::append(text, at, sizes, swaps, bytes, going),
         19 => cases::rank(text, at, sizes, a, swaps, bytes, going),
-        20 => cases::panel_answer(text, at, sizes.k, bytes, going),
+        20 | 26 => cases::panel_answer(text, at, op, sizes, bytes, going),
         21 => cases::write_file(text, at, sizes, a, b, bytes, going),
         22 => cases::remove_column(text, at, sizes, x, swaps, bytes, going),
         23 => cases::find_pivot(text, at, sizes.m, b, bytes, going),
         24 => cases::solve_triangular(text, at, op, sizes, a, b, x, bytes, going),
+        25 => cases::of_factors(text, at, op, sizes, a, b, x, swaps, bytes, going),
         _ => {
             *going = false;
             at

@@ -74,6 +74,14 @@ pub fn put_floats(text: &mut [u8], from: usize, part: &[f64]) -> usize {
     at
 }
 
+// Puts the first n floats as a part, with its bar.
+pub fn put_front(text: &mut [u8], at: usize, n: usize, floats: &[f64]) -> usize {
+    if floats.len() < n {
+        return at;
+    }
+    put_floats(text, at, &floats[..n])
+}
+
 // Puts a part of whole numbers, with its bar.
 pub fn put_wholes(text: &mut [u8], from: usize, part: &[usize]) -> usize {
     let mut at = put_bar(text, from);
