@@ -1,6 +1,6 @@
 -- Laws of `eachFrom` and `turnsFrom`, as loops and theorems use them: where a loop starts, one turn of it, and its end; each entry by itself.
 -- By induction on the list or the number of turns. Assumes nothing.
-use mathlib.Core.Path.{_≡_, refl, sym, ap, ap₂, _∙_}
+use mathlib.Core.Path.{_≡_, refl, ap, ap₂, _∙_}
 use mathlib.Core.List.{List, [], _∷_, _++_}
 use Prim.Native.Nat.{ℕ, zero, suc, _+_, _-_, _≤_, _<_}
 use native.Mathlib.Nat.{le-of-suc-le-suc, not-suc-le-zero, sub-zero}

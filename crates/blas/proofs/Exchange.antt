@@ -3,14 +3,14 @@
 use Prim.Native.Nat.{ℕ, _≤_, _<_}
 use native.Mathlib.Omega.{arith}
 use mathlib.Core.Path.{_≡_, refl, sym, ap, _∙_}
-use mathlib.Core.Bool.{true, false, cond, _&&_}
+use mathlib.Core.Bool.{cond, _&&_}
 use mathlib.Core.List.{List}
 use borrow.Author.Tests.{ltb-true, eqb-true, eqb-false, lt-ltb}
 use lib.Dec.{ltb, eqb}
 use lib.ListN.{length, getD, set, length-set}
 use lib.Seq.{getD-set-same, getD-set-other, set-getD, set-set, ext-getD}
 use Rattle.blas.specs.Column.{exchanged}
-use Rattle.blas.proofs.Choice.{test-cases, cond-cases, and-first, and-second, and-both}
+use Rattle.blas.proofs.Choice.{test-cases, cond-cases, and-first, and-second}
 
 -- ---- the row that stands at k once rows a and b are exchanged
 abbrev pub other : ℕ → ℕ → ℕ → ℕ

@@ -1,23 +1,22 @@
 -- In a finite column the toss-up is what its name says: two different rows at or below have the greatest magnitude, and this is not zero. Of two finite
 -- numbers the magnitudes are equal exactly when neither is smaller; and the rows that share the pivot's magnitude are as great as the pivot, which is the
 -- first of the greatest. Assumes nothing.
-use mathlib.Core.Logic.{_⊎_, inl, inr}
-use mathlib.Core.Path.{_≡_, refl, sym, ap, _∙_}
+use mathlib.Core.Path.{_≡_, refl, sym, _∙_}
 use mathlib.Core.Bool.{Bool, true, false, not, _&&_, _||_, Bool·beq, true≢false, false≢true}
 use Prim.Native.Nat.{ℕ, zero, suc, _+_, _-_, _*_, _≤_, _<_}
-use native.Mathlib.Nat.{zero-mul, mul-pos, eq-or-lt-of-le}
+use native.Mathlib.Nat.{zero-mul, mul-pos}
 use native.Mathlib.Omega.{arith}
-use borrow.Author.Tests.{eqb-true, eqb-false, eq-eqb, ne-eqb, not-false, not-true, ltb-false, lt-ltb, le-ltb}
+use borrow.Author.Tests.{eqb-true, eqb-false, eq-eqb, ne-eqb, not-true, ltb-false, lt-ltb, le-ltb}
 use lib.Dec.{eqb}
 use lib.IntN.{ℤ}
 use lib.ListN.{length, drop}
 use lib.Ieee.{Float, nan, inf, fin, up, down, eq, lt, ofBits}
-use lib.Ieee.Fits.{up-pos, down-pos}
+use lib.Ieee.Fits.{down-pos}
 use lib.Ieee.Scale.{finite}
 use Rattle.blas.specs.Numbers.{magnitude, isZero}
 use Rattle.blas.specs.Column.{Column, entry, pivotRow, allFinite}
 use Rattle.blas.specs.TossUp.{sharedFrom, tossUp}
-use Rattle.blas.proofs.Choice.{test-cases, and-first, and-second, and-both}
+use Rattle.blas.proofs.Choice.{test-cases, and-first, and-second}
 use Rattle.blas.proofs.Finite.{finite-entry}
 use Rattle.blas.proofs.Pivot.{bare, bare-cases, smaller, smaller-bare, smaller-trans, First, pivot-first, pivot-from, pivot-to}
 use Rattle.blas.proofs.TossUp.{shared-next, shared-end}

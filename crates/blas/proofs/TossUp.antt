@@ -1,23 +1,17 @@
 -- The toss-up: one turn of its test and the end, that a pivot of zero is none, and in a finite column what its name says: two different rows at or below
 -- have the greatest magnitude, and this is not zero. Of two finite numbers neither is of smaller magnitude exactly when the magnitudes are equal.
 -- Assumes nothing.
-use mathlib.Core.Logic.{_⊎_, inl, inr}
 use mathlib.Core.Path.{_≡_, refl, sym, ap, ap₂, _∙_}
-use mathlib.Core.Bool.{Bool, true, false, not, _&&_, _||_, true≢false, false≢true}
-use mathlib.Core.List.{[], _∷_}
-use Prim.Native.Nat.{ℕ, zero, suc, _+_, _-_, _*_, _≤_, _<_}
+use mathlib.Core.Bool.{Bool, true, false, not, _&&_, _||_}
+use Prim.Native.Nat.{ℕ, _+_, _-_, _≤_, _<_}
 use native.Mathlib.Numerals.{add-one}
-use native.Mathlib.Omega.{arith}
-use borrow.Author.Tests.{eqb-true, eqb-false, ne-eqb, eq-eqb}
 use lib.Dec.{eqb}
 use lib.ListN.{length, drop, drop-of-length-le}
-use lib.Ieee.{Float, nan, inf, fin, eq, lt}
-use lib.Ieee.Scale.{finite}
+use lib.Ieee.{Float, nan, eq}
 use Rattle.blas.specs.Numbers.{magnitude, isZero}
-use Rattle.blas.specs.Column.{Column, entry, pivotRow, allFinite}
+use Rattle.blas.specs.Column.{Column, entry, pivotRow}
 use Rattle.blas.specs.declared.FoundPivot.{FoundPivot}
 use Rattle.blas.specs.TossUp.{sharedFrom, tossUp, pivotOf}
-use Rattle.blas.proofs.Choice.{test-cases, and-first, and-second, and-both}
 use Rattle.blas.proofs.Walk.{drop-next}
 
 -- ---- the test row by row

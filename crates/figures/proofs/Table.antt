@@ -1,6 +1,6 @@
 -- Every marked line of document 01's table holds, and the corrected one. Each is computed beside the definition of its call, and cited here. Assumes nothing.
 use mathlib.Core.Path.{_≡_, ap, ap₂}
-use mathlib.Core.List.{List, [], _∷_, _++_, map}
+use mathlib.Core.List.{[], _∷_, _++_, map}
 use Rattle.solve.proofs.Figures.{transposed-lower, given-diagonal, corrected-diagonal}
 use Rattle.ranking.proofs.Figures.{one-three-three}
 use Rattle.from_factors.proofs.Figures.{figures}

@@ -3,11 +3,11 @@
 -- concrete input. Assumes nothing.
 use mathlib.Core.Path.{_≡_, refl, sym, ap, _∙_}
 use mathlib.Core.Bool.{Bool, true, false}
-use mathlib.Core.List.{List, [], _∷_, _++_}
+use mathlib.Core.List.{List, [], _∷_}
 use Prim.Native.Nat.{ℕ}
 use native.Mathlib.Omega.{arith}
 use lib.IntN.{pos}
-use lib.Ieee.{Float, fin, add, sub, mul, div, neg, eq, lt, ofBits}
+use lib.Ieee.{Float, fin, add, sub, mul, div, neg, eq, ofBits}
 use Rattle.blas.specs.Each.{eachFrom, turnsFrom, listOf}
 use Rattle.blas.specs.Numbers.{isZero}
 use Rattle.blas.specs.Column.{Column, entry, axpyFrom, allFinite, zeros}
@@ -24,7 +24,7 @@ use Rattle.ranking.proofs.Figures.{one-three-three}
 use Rattle.from_factors.specs.declared.Asks.{Asks}
 use Rattle.lu.specs.declared.Record.{Record}
 use Rattle.from_factors.specs.declared.Det.{Det}
-use Rattle.from_factors.specs.declared.Det.the-variants.{Number, Refused}
+use Rattle.from_factors.specs.declared.Det.the-variants.{Number}
 use Rattle.from_factors.specs.declared.Invertible.{Invertible}
 use Rattle.from_factors.specs.declared.Invertible.the-variants.{Is}
 use Rattle.lu.specs.Factoring.{Factoring, storeOf, recordOf, numbersOf, factoring}
@@ -32,9 +32,9 @@ use Rattle.lu.specs.Adding.{factorsIn, adding}
 use Rattle.lu.specs.TossUps.{tossUps, ownTossUp}
 use Rattle.from_factors.specs.Taken.{takenRefusal}
 use Rattle.from_factors.specs.Triangles.{lowerOf, upperOf, lowerFactor, upperFactor, lowering, uppering}
-use Rattle.from_factors.specs.Solving.{solved, solvedAll, unitColumn, inverting}
+use Rattle.from_factors.specs.Solving.{inverting}
 use Rattle.from_factors.specs.Solving.{solving as lu-solving, trSolving}
-use Rattle.from_factors.specs.Determinant.{timesDiagonal, diagonalProduct, determinantOf, numberOr7, determining, inverseTest}
+use Rattle.from_factors.specs.Determinant.{diagonalProduct, determining, inverseTest}
 use Rattle.from_factors.proofs.Figures.{computes, n0, n1, n2, n4, n8, transposed-figure}
 use Rattle.figures.proofs.Outcomes.{OneOutcome, one-outcome, ShutsOut, shut-out, BothShutOut, both, Strong, strong}
 

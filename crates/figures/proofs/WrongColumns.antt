@@ -1,9 +1,9 @@
 -- Two wrong programs for each call of `blas`, `store` and `refusals`, as in `WrongAnswers`: all that always give the same, and one named at each call. Assumes
 -- nothing.
-use mathlib.Core.Path.{_≡_, refl, sym, ap, _∙_}
+use mathlib.Core.Path.{_≡_, sym, ap}
 use mathlib.Core.Bool.{Bool, true, false, not, cond}
-use mathlib.Core.List.{List, [], _∷_, _++_}
-use Prim.Native.Nat.{ℕ, _+_, min}
+use mathlib.Core.List.{[], _∷_}
+use Prim.Native.Nat.{ℕ, min}
 use native.Mathlib.Omega.{arith}
 use lib.Dec.{ltb}
 use lib.ListN.{length, set}
@@ -18,10 +18,9 @@ use Rattle.blas.specs.declared.FoundPivot.{FoundPivot}
 use Rattle.blas.specs.Dot.{addProduct, addBlock, eightSums, pairSums, dotOf}
 use Rattle.store.specs.Columns.{columns, flat, isMatrix, onColumns}
 use Rattle.store.specs.Steps.{column, swapInAll, rowsSwapped, columnsSwapped, stepColumn, stepColumns, eliminated}
-use Rattle.refusals.specs.declared.Answer.{Answer}
-use Rattle.refusals.specs.declared.Answer.the-variants.{Done, Refused}
+use Rattle.refusals.specs.declared.Answer.the-variants.{Refused}
 use Rattle.refusals.specs.Refusals.{firstOf, outside, answerOf, Outcome, seventh}
-use Rattle.from_factors.proofs.Figures.{n0, n1, n2, n4, n8}
+use Rattle.from_factors.proofs.Figures.{n0, n1, n2}
 use Rattle.figures.proofs.Outcomes.{TwoShutOut, two}
 
 -- a name for all that has to unfold for these calls to compute

@@ -1,14 +1,14 @@
 -- Two wrong programs for each call of `panel_file` and `panel`, as in `WrongAnswers`: all that always give the same, and those that never refuse (for the writer and
 -- the text: that leave the slice as it was). Shown at an empty file (8) and at a head with no pads (1); for the writer at no pads (1), at a matrix of no numbers (3) and at
 -- one pad. Assumes nothing.
-use mathlib.Core.Path.{_≡_, refl, sym, ap, ap₂, _∙_}
-use mathlib.Core.Bool.{Bool, true, false, false≢true}
+use mathlib.Core.Path.{_≡_, refl, ap, ap₂, _∙_}
+use mathlib.Core.Bool.{true, false, false≢true}
 use mathlib.Core.List.{List, [], _∷_, _++_}
 use Prim.Native.Nat.{ℕ, zero, suc}
 use native.Mathlib.Omega.{arith}
 use lib.ListN.{getD, replicate}
 use lib.Dec.{T}
-use lib.Ieee.{Float, nan, binary64, fits}
+use lib.Ieee.{Float, binary64, fits}
 use lib.Ieee.Fits.{nan-fits}
 use lib.Ieee.Bits.{ofBits-fits}
 use Rattle.blas.specs.Column.{Column, entry, zeros}
@@ -21,7 +21,6 @@ use Rattle.panel_file.specs.declared.Written.{Written}
 use Rattle.panel_file.specs.declared.Written.the-variants.{Bytes, Refused as NotWritten}
 use Rattle.panel_file.proofs.Writes.{Fit, not-refused, outcome-refused}
 use Rattle.panel_file.proofs.Crossings.{one-writing}
-use Rattle.from_factors.specs.declared.Det.{Det}
 use Rattle.from_factors.specs.declared.Det.the-variants.{Number, Refused}
 use Rattle.panel.specs.Text.{written, decimal, refusedText}
 use Rattle.refusals.specs.Refusals.{Outcome}

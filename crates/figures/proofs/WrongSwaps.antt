@@ -1,20 +1,20 @@
 -- Two wrong programs for each call of `permutation_sequence`, as in `WrongAnswers`. Assumes nothing.
-use mathlib.Core.Path.{_≡_, refl, sym, ap, _∙_}
+use mathlib.Core.Path.{_≡_, refl, ap}
 use mathlib.Core.Bool.{Bool, true, false}
-use mathlib.Core.List.{List, [], _∷_, _++_, reverse}
+use mathlib.Core.List.{List, [], _∷_}
 use Prim.Native.Nat.{ℕ, _+_}
 use native.Mathlib.Omega.{arith}
 use lib.ListN.{replicate}
-use lib.Ieee.{Float, fin, neg, ofBits}
+use lib.Ieee.{neg, ofBits}
 use Rattle.blas.specs.Each.{eachFrom}
 use Rattle.blas.specs.Column.{Column, allFinite, exchanged}
 use Rattle.store.specs.Columns.{columns, flat, isMatrix, onColumns}
-use Rattle.store.specs.Steps.{swapInAll, columnsSwapped}
+use Rattle.store.specs.Steps.{swapInAll}
 use Rattle.refusals.specs.Refusals.{firstOf, outside, Outcome, tested}
 use Rattle.permutation_sequence.specs.SwapList.{pairsOf, holds, held, withPair, goodPair, goodPairs, goodList}
 use Rattle.permutation_sequence.specs.Permute.{permutedBy, rowsPermuted, inOrder, signOf}
 use Rattle.permutation_sequence.specs.Calls.{permutingRefusal, permuting, permutingRows, permutingColumns, appendingRefusal, Appending, appending}
-use Rattle.from_factors.proofs.Figures.{n0, n1, n2}
+use Rattle.from_factors.proofs.Figures.{n1, n2}
 use Rattle.figures.proofs.Outcomes.{ShutsOut, shut-out, BothShutOut, both, Strong, strong}
 
 -- a name for all that has to unfold for a list to be tested and applied

@@ -1,5 +1,5 @@
 -- The quick check of a crossing's stiffness as the code puts it together: factoring, then the determinant; reading before both. Assumes nothing.
-use mathlib.Core.Path.{_≡_, refl, sym, ap, ap₂, _∙_}
+use mathlib.Core.Path.{_≡_, sym, ap, ap₂, _∙_}
 use mathlib.Core.List.{List}
 use Prim.Native.Nat.{ℕ, _*_}
 use borrow.Author.Tests.{eq-eqb, ne-eqb}
@@ -12,7 +12,7 @@ use Rattle.from_factors.specs.declared.Det.{Det}
 use Rattle.from_factors.specs.declared.Det.the-variants.{Refused as NoNumber}
 use Rattle.lu.specs.Factoring.{Factoring, factoring, factoredOf}
 use Rattle.from_factors.specs.Determinant.{determining}
-use Rattle.panel_file.specs.File.{padsOf, matrixOf}
+use Rattle.panel_file.specs.File.{matrixOf}
 use Rattle.panel.specs.Ordering.{factored, fileRefusal, stiffnessOf, stiffness}
 use Rattle.panel.proofs.Ordering.{told-accepted, told-refused, Read}
 

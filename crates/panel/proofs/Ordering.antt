@@ -2,17 +2,17 @@
 -- Assumes nothing.
 use mathlib.Core.Path.{_≡_, refl, sym, ap, ap₂, _∙_}
 use mathlib.Core.Bool.{Bool, true, false, cond}
-use mathlib.Core.List.{List, [], _∷_, _++_}
-use Prim.Native.Nat.{ℕ, zero, suc, _+_, _*_, _≤_, _<_}
+use mathlib.Core.List.{List, _∷_, _++_}
+use Prim.Native.Nat.{ℕ, zero, suc, _+_, _*_, _≤_}
 use native.Mathlib.Nat.{mul-le-mul, le-of-suc-le-suc, not-suc-le-zero}
 use native.Mathlib.Omega.{arith}
 use borrow.Author.Tests.{eqb-true, eqb-false, eq-eqb, ne-eqb}
 use lib.Dec.{eqb}
-use lib.ListN.{length, getD, take, drop, replicate, length-replicate, length-append}
+use lib.ListN.{length, take, drop, replicate, length-replicate, length-append}
 use Rattle.blas.specs.Column.{Column, allFinite, zeros}
 use lib.Seq.{length-take-le, take-at}
 use Rattle.blas.proofs.Each.{length-list}
-use Rattle.blas.proofs.Choice.{test-cases, cond-cases}
+use Rattle.blas.proofs.Choice.{test-cases}
 use Rattle.refusals.specs.Refusals.{answerOf, numberOf, Outcome}
 use Rattle.lu.specs.declared.Record.{Record}
 use Rattle.lu.specs.declared.Factored.{Factored}

@@ -3,15 +3,13 @@ use mathlib.Core.Path.{_≡_, refl, sym, ap, ap₂, _∙_}
 use mathlib.Core.List.{List, [], _∷_, _++_, append-nil, append-assoc}
 use Prim.Native.Nat.{ℕ, zero, suc, _+_, _-_, _*_, _/_, _%_, _≤_, _<_}
 use native.Mathlib.Numerals.{add-one}
-use native.Mathlib.Nat.{add-zero, add-assoc}
+use native.Mathlib.Nat.{add-zero}
 use native.Mathlib.Omega.{arith}
-use lib.ListN.{length, getD, set, take, drop, length-append, length-take, length-drop, length-set, take-append-drop, drop-of-length-le}
+use lib.ListN.{length, getD, set, take, drop, length-append, length-drop, length-set, take-append-drop, drop-of-length-le}
 use lib.Seq.{length-take-le, set-split, append-snoc, drop-cons, take-set-le, getD-set-same, drop-set-lt, take-at, drop-at, drop-drop}
 use borrow.Author.Tests.{lt-ltb, le-ltb}
-use mathlib.Core.Bool.{true, not, false≢true}
-use lib.Dec.{T, ltb}
-use lib.Ieee.Scale.{finite}
-use lib.Ieee.{Float, nan, inf, fin, binary64, isNan, toBits}
+use lib.Dec.{ltb}
+use lib.Ieee.{Float, binary64, toBits}
 use Rattle.blas.specs.Column.{Column}
 use Rattle.blas.proofs.Choice.{cond-cases}
 use Rattle.ranking.specs.Ranking.{loadOf}
@@ -104,13 +102,6 @@ spell-end at bits was s rest k p e =
     ∙ ap (λ (i : ℕ). take at was ++ digits 16 16 bits ++ drop (at + i) was) (sym (length-digits 16 16 bits))
 
 -- ---- a number in decimal, and a pad's line
-
--- `to_bits` is asked of no NaN
-pub finite-number : (x : Float) → finite x ≡ true → T (not (isNan x))
-unfolding isNan
-finite-number nan e = absurd (false≢true e)
-finite-number (inf s) e = tt
-finite-number (fin s m e) d = tt
 
 pub length-decimal : (n : ℕ) → (1 ≤ length (decimal n)) × (length (decimal n) ≤ 2)
 unfolding decimal

@@ -3,12 +3,11 @@ use mathlib.Core.Path.{_≡_, sym, ap, _∙_}
 use mathlib.Core.Bool.{Bool, true, _&&_}
 use mathlib.Core.List.{List}
 use Prim.Native.Nat.{ℕ, _+_, _*_, _≤_, _<_}
-use native.Mathlib.Omega.{arith}
-use lib.ListN.{length, drop}
+use lib.ListN.{drop}
 use lib.Ieee.{nan, binary64, ofBits}
 use lib.Ieee.Scale.{finite}
 use Rattle.blas.specs.Each.{listOf}
-use Rattle.blas.specs.Column.{Column, entry, allFinite}
+use Rattle.blas.specs.Column.{Column, allFinite}
 use Rattle.blas.proofs.Each.{length-list, list-at}
 use Rattle.blas.proofs.Finite.{finite-entry}
 use Rattle.blas.proofs.Walk.{finite-next, finite-end}

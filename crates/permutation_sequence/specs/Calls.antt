@@ -1,7 +1,7 @@
 -- What each public call does on every input: document 01, "Sizes" and "Refusal numbers".
 use mathlib.Core.Bool.{Bool, not, cond, _&&_, _||_}
 use mathlib.Core.List.{List, [], _∷_}
-use Prim.Native.Nat.{ℕ, _+_, _*_}
+use Prim.Native.Nat.{ℕ, _+_}
 use lib.Dec.{leb, eqb}
 use lib.ListN.{length}
 use Rattle.blas.specs.Column.{Column, allFinite}

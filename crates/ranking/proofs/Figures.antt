@@ -7,7 +7,7 @@ use lib.Ieee.{fin, neg, lt, ofBits}
 use Rattle.blas.specs.Numbers.{magnitude}
 use Rattle.blas.specs.Column.{allFinite}
 use Rattle.refusals.specs.Refusals.{firstOf, outside}
-use Rattle.ranking.specs.Ranking.{ahead, insertPad, ranked, padsTo, rankingRefusal, Ranking, ranking}
+use Rattle.ranking.specs.Ranking.{ahead, insertPad, ranked, padsTo, rankingRefusal, ranking}
 
 -- "loads 1, -3, 3: pads 2, 3, 1"
 pub one-three-three : ranking 3 (fin false 1 (pos 0) ∷ fin true 3 (pos 0) ∷ fin false 3 (pos 0) ∷ []) (0 ∷ 0 ∷ 0 ∷ []) ≡ record { number = 0; ranks = 2 ∷ 3 ∷ 1 ∷ [] }

@@ -1,7 +1,7 @@
 // Document 01, "Ranking and program": the pads of a crossing, greatest load first.
 ghost use mathlib.Core.Path.{_≡_};
 ghost use mathlib.Core.List.{_++_};
-ghost use Prim.Native.Nat.{ℕ, _+_, _≤_, _<_};
+ghost use Prim.Native.Nat.{ℕ, _+_, _<_};
 ghost use lib.ListN.{length, getD, take, drop};
 ghost use Rattle.refusals.specs.Refusals.{answerOf};
 ghost use Rattle.ranking.specs.Ranking.{IsPad, ahead, insertPad, rankingRefusal, ranking};

@@ -1,6 +1,6 @@
 -- What a call's refusal number says: with none, the three slices are matrices of the call's sizes and the work is done on a copy of the
 -- right-hand sides; with one, the result's slice stays. By the tests in turn. Assumes nothing.
-use mathlib.Core.Path.{_≡_, refl, sym, ap, _∙_}
+use mathlib.Core.Path.{_≡_, sym, ap, _∙_}
 use mathlib.Core.Bool.{true, not, _&&_}
 use Prim.Native.Nat.{ℕ}
 use borrow.Author.Tests.{ne-eqb, not-false}

@@ -1,6 +1,6 @@
 -- The loops of a solve in the terms of its meaning: which row a turn works on, what a turn makes of a column, and that no turn changes how
 -- many rows there are. By cases on the kind of solve. Assumes nothing.
-use mathlib.Core.Path.{_≡_, refl, sym, ap, ap₂, _∙_}
+use mathlib.Core.Path.{_≡_, sym, ap, ap₂, _∙_}
 use Prim.Native.Nat.{ℕ, _+_, _-_, _*_, _≤_, _<_}
 use native.Mathlib.Omega.{arith}
 use borrow.Rule.Slice.PartMut.{midOf}

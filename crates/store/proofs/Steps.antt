@@ -1,5 +1,5 @@
 -- The steps on the columns, as the loops and the callers meet them: a range of columns, and that the shape of the matrix is kept. Assumes nothing.
-use mathlib.Core.Path.{_≡_, refl, sym, ap, _∙_}
+use mathlib.Core.Path.{_≡_, sym, ap, _∙_}
 use mathlib.Core.Bool.{cond}
 use mathlib.Core.List.{List, []}
 use Prim.Native.Nat.{ℕ, _+_, _-_, _*_, _≤_, _<_, min}
@@ -9,7 +9,6 @@ use borrow.Rule.Slice.PartMut.{midOf, putMid, same-len-mid}
 use lib.Dec.{ltb}
 use lib.ListN.{length, set}
 use lib.Ieee.{Float, nan}
-use Rattle.blas.specs.Each.{eachFrom}
 use Rattle.blas.specs.Column.{Column, swapRows, copied}
 use Rattle.blas.proofs.Choice.{test-cases, cond-cases}
 use Rattle.blas.proofs.Each.{length-each, each-id, each-same}

@@ -1,7 +1,6 @@
 // Work on whole matrices that lie column after column in a slice: the views and swaps of nalgebra's Matrix, for f64.
 // A slice that does not hold n columns of m entries, both at most 64, stays as it was.
 ghost use mathlib.Core.Path.{_≡_};
-ghost use mathlib.Core.Bool.{true};
 ghost use Prim.Native.Nat.{_*_, _<_, min};
 ghost use lib.ListN.{length, set};
 ghost use Rattle.store.specs.Columns.{columns, isMatrix, onColumns};

@@ -1,7 +1,4 @@
 -- By the sign's test. Assumes nothing.
-use mathlib.Core.Path.{_≡_, refl, sym, ap}
-use mathlib.Core.Bool.{Bool, cond}
-use lib.Ieee.{neg}
 use Rattle.blas.specs.Numbers.{magnitude}
 use Rattle.blas.proofs.magnitude.Statement.{statement}
 use Rattle.blas.proofs.magnitude.Tie as tie

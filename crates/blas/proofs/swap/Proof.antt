@@ -1,8 +1,6 @@
 -- Two stores, by the tests of both places. Assumes nothing.
-use mathlib.Core.Path.{refl}
 use borrow.Author.Needs.{needs}
 use borrow.Author.Tests.{lt-ltb, le-ltb}
-use lib.ListN.{length}
 use Rattle.blas.specs.Column.{exchanged}
 use Rattle.blas.proofs.swap.Statement.{statement}
 use Rattle.blas.proofs.swap.Tie as tie

@@ -1,5 +1,4 @@
 -- By the test. Assumes nothing.
-use mathlib.Core.Path.{refl}
 use borrow.Author.Needs.{needs}
 use borrow.Author.Tests.{lt-ltb, le-ltb}
 use Rattle.panel.proofs.glyph.Statement.{statement}

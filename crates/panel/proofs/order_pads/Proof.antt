@@ -1,9 +1,9 @@
 -- Solving, then ranking, each in the front of its store. Assumes nothing.
 use Prim.Native.Nat.{_*_, _≤_}
-use mathlib.Core.Path.{_≡_, refl, sym, _∙_}
+use mathlib.Core.Path.{refl, _∙_}
 use native.Mathlib.Omega.{arith}
 use borrow.Author.Needs.{needs}
-use lib.ListN.{length, take}
+use lib.ListN.{length}
 use lib.Seq.{length-take-le}
 use Rattle.blas.specs.Numbers.{zero64}
 use Rattle.panel.proofs.Ordering.{square, taken-zeros, taken-count, zeros-count, front-count, front-fits, same-pads, no-pads, ordered-refused, ordered-done, shown-done}

@@ -1,8 +1,8 @@
 -- The four pieces of a line, one behind the other (`line-written`). Assumes nothing.
 use native.Mathlib.Omega.{arith}
-use borrow.Author.Needs.{needs}
 use lib.ListN.{length-set}
-use Rattle.panel.proofs.Writing.{finite-number, length-decimal, line-room, line-written}
+use Rattle.panel_file.proofs.Bits.{no-nan}
+use Rattle.panel.proofs.Writing.{length-decimal, line-room, line-written}
 use Rattle.panel.proofs.put_line.Statement.{statement}
 use Rattle.panel.proofs.put_line.Tie as tie
 
@@ -21,7 +21,7 @@ add-hex c =
 float-to-bits-put-hex : tie.Need-float-to-bits-put-hex
 float-to-bits-put-hex c =
     let at-start = c .before .before .before .before .before .before in
-    finite-number (at-start .args .load) (at-start .pre .2)
+    no-nan (at-start .args .load) (at-start .pre .2)
 
 put-hex-requires : tie.Need-put-hex-requires
 put-hex-requires c κs =

@@ -1,5 +1,4 @@
 -- The word, the number, the newline. Assumes nothing.
-use mathlib.Core.Path.{refl, sym, _∙_}
 use mathlib.Core.List.{[], _∷_}
 use native.Mathlib.Omega.{arith}
 use borrow.Author.Needs.{needs}

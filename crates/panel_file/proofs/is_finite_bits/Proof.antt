@@ -1,5 +1,4 @@
 -- By the exponent's field (`bits-finite`). Assumes nothing.
-use borrow.Author.Needs.{needs}
 use Rattle.panel_file.proofs.Bits.{bits-finite}
 use Rattle.panel_file.proofs.is_finite_bits.Statement.{statement}
 use Rattle.panel_file.proofs.is_finite_bits.Tie as tie

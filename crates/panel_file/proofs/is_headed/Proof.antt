@@ -1,6 +1,6 @@
 -- The tests in turn; the version by its two bytes. Assumes nothing.
 use Prim.Native.Nat.{ℕ, _+_, _*_}
-use mathlib.Core.Path.{refl, ap₂}
+use mathlib.Core.Path.{ap₂}
 use borrow.Author.Tests.{lt-leb}
 use borrow.Author.Needs.{needs}
 use Rattle.panel_file.specs.File.{headed}

@@ -1,5 +1,4 @@
 -- The tests one within the other, as the definition has them. Assumes nothing.
-use mathlib.Core.Path.{_≡_}
 use borrow.Author.Needs.{needs}
 use Rattle.refusals.specs.Refusals.{firstOf}
 use Rattle.permutation_sequence.specs.Calls.{appendingRefusal}

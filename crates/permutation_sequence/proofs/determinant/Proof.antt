@@ -1,6 +1,5 @@
 -- By the rest on division by 2. Assumes nothing.
 use Prim.Native.Nat.{_%_}
-use mathlib.Core.Path.{refl}
 use borrow.Author.Tests.{eq-eqb, ne-eqb}
 use Rattle.permutation_sequence.specs.Permute.{signOf}
 use Rattle.permutation_sequence.proofs.determinant.Statement.{statement}

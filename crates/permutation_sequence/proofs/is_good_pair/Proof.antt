@@ -1,5 +1,4 @@
 -- The three tests in turn. Assumes nothing.
-use mathlib.Core.Path.{refl}
 use borrow.Author.Tests.{eq-eqb, ne-eqb, lt-ltb, le-ltb}
 use Rattle.permutation_sequence.specs.SwapList.{goodPair}
 use Rattle.permutation_sequence.proofs.is_good_pair.Statement.{statement}

@@ -1,5 +1,4 @@
 -- By the direction. Assumes nothing.
-use mathlib.Core.Path.{refl}
 use native.Mathlib.Omega.{arith}
 use Rattle.permutation_sequence.specs.Permute.{pairOfTurn}
 use Rattle.permutation_sequence.proofs.pair_of_turn.Statement.{statement}

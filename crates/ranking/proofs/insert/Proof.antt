@@ -4,7 +4,6 @@ use mathlib.Core.Path.{refl, sym, _∙_}
 use mathlib.Core.Logic.{⊎-elim}
 use native.Mathlib.Omega.{arith}
 use borrow.Author.Needs.{needs}
-use lib.ListN.{length-set}
 use Rattle.ranking.proofs.Inserting.{Pushing, turn-moves, turn-stays, turns-end}
 use Rattle.ranking.proofs.insert.Statement.{statement}
 use Rattle.ranking.proofs.insert.Tie as tie

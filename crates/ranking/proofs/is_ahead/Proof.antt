@@ -1,5 +1,5 @@
 -- By the two tests, as the meaning has them. Assumes nothing.
-use mathlib.Core.Path.{_≡_, refl, sym, ap₂, _∙_}
+use mathlib.Core.Path.{sym, ap₂, _∙_}
 use borrow.Author.Needs.{needs}
 use lib.Ieee.{lt}
 use Rattle.ranking.specs.Ranking.{ahead}

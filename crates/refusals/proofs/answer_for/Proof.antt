@@ -1,5 +1,4 @@
 -- By the test for 0. Assumes nothing.
-use mathlib.Core.Path.{refl}
 use borrow.Author.Tests.{eq-eqb, ne-eqb}
 use Rattle.refusals.specs.Refusals.{answerOf}
 use Rattle.refusals.proofs.answer_for.Statement.{statement}

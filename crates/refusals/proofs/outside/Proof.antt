@@ -1,5 +1,4 @@
 -- The two tests in turn. Assumes nothing.
-use mathlib.Core.Path.{refl}
 use borrow.Author.Tests.{lt-ltb, le-ltb}
 use Rattle.refusals.specs.Refusals.{outside}
 use Rattle.refusals.proofs.outside.Statement.{statement}

@@ -1,5 +1,4 @@
 -- The given diagonal where there is one, else the matrix's own. Assumes nothing.
-use mathlib.Core.Path.{refl}
 use borrow.Author.Needs.{needs}
 use Rattle.solve.proofs.Given.{own-stands}
 use Rattle.solve.proofs.divisor.Statement.{statement}

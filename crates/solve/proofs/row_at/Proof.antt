@@ -1,5 +1,4 @@
 -- Each kind's direction. Assumes nothing.
-use mathlib.Core.Path.{refl}
 use borrow.Author.Needs.{needs}
 use Rattle.solve.proofs.row_at.Statement.{statement}
 use Rattle.solve.proofs.row_at.Tie as tie

@@ -1,5 +1,5 @@
 -- The two tests in turn. Assumes nothing.
-use mathlib.Core.Path.{refl, sym, _∙_}
+use mathlib.Core.Path.{sym, _∙_}
 use borrow.Author.Needs.{needs}
 use Rattle.solve.specs.Calls.{sizesOutside}
 use Rattle.solve.proofs.sizes_outside.Statement.{statement}

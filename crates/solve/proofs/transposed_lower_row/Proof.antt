@@ -1,5 +1,5 @@
 -- The difference, divided, is stored. Assumes nothing.
-use mathlib.Core.Path.{refl, ap₂, _∙_}
+use mathlib.Core.Path.{ap₂, _∙_}
 use borrow.Author.Needs.{needs}
 use Rattle.blas.specs.Dot.{dotOf}
 use Rattle.solve.specs.Triangular.{transposedLowerRow}

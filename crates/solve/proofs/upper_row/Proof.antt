@@ -1,5 +1,4 @@
 -- The quotient is stored, and drives the update of the rows above, which are lent as a part. Assumes nothing.
-use mathlib.Core.Path.{refl}
 use native.Mathlib.Omega.{arith}
 use borrow.Author.Needs.{needs}
 use lib.ListN.{length-set, length-take, length-drop, length-append}

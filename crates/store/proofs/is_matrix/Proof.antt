@@ -1,5 +1,4 @@
 -- The three tests in turn; a product of two numbers up to 64 does not wrap. Assumes nothing.
-use mathlib.Core.Path.{refl}
 use native.Mathlib.Nat.{mul-le-mul}
 use native.Mathlib.Omega.{arith}
 use borrow.Author.Tests.{le-leb, lt-leb}

@@ -6,7 +6,7 @@ use borrow.Author.Needs.{needs}
 use borrow.Author.Tests.{not-true, not-false}
 use lib.ListN.{length}
 use Rattle.store.specs.Columns.{columns}
-use Rattle.store.specs.Steps.{stepColumn, stepColumns}
+use Rattle.store.specs.Steps.{stepColumns}
 use Rattle.store.proofs.Columns.{sized, column-within, column-turn, column-stop, on-none, on-done}
 use Rattle.store.proofs.step_columns.Statement.{statement}
 use Rattle.store.proofs.step_columns.Tie as tie
