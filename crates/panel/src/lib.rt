@@ -6,7 +6,6 @@ ghost use Prim.Native.Nat.{ℕ, _+_, _*_, _<_, _≤_};
 ghost use lib.ListN.{length, getD, take, replicate};
 ghost use lib.Ieee.Scale.{finite};
 ghost use Rattle.blas.specs.Column.{allFinite, zeros};
-ghost use Rattle.refusals.specs.Refusals.{numberOf};
 ghost use Rattle.ranking.specs.Ranking.{IsPad};
 ghost use Rattle.io.specs.Counts.{Counts};
 ghost use Rattle.io.specs.Digits.{digits, glyph as Digits·glyph};
@@ -17,22 +16,11 @@ use from_factors::Det;
 use lu::Factored;
 use lu::Record;
 use panel_file::Panel;
-use refusals::Answer;
 
 // What a call on a panel file answers: how many pads it has, or a refusal's number.
 pub enum Order {
     Pads(usize),
     Refused(usize),
-}
-
-// The number that an answer stands for, 0 for none.
-fn number_of(answer: Answer) -> usize
-    ensures { λ r. ⌜ r ≡ numberOf answer ⌝ }
-{
-    match answer {
-        Answer::Done => 0,
-        Answer::Refused(number) => number,
-    }
 }
 
 // Solves for the right-hand side b, into x, by the system or by the transposed one. Answers the refusal, 0 for none.
@@ -48,9 +36,9 @@ fn solve_system(
     ensures { λ _. ⌜ now (x .exit) ≡ systemOf transposed told (now (factors .entry)) (now (swaps .entry)) 1 (now (b .entry)) (now (x .entry)) .result ⌝ }
 {
     if transposed {
-        number_of(from_factors::tr_solve(factors, swaps, told, b, 1, x))
+        refusals::number_of(from_factors::tr_solve(factors, swaps, told, b, 1, x))
     } else {
-        number_of(from_factors::solve(factors, swaps, told, b, 1, x))
+        refusals::number_of(from_factors::solve(factors, swaps, told, b, 1, x))
     }
 }
 

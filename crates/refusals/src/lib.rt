@@ -1,7 +1,7 @@
 // Document 01, "Refusal numbers": what the calls share of testing their input and of answering.
 ghost use mathlib.Core.Path.{_≡_};
 ghost use mathlib.Core.Bool.{cond};
-ghost use Rattle.refusals.specs.Refusals.{outside, answerOf, seventh};
+ghost use Rattle.refusals.specs.Refusals.{outside, answerOf, numberOf, seventh};
 
 // What a call answers whose results are lent slices.
 pub enum Answer {
@@ -34,6 +34,16 @@ pub fn answer_for(number: usize) -> Answer
         return Answer::Done;
     }
     Answer::Refused(number)
+}
+
+// The refusal number that an answer stands for, 0 for none.
+pub fn number_of(answer: Answer) -> usize
+    ensures { λ r. ⌜ r ≡ numberOf answer ⌝ }
+{
+    match answer {
+        Answer::Done => 0,
+        Answer::Refused(number) => number,
+    }
 }
 
 // Refusal 7: where some result is not finite, all results become +0.0. Answers 7 then, else 0.

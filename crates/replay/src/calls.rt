@@ -27,17 +27,9 @@ pub struct Sizes {
     pub k: usize,
 }
 
-// The refusal number of an answer, 0 where it is accepted.
-fn number_of(answer: Answer) -> usize {
-    match answer {
-        Answer::Done => 0,
-        Answer::Refused(number) => number,
-    }
-}
-
 // The line of a call whose result is one lent slice.
 fn put_result(text: &mut [u8], from: usize, answer: Answer, result: &[f64]) -> usize {
-    let at = put_whole(text, from, number_of(answer));
+    let at = put_whole(text, from, refusals::number_of(answer));
     put_floats(text, at, result)
 }
 
@@ -332,7 +324,7 @@ pub fn append(
 // Op 19.
 pub fn rank(text: &mut [u8], from: usize, n: usize, loads: &[f64], ranks: &mut [usize]) -> usize {
     let answer = ranking::rank(loads, n, ranks);
-    let at = put_whole(text, from, number_of(answer));
+    let at = put_whole(text, from, refusals::number_of(answer));
     put_wholes(text, at, ranks)
 }
 

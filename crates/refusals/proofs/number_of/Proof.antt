@@ -1,9 +1,9 @@
 -- Case by case. Assumes nothing.
 use mathlib.Core.Path.{sym, ap}
 use borrow.Author.Needs.{needs}
 use Rattle.refusals.specs.Refusals.{numberOf}
-use Rattle.panel.proofs.number_of.Statement.{statement}
-use Rattle.panel.proofs.number_of.Tie as tie
+use Rattle.refusals.proofs.number_of.Statement.{statement}
+use Rattle.refusals.proofs.number_of.Tie as tie
 
 returns : tie.Need-returns
 unfolding numberOf
