@@ -1,0 +1,31 @@
+-- Case by case. Assumes nothing.
+use borrow.Author.Needs.{needs}
+use Rattle.ffi.proofs.Told.{added-told, not-added}
+use Rattle.ffi.proofs.wejdarox_add_column.Statement.{statement}
+use Rattle.ffi.proofs.wejdarox_add_column.Tie as tie
+
+returns : tie.Need-returns
+returns c =
+    let p = c .before .before .before .before .before .before .before .add-column .ensures in
+    let o = added-told _ _ _ _ _ _ (p .0) _ _ (c .before .told .given .1) in
+    (o .0, (p .1 .0, (p .1 .1, o .1)))
+
+returns-2 : tie.Need-returns-2
+returns-2 c =
+    let p = c .before .before .before .before .before .before .before .add-column .ensures in
+    let o = not-added _ _ _ _ _ _ (p .0) _ _ (c .before .number .given .1) in
+    (o .0, (p .1 .0, (p .1 .1, o .1)))
+
+pub wejdarox-add-column-spec : {M : Type 1} → statement M
+wejdarox-add-column-spec =
+    tie.close
+    (tie.spec
+    (λ c κs. search needs)
+    (λ c. search needs)
+    (λ c. search needs)
+    (λ c. search needs)
+    (λ c. search needs)
+    returns
+    (λ c. search needs)
+    (λ c. search needs)
+    returns-2)

@@ -1,0 +1,228 @@
+// The calls for C and Rust, under plain names: a slice is a pointer and a length, a refusal's number is the answer (0 for none), and a further number is
+// written through a pointer. Each hands its arguments on and adds nothing of its own; include/wejdarox.h is the caller's side.
+ghost use mathlib.Core.Path.{_≡_};
+ghost use Rattle.store.specs.Columns.{columns};
+ghost use Rattle.ranking.specs.Ranking.{ranking};
+ghost use Rattle.lu.specs.Factoring.{recordOf, factoring};
+ghost use Rattle.lu.specs.Adding.{factorsIn, adding};
+ghost use Rattle.lu.specs.TossUps.{tossUps, ownTossUp};
+ghost use Rattle.from_factors.specs.Solving.{solving, inverting};
+ghost use Rattle.from_factors.specs.Determinant.{numberOf, testNumberOf, determining, inverseTest};
+ghost use Rattle.panel.specs.Ordering.{ordering};
+ghost use Rattle.ffi.specs.Exports.{tossesOf, valueAfter, truthAfter};
+use from_factors::Det;
+use from_factors::Invertible;
+use lu::Added;
+use lu::Factored;
+use lu::Record;
+use panel::Order;
+
+// Factors the m by n matrix a. Refused: no pairs and no toss-ups.
+#[no_mangle]
+pub extern "C" fn wejdarox_factor(
+    a: &[f64],
+    m: usize,
+    n: usize,
+    factors: &mut [f64],
+    swaps: &mut [usize],
+    pairs: &mut usize,
+    toss_ups: &mut usize,
+) -> usize
+    ensures { λ r. ⌜ r ≡ factoring m n (now (a .entry)) (now (factors .entry)) (now (swaps .entry)) .number ⌝ }
+    ensures { λ _. ⌜ now (factors .exit) ≡ factoring m n (now (a .entry)) (now (factors .entry)) (now (swaps .entry)) .factors ⌝ }
+    ensures { λ _. ⌜ now (swaps .exit) ≡ factoring m n (now (a .entry)) (now (factors .entry)) (now (swaps .entry)) .store ⌝ }
+    ensures { λ _. ⌜ now (pairs .exit) ≡ factoring m n (now (a .entry)) (now (factors .entry)) (now (swaps .entry)) .told .pairs ⌝ }
+    ensures { λ _. ⌜ now («toss_ups» .exit) ≡ tossesOf (factoring m n (now (a .entry)) (now (factors .entry)) (now (swaps .entry))) (tossUps m (columns m n (now (a .entry)))) ⌝ }
+{
+    match lu::factor(a, m, n, factors, swaps) {
+        Factored::Accepted {
+            told,
+            toss_ups: tossed,
+        } => {
+            *pairs = told.pairs;
+            *toss_ups = tossed;
+            0
+        }
+        Factored::Refused(number) => {
+            *pairs = 0;
+            *toss_ups = 0;
+            number
+        }
+    }
+}
+
+// Adds a raw column to m by n factors with *pairs swaps. Refused: *pairs as it was, and no toss-ups.
+#[no_mangle]
+pub extern "C" fn wejdarox_add_column(
+    factors: &mut [f64],
+    column: &[f64],
+    swaps: &mut [usize],
+    m: usize,
+    n: usize,
+    pairs: &mut usize,
+    toss_ups: &mut usize,
+) -> usize
+    ensures { λ r. ⌜ r ≡ adding (recordOf m n (now (pairs .entry))) (now (factors .entry)) (now (column .entry)) (now (swaps .entry)) .number ⌝ }
+    ensures { λ _. ⌜ now (factors .exit) ≡ adding (recordOf m n (now (pairs .entry))) (now (factors .entry)) (now (column .entry)) (now (swaps .entry)) .factors ⌝ }
+    ensures { λ _. ⌜ now (swaps .exit) ≡ adding (recordOf m n (now (pairs .entry))) (now (factors .entry)) (now (column .entry)) (now (swaps .entry)) .store ⌝ }
+    ensures { λ _. ⌜ now (pairs .exit) ≡ adding (recordOf m n (now (pairs .entry))) (now (factors .entry)) (now (column .entry)) (now (swaps .entry)) .told .pairs ⌝ }
+    ensures { λ _. ⌜ now («toss_ups» .exit) ≡ tossesOf (adding (recordOf m n (now (pairs .entry))) (now (factors .entry)) (now (column .entry)) (now (swaps .entry))) (ownTossUp m (factorsIn m n (now (pairs .entry)) (now (factors .entry)) (now (swaps .entry))) (now (column .entry))) ⌝ }
+{
+    let was = *pairs;
+    let held = Record {
+        rows: m,
+        columns: n,
+        pairs: was,
+    };
+    match lu::add_column(factors, column, swaps, held) {
+        Added::Accepted {
+            told,
+            toss_ups: tossed,
+        } => {
+            *pairs = told.pairs;
+            *toss_ups = tossed;
+            0
+        }
+        Added::Refused { number, told: _ } => {
+            *toss_ups = 0;
+            number
+        }
+    }
+}
+
+// Solves for the k right-hand columns b, into x, by m by n factors with that many pairs of swaps.
+#[no_mangle]
+pub extern "C" fn wejdarox_solve(
+    factors: &[f64],
+    swaps: &[usize],
+    m: usize,
+    n: usize,
+    pairs: usize,
+    b: &[f64],
+    k: usize,
+    x: &mut [f64],
+) -> usize
+    ensures { λ r. ⌜ r ≡ solving (recordOf m n pairs) (now (factors .entry)) (now (swaps .entry)) k (now (b .entry)) (now (x .entry)) .number ⌝ }
+    ensures { λ _. ⌜ now (x .exit) ≡ solving (recordOf m n pairs) (now (factors .entry)) (now (swaps .entry)) k (now (b .entry)) (now (x .entry)) .result ⌝ }
+{
+    let told = Record {
+        rows: m,
+        columns: n,
+        pairs,
+    };
+    refusals::number_of(from_factors::solve(factors, swaps, told, b, k, x))
+}
+
+// The inverse, into x.
+#[no_mangle]
+pub extern "C" fn wejdarox_inverse(
+    factors: &[f64],
+    swaps: &[usize],
+    m: usize,
+    n: usize,
+    pairs: usize,
+    x: &mut [f64],
+) -> usize
+    ensures { λ r. ⌜ r ≡ inverting (recordOf m n pairs) (now (factors .entry)) (now (swaps .entry)) (now (x .entry)) .number ⌝ }
+    ensures { λ _. ⌜ now (x .exit) ≡ inverting (recordOf m n pairs) (now (factors .entry)) (now (swaps .entry)) (now (x .entry)) .result ⌝ }
+{
+    let told = Record {
+        rows: m,
+        columns: n,
+        pairs,
+    };
+    refusals::number_of(from_factors::inverse(factors, swaps, told, x))
+}
+
+// The determinant, through value. Refused with 7 it is +0.0, else refused as it was.
+#[no_mangle]
+pub extern "C" fn wejdarox_determinant(
+    factors: &[f64],
+    swaps: &[usize],
+    m: usize,
+    n: usize,
+    pairs: usize,
+    value: &mut f64,
+) -> usize
+    ensures { λ r. ⌜ r ≡ numberOf (determining (recordOf m n pairs) (now (factors .entry)) (now (swaps .entry))) ⌝ }
+    ensures { λ _. ⌜ now (value .exit) ≡ valueAfter (determining (recordOf m n pairs) (now (factors .entry)) (now (swaps .entry))) (now (value .entry)) ⌝ }
+{
+    let told = Record {
+        rows: m,
+        columns: n,
+        pairs,
+    };
+    match from_factors::determinant(factors, swaps, told) {
+        Det::Number(d) => {
+            *value = d;
+            0
+        }
+        Det::Refused(number) => {
+            if number == 7 {
+                *value = 0.0;
+            }
+            number
+        }
+    }
+}
+
+// Whether the factored matrix is invertible, through invertible. Refused: as it was.
+#[no_mangle]
+pub extern "C" fn wejdarox_is_invertible(
+    factors: &[f64],
+    swaps: &[usize],
+    m: usize,
+    n: usize,
+    pairs: usize,
+    invertible: &mut bool,
+) -> usize
+    ensures { λ r. ⌜ r ≡ testNumberOf (inverseTest (recordOf m n pairs) (now (factors .entry)) (now (swaps .entry))) ⌝ }
+    ensures { λ _. ⌜ now (invertible .exit) ≡ truthAfter (inverseTest (recordOf m n pairs) (now (factors .entry)) (now (swaps .entry))) (now (invertible .entry)) ⌝ }
+{
+    let told = Record {
+        rows: m,
+        columns: n,
+        pairs,
+    };
+    match from_factors::is_invertible(factors, swaps, told) {
+        Invertible::Is(holds) => {
+            *invertible = holds;
+            0
+        }
+        Invertible::Refused(number) => number,
+    }
+}
+
+// Ranks the n loads.
+#[no_mangle]
+pub extern "C" fn wejdarox_rank(loads: &[f64], n: usize, ranks: &mut [usize]) -> usize
+    ensures { λ r. ⌜ r ≡ ranking n (now (loads .entry)) (now (ranks .entry)) .number ⌝ }
+    ensures { λ _. ⌜ now (ranks .exit) ≡ ranking n (now (loads .entry)) (now (ranks .entry)) .ranks ⌝ }
+{
+    refusals::number_of(ranking::rank(loads, n, ranks))
+}
+
+// The whole answer for a panel file, its number of pads through pads. Refused: no pads.
+#[no_mangle]
+pub extern "C" fn wejdarox_pad_order(
+    file: &[u8],
+    ranks: &mut [usize; 64],
+    loads: &mut [f64; 64],
+    pads: &mut usize,
+) -> usize
+    ensures { λ r. ⌜ r ≡ ordering (now (file .entry)) (now (ranks .entry)) (now (loads .entry)) .number ⌝ }
+    ensures { λ _. ⌜ now (ranks .exit) ≡ ordering (now (file .entry)) (now (ranks .entry)) (now (loads .entry)) .ranks ⌝ }
+    ensures { λ _. ⌜ now (loads .exit) ≡ ordering (now (file .entry)) (now (ranks .entry)) (now (loads .entry)) .loads ⌝ }
+    ensures { λ _. ⌜ now (pads .exit) ≡ ordering (now (file .entry)) (now (ranks .entry)) (now (loads .entry)) .pads ⌝ }
+{
+    match panel::pad_order(file, ranks, loads) {
+        Order::Pads(n) => {
+            *pads = n;
+            0
+        }
+        Order::Refused(number) => {
+            *pads = 0;
+            number
+        }
+    }
+}
