@@ -2,6 +2,7 @@ pub mod Outcomes
 pub mod Table
 pub mod WrongAnswers
 pub mod WrongColumns
+pub mod WrongExports
 pub mod WrongFiles
 pub mod WrongSwaps
 pub mod WrongPrograms

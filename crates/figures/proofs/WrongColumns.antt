@@ -18,14 +18,15 @@ use Rattle.blas.specs.declared.FoundPivot.{FoundPivot}
 use Rattle.blas.specs.Dot.{addProduct, addBlock, eightSums, pairSums, dotOf}
 use Rattle.store.specs.Columns.{columns, flat, isMatrix, onColumns}
 use Rattle.store.specs.Steps.{column, swapInAll, rowsSwapped, columnsSwapped, stepColumn, stepColumns, eliminated}
-use Rattle.refusals.specs.declared.Answer.the-variants.{Refused}
-use Rattle.refusals.specs.Refusals.{firstOf, outside, answerOf, Outcome, seventh}
+use Rattle.refusals.specs.declared.Answer.{Answer}
+use Rattle.refusals.specs.declared.Answer.the-variants.{Done, Refused}
+use Rattle.refusals.specs.Refusals.{firstOf, outside, answerOf, numberOf, Outcome, seventh}
 use Rattle.from_factors.proofs.Figures.{n0, n1, n2}
 use Rattle.figures.proofs.Outcomes.{TwoShutOut, two}
 
 -- a name for all that has to unfold for these calls to compute
 runs : Type 0
-unfolding add sub mul div neg eq lt ofBits eachFrom turnsFrom isZero magnitude searchFrom pivotRow exchanged scaleFrom axpyFrom allFinite copied addProduct addBlock eightSums pairSums dotOf columns flat isMatrix onColumns swapInAll rowsSwapped stepColumn stepColumns eliminated firstOf outside answerOf seventh
+unfolding add sub mul div neg eq lt ofBits eachFrom turnsFrom isZero magnitude searchFrom pivotRow exchanged scaleFrom axpyFrom allFinite copied addProduct addBlock eightSums pairSums dotOf columns flat isMatrix onColumns swapInAll rowsSwapped stepColumn stepColumns eliminated firstOf outside answerOf numberOf seventh
 runs = Unit {0}
 
 abbrev -n1 : Float
@@ -232,6 +233,15 @@ first-call = two firsts (λ x. x .1 .1) (1, (true, 0)) (1, (true, 0)) (1, (false
 pub answer-for : TwoShutOut answerOf Refused
 unfolding runs
 answer-for = two answerOf Refused 0 0 1 (λ d. let z : _≡_ {A = ℕ} 0 1 = cc in omega arith) (λ d. let z : _≡_ {A = ℕ} 0 1 = cc in omega arith)
+
+-- 1 for every refusal
+abbrev told-one : Answer → ℕ
+told-one Done = 0
+told-one (Refused number) = 1
+
+pub number-of : TwoShutOut numberOf told-one
+unfolding runs
+number-of = two numberOf told-one (Refused 7) (Refused 7) Done (λ d. omega (arith, d)) (λ d. omega (arith, d))
 
 -- 0 always, the slice as it was
 pub settle : TwoShutOut seventh (λ c. record { number = 0; result = c })
