@@ -1,0 +1,334 @@
+/*
+ * wejdarox.h: the calls of the static library `ffi` (see README.md) for C and C++.
+ *
+ * The f64 LU decomposition with row pivoting of nalgebra 0.35.0, for small panels, and the order in which pads are lifted. Every function is proved to
+ * end, to stay within the buffers that it is lent, and to answer and leave what is written here, on every input.
+ *
+ *  Matrices   lie column after column (column-major): entry (i, j) of a matrix of m rows is a[j*m + i], counted from 0.
+ *  Limits     1 to 64 rows, 0 to 64 columns, 1 to 64 right-hand columns, 1 to 64 loads. Past them a call answers 1.
+ *  Lengths    a slice is a pointer and a length, the length counted in elements (bytes for a file). A length that does not fit the sizes is refused with 3.
+ *  Swaps      the swap store has 128 numbers, pair after pair: rows swaps[2*i] and swaps[2*i + 1] were exchanged, i below the number of pairs, counted
+ *             from 0 and in this order. What follows the last pair is 0 after a factoring.
+ *
+ *  Answers    0: done. Else the call was refused, by the first of these that holds; each call lists those that it can give.
+ *             1  a size is outside its limits
+ *             2  the matrix is not square
+ *             3  a length differs from what the sizes ask for
+ *             4  the swap list is bad: a pair of equal numbers, a number not below the row count, or more than min(m, n) pairs
+ *             5  a number that goes in is an infinity or a NaN
+ *             6  the matrix is singular: a zero on the diagonal of its factors
+ *             7  a result is too large for a finite number
+ *             8  not a panel file of version 1
+ *             1 to 6 and 8 are answered before the work: every slice is left as it was. 7 is answered after it: results are +0.0, as each call says.
+ *
+ *  A caller   owes that
+ *             - a pointer beside a length n points to n elements of its type, aligned, for the time of the call, which hold values of the type; where n
+ *               is 0 the pointer is not used, and may be a null pointer;
+ *             - a pointer to one number, or to an array of 64, points to it in the same way and is not a null pointer; outputs too hold some value of
+ *               their type when the call begins (a `bool` holds false or true);
+ *             - what a call may change (a pointer without `const`) is apart from every other slice and number of that call;
+ *             - no other thread changes what is lent, or looks at what may change, until the call returns;
+ *             - the floating-point state is the usual one of the ABI: rounding to nearest, no trap enabled, subnormal numbers kept;
+ *             - the stack has room: on x86-64 wejdarox_pad_order takes 68 KB of it, the others under 1 KB.
+ *             It owes nothing else: sizes, lengths, swap lists and numbers may be anything.
+ *
+ *  Machine    `rt staticlib ffi` writes target/staticlib/libffi.a, code for x86-64 Linux. It needs `memset` and nothing else. No call allocates or keeps
+ *             anything, so calls from several threads are safe on buffers that are apart. A C library of another make is called libffi too: give the
+ *             linker this archive by its path, not as -lffi.
+ */
+#ifndef WEJDAROX_H
+#define WEJDAROX_H
+
+#include <stdbool.h>
+#include <stddef.h>
+#include <stdint.h>
+
+#ifdef __cplusplus
+extern "C" {
+#endif
+
+/* The most rows, columns, right-hand columns and loads; and the length of a swap store. */
+#define WEJDAROX_MOST 64
+#define WEJDAROX_SWAPS 128
+
+/*
+ * wejdarox_factor
+ *
+ *  Purpose
+ *  =======
+ *  Factors the m by n matrix a with row pivoting: with the recorded rows exchanged, a = L * U.
+ *
+ *  Arguments
+ *  =========
+ *  a         (input) double array, dimension (m * n)
+ *            The matrix.
+ *  a_len     (input) the length of a: m * n.
+ *  m         (input) the number of rows, 1 to 64.
+ *  n         (input) the number of columns, 0 to 64.
+ *  factors   (output) double array, dimension (m * n)
+ *            L and U packed: U on and above the diagonal, L below it; the ones on L's diagonal are not stored. It may hold anything before.
+ *  factors_len (input) the length of factors: m * n.
+ *  swaps     (output) array of numbers, dimension (128)
+ *            The exchanged rows, pair after pair; what follows the last pair is 0. It may hold anything before.
+ *  swaps_len (input) the length of swaps: 128.
+ *  pairs     (output) the number of pairs, at most min(m, n). Refused: 0.
+ *  toss_ups  (output) the number of columns whose pivot was a toss-up: another row had the same magnitude, not zero. Refused: 0.
+ *
+ *  Answer
+ *  ======
+ *  0  done
+ *  1  m is not 1 to 64, or n is not 0 to 64             factors and swaps as they were
+ *  3  a_len or factors_len is not m * n, or swaps_len is not 128   factors and swaps as they were
+ *  5  a number of a is not finite                        factors and swaps as they were
+ *  7  a factor is not finite                             factors all +0.0, swaps all 0
+ *  A zero pivot is no refusal: its step is skipped. a is never changed.
+ */
+size_t wejdarox_factor(const double *a, size_t a_len, size_t m, size_t n, double *factors, size_t factors_len,
+                       size_t *swaps, size_t swaps_len, size_t *pairs, size_t *toss_ups);
+
+/*
+ * wejdarox_add_column
+ *
+ *  Purpose
+ *  =======
+ *  Adds one raw column to the factors of an m by n matrix. What it leaves is, bit for bit, what factoring the m by (n + 1) matrix gives, where the
+ *  factors came from accepted calls of wejdarox_factor and wejdarox_add_column.
+ *
+ *  Arguments
+ *  =========
+ *  factors   (input/output) double array, dimension (m * (n + 1))
+ *            On entry the m by n factors, and behind them room for one column, which may hold anything. On exit the factors of m by (n + 1).
+ *  factors_len (input) the length of factors: m * (n + 1).
+ *  column    (input) double array, dimension (m)
+ *            The column as it stands in the matrix.
+ *  column_len (input) the length of column: m.
+ *  swaps     (input/output) array of numbers, dimension (128)
+ *            The exchanged rows; at most one pair is written behind those there are.
+ *  swaps_len (input) the length of swaps: 128.
+ *  m         (input) the number of rows, 1 to 64.
+ *  n         (input) the number of columns before the call, 0 to 63.
+ *  pairs     (input/output) the number of pairs. Refused: as it was.
+ *  toss_ups  (output) 1 where the pivot of the new column was a toss-up, else 0. Refused: 0.
+ *
+ *  Answer
+ *  ======
+ *  0  done: the matrix now has n + 1 columns
+ *  1  m is not 1 to 64, or n is not 0 to 63              factors and swaps as they were
+ *  3  factors_len is not m * (n + 1), column_len is not m, or swaps_len is not 128   factors and swaps as they were
+ *  4  the swap list is bad                               factors and swaps as they were
+ *  5  a number of the n columns or of column is not finite   factors and swaps as they were
+ *  7  a number of the new column is not finite           the room for the column +0.0; the n columns and swaps as they were
+ *  column is never changed.
+ */
+size_t wejdarox_add_column(double *factors, size_t factors_len, const double *column, size_t column_len, size_t *swaps,
+                           size_t swaps_len, size_t m, size_t n, size_t *pairs, size_t *toss_ups);
+
+/*
+ * wejdarox_solve
+ *
+ *  Purpose
+ *  =======
+ *  Solves A * X = B by the factors of the square matrix A.
+ *
+ *  Arguments
+ *  =========
+ *  factors   (input) double array, dimension (m * n)
+ *            The factors, as wejdarox_factor or wejdarox_add_column left them.
+ *  factors_len (input) the length of factors: m * n.
+ *  swaps     (input) array of numbers, dimension (128)
+ *            The exchanged rows.
+ *  swaps_len (input) the length of swaps: 128.
+ *  m         (input) the number of rows, 1 to 64.
+ *  n         (input) the number of columns: m.
+ *  pairs     (input) the number of pairs.
+ *  b         (input) double array, dimension (m * k)
+ *            The k right-hand columns.
+ *  b_len     (input) the length of b: m * k.
+ *  k         (input) the number of right-hand columns, 1 to 64.
+ *  x         (output) double array, dimension (m * k)
+ *            The k solution columns. It may hold anything before.
+ *  x_len     (input) the length of x: m * k.
+ *
+ *  Answer
+ *  ======
+ *  0  done
+ *  1  m or k is not 1 to 64, or n is not 0 to 64         x as it was
+ *  2  m is not n                                         x as it was
+ *  3  factors_len is not m * n, swaps_len is not 128, or b_len or x_len is not m * k   x as it was
+ *  4  the swap list is bad                               x as it was
+ *  5  a number of factors or b is not finite             x as it was
+ *  6  a zero of either sign on the diagonal              x as it was
+ *  7  a number of the solution is not finite             x all +0.0
+ *  factors, swaps and b are never changed.
+ */
+size_t wejdarox_solve(const double *factors, size_t factors_len, const size_t *swaps, size_t swaps_len, size_t m, size_t n,
+                      size_t pairs, const double *b, size_t b_len, size_t k, double *x, size_t x_len);
+
+/*
+ * wejdarox_inverse
+ *
+ *  Purpose
+ *  =======
+ *  The inverse of the square matrix A, by its factors: A * X = I solved.
+ *
+ *  Arguments
+ *  =========
+ *  factors   (input) double array, dimension (m * n)
+ *            The factors, as wejdarox_factor or wejdarox_add_column left them.
+ *  factors_len (input) the length of factors: m * n.
+ *  swaps     (input) array of numbers, dimension (128)
+ *            The exchanged rows.
+ *  swaps_len (input) the length of swaps: 128.
+ *  m         (input) the number of rows, 1 to 64.
+ *  n         (input) the number of columns: m.
+ *  pairs     (input) the number of pairs.
+ *  x         (output) double array, dimension (m * m)
+ *            The inverse. It may hold anything before.
+ *  x_len     (input) the length of x: m * m.
+ *
+ *  Answer
+ *  ======
+ *  0  done
+ *  1  m is not 1 to 64, or n is not 0 to 64              x as it was
+ *  2  m is not n                                         x as it was
+ *  3  factors_len is not m * n, swaps_len is not 128, or x_len is not m * m   x as it was
+ *  4  the swap list is bad                               x as it was
+ *  5  a number of factors is not finite                  x as it was
+ *  6  a zero of either sign on the diagonal              x as it was
+ *  7  a number of the inverse is not finite              x all +0.0
+ *  factors and swaps are never changed.
+ */
+size_t wejdarox_inverse(const double *factors, size_t factors_len, const size_t *swaps, size_t swaps_len, size_t m, size_t n,
+                        size_t pairs, double *x, size_t x_len);
+
+/*
+ * wejdarox_determinant
+ *
+ *  Purpose
+ *  =======
+ *  The determinant of the square matrix A, by its factors. It may underflow to zero while the matrix counts as invertible.
+ *
+ *  Arguments
+ *  =========
+ *  factors   (input) double array, dimension (m * n)
+ *            The factors, as wejdarox_factor or wejdarox_add_column left them.
+ *  factors_len (input) the length of factors: m * n.
+ *  swaps     (input) array of numbers, dimension (128)
+ *            The exchanged rows.
+ *  swaps_len (input) the length of swaps: 128.
+ *  m         (input) the number of rows, 1 to 64.
+ *  n         (input) the number of columns: m.
+ *  pairs     (input) the number of pairs.
+ *  value     (output) the determinant.
+ *
+ *  Answer
+ *  ======
+ *  0  done
+ *  1  m is not 1 to 64, or n is not 0 to 64              value as it was
+ *  2  m is not n                                         value as it was
+ *  3  factors_len is not m * n, or swaps_len is not 128  value as it was
+ *  4  the swap list is bad                               value as it was
+ *  5  a number of factors is not finite                  value as it was
+ *  7  the determinant is not finite                      value +0.0
+ *  factors and swaps are never changed.
+ */
+size_t wejdarox_determinant(const double *factors, size_t factors_len, const size_t *swaps, size_t swaps_len, size_t m,
+                            size_t n, size_t pairs, double *value);
+
+/*
+ * wejdarox_is_invertible
+ *
+ *  Purpose
+ *  =======
+ *  Whether the square matrix A is invertible, by its factors: no zero of either sign on the diagonal.
+ *
+ *  Arguments
+ *  =========
+ *  factors   (input) double array, dimension (m * n)
+ *            The factors, as wejdarox_factor or wejdarox_add_column left them.
+ *  factors_len (input) the length of factors: m * n.
+ *  swaps     (input) array of numbers, dimension (128)
+ *            The exchanged rows.
+ *  swaps_len (input) the length of swaps: 128.
+ *  m         (input) the number of rows, 1 to 64.
+ *  n         (input) the number of columns: m.
+ *  pairs     (input) the number of pairs.
+ *  invertible (output) true or false.
+ *
+ *  Answer
+ *  ======
+ *  0  done
+ *  1  m is not 1 to 64, or n is not 0 to 64              invertible as it was
+ *  2  m is not n                                         invertible as it was
+ *  3  factors_len is not m * n, or swaps_len is not 128  invertible as it was
+ *  4  the swap list is bad                               invertible as it was
+ *  5  a number of factors is not finite                  invertible as it was
+ *  factors and swaps are never changed.
+ */
+size_t wejdarox_is_invertible(const double *factors, size_t factors_len, const size_t *swaps, size_t swaps_len, size_t m,
+                              size_t n, size_t pairs, bool *invertible);
+
+/*
+ * wejdarox_rank
+ *
+ *  Purpose
+ *  =======
+ *  The pads in the order to lift them: greatest magnitude of load first, equal magnitudes by the lower number.
+ *
+ *  Arguments
+ *  =========
+ *  loads     (input) double array, dimension (n)
+ *            The load of each pad.
+ *  loads_len (input) the length of loads: n.
+ *  n         (input) the number of pads, 1 to 64.
+ *  ranks     (output) array of numbers, dimension (n)
+ *            The pads' numbers, counted from 1. It may hold anything before.
+ *  ranks_len (input) the length of ranks: n.
+ *
+ *  Answer
+ *  ======
+ *  0  done
+ *  1  n is not 1 to 64                                   ranks as it was
+ *  3  loads_len or ranks_len is not n                    ranks as it was
+ *  5  a load is not finite                               ranks as it was
+ *  loads is never changed.
+ */
+size_t wejdarox_rank(const double *loads, size_t loads_len, size_t n, size_t *ranks, size_t ranks_len);
+
+/*
+ * wejdarox_pad_order
+ *
+ *  Purpose
+ *  =======
+ *  The whole answer for a panel file: its matrix factored, its readings solved for, the pads ranked by their loads.
+ *
+ *  Arguments
+ *  =========
+ *  file      (input) bytes, dimension (file_len)
+ *            The panel file: the three bytes `LXP`, two of the version 1, one of the number of pads n, then the n * n numbers of the matrix by column and
+ *            the n readings, 8 bytes each, the least byte first.
+ *  file_len  (input) how many bytes the file has: 6 + 8 * (n * n + n).
+ *  ranks     (output) array of numbers, dimension (64)
+ *            The first n are the pads' numbers, counted from 1, in the order to lift them; the others are as they were.
+ *  loads     (output) double array, dimension (64)
+ *            The first n are the pads' loads, in the order of the pads; the others are as they were.
+ *  pads      (output) the number of pads n. Refused: 0.
+ *
+ *  Answer
+ *  ======
+ *  0  done
+ *  1  the number of pads is not 1 to 64                  ranks and loads as they were
+ *  3  the file has not the length that its number of pads asks for   ranks and loads as they were
+ *  5  a number of the file is not finite                 ranks and loads as they were
+ *  6  the matrix is singular                             ranks and loads as they were
+ *  7  a factor or a load is not finite                   the first n loads +0.0; the other loads and ranks as they were
+ *  8  under 6 bytes, another mark or another version     ranks and loads as they were
+ *  8 is tested first, then 1, 3 and 5; 7 of the factoring before 6, and 7 of the solve behind it. file is never changed.
+ */
+size_t wejdarox_pad_order(const uint8_t *file, size_t file_len, size_t ranks[64], double loads[64], size_t *pads);
+
+#ifdef __cplusplus
+}
+#endif
+
+#endif /* WEJDAROX_H */
