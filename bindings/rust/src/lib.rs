@@ -1,0 +1,206 @@
+//! LU decomposition with row pivoting of small `f64` matrices, by the proved static library of this repository.
+//!
+//! Matrices lie column after column, with 1 to 64 rows and up to 64 columns. Sizes, lengths and numbers may be anything: what cannot be answered is refused with
+//! a [`Refusal`], and nothing here panics. See `examples/pads.rs`.
+#![deny(unsafe_code)]
+#![warn(missing_docs)]
+
+mod calls;
+
+use std::error::Error;
+use std::fmt;
+
+#[cfg(not(target_pointer_width = "64"))]
+compile_error!("the library counts in 64-bit numbers");
+
+/// The most rows, columns, right-hand columns and loads that the library takes.
+pub const MOST: usize = 64;
+
+/// What no result needs more of: a longer input is refused whatever the length of the slice for the result.
+const MOST_ENTRIES: usize = MOST * MOST;
+
+/// Why a call was refused.
+#[derive(Clone, Copy, Debug, PartialEq, Eq, Hash)]
+pub enum Refusal {
+    /// 1: a size is outside its limits.
+    Size,
+    /// 2: the matrix is not square.
+    NotSquare,
+    /// 3: a length differs from what the sizes ask for.
+    Length,
+    /// 4: a bad swap list. An [`Lu`] keeps its own, so that none of its calls meets this.
+    SwapList,
+    /// 5: an infinity or a NaN goes in.
+    NotFinite,
+    /// 6: a zero on the diagonal of the factors.
+    Singular,
+    /// 7: a result is not finite.
+    Overflow,
+    /// 8: not a panel file of version 1.
+    NotAPanelFile,
+}
+
+impl Refusal {
+    /// Its number, 1 to 8.
+    pub fn number(self) -> usize {
+        match self {
+            Refusal::Size => 1,
+            Refusal::NotSquare => 2,
+            Refusal::Length => 3,
+            Refusal::SwapList => 4,
+            Refusal::NotFinite => 5,
+            Refusal::Singular => 6,
+            Refusal::Overflow => 7,
+            Refusal::NotAPanelFile => 8,
+        }
+    }
+
+    /// What a call's answer says; no call answers a number past 8.
+    fn told(answer: usize) -> Result<(), Refusal> {
+        match answer {
+            0 => Ok(()),
+            1 => Err(Refusal::Size),
+            2 => Err(Refusal::NotSquare),
+            3 => Err(Refusal::Length),
+            4 => Err(Refusal::SwapList),
+            5 => Err(Refusal::NotFinite),
+            6 => Err(Refusal::Singular),
+            7 => Err(Refusal::Overflow),
+            _ => Err(Refusal::NotAPanelFile),
+        }
+    }
+}
+
+impl fmt::Display for Refusal {
+    fn fmt(&self, f: &mut fmt::Formatter<'_>) -> fmt::Result {
+        let words = match self {
+            Refusal::Size => "a size is outside its limits: 1 to 64 rows, right-hand columns or pads, 0 to 64 columns",
+            Refusal::NotSquare => "the matrix is not square",
+            Refusal::Length => "a length differs from what the sizes ask for",
+            Refusal::SwapList => "the swap list has a pair of equal numbers, a number that is not a row's, or too many pairs",
+            Refusal::NotFinite => "a number is not finite",
+            Refusal::Singular => "the matrix is singular: a zero on the diagonal of its factors",
+            Refusal::Overflow => "a result is too large for a finite number",
+            Refusal::NotAPanelFile => "this is no panel file of version 1: under 6 bytes, another mark or another version",
+        };
+        write!(f, "refused {}: {words}", self.number())
+    }
+}
+
+impl Error for Refusal {}
+
+/// The factors of a matrix, with the exchanged rows and the record of the factoring.
+#[derive(Clone, Debug)]
+pub struct Lu {
+    factors: Vec<f64>,
+    swaps: [usize; 2 * MOST],
+    rows: usize,
+    columns: usize,
+    pairs: usize,
+    toss_ups: usize,
+}
+
+impl Lu {
+    /// Factors the matrix `a` of so many rows and columns, column after column. Refusals: 1, 3, 5, 7. A zero pivot is none: its step is skipped.
+    pub fn factor(a: &[f64], rows: usize, columns: usize) -> Result<Lu, Refusal> {
+        let mut lu = Lu { factors: vec![0.0; a.len().min(MOST_ENTRIES)], swaps: [0; 2 * MOST], rows, columns, pairs: 0, toss_ups: 0 };
+        Refusal::told(calls::factor(a, rows, columns, &mut lu.factors, &mut lu.swaps, &mut lu.pairs, &mut lu.toss_ups))?;
+        Ok(lu)
+    }
+
+    /// Adds one column of the matrix behind the others: the same factors, to the last bit, as factoring the widened matrix.
+    /// Refusals: 1 (there are 64 columns), 3, 5, 7; all is then as it was.
+    pub fn add_column(&mut self, column: &[f64]) -> Result<(), Refusal> {
+        let before = self.factors.len();
+        let mut own = 0;
+        self.factors.resize(before + self.rows, 0.0);
+        let answer = calls::add_column(&mut self.factors, column, &mut self.swaps, self.rows, self.columns, &mut self.pairs, &mut own);
+        if let Err(refusal) = Refusal::told(answer) {
+            self.factors.truncate(before);
+            return Err(refusal);
+        }
+        self.columns += 1;
+        self.toss_ups += own;
+        Ok(())
+    }
+
+    /// Solves for `k` right-hand columns, which lie in `b` one after the other. Refusals: 1, 2, 3, 5, 6, 7.
+    pub fn solve(&self, b: &[f64], k: usize) -> Result<Vec<f64>, Refusal> {
+        let mut x = vec![0.0; b.len().min(MOST_ENTRIES)];
+        Refusal::told(calls::solve(self.held(), b, k, &mut x))?;
+        Ok(x)
+    }
+
+    /// The inverse of a square matrix. Refusals: 2, 6, 7.
+    pub fn inverse(&self) -> Result<Vec<f64>, Refusal> {
+        let mut x = vec![0.0; self.rows * self.rows];
+        Refusal::told(calls::inverse(self.held(), &mut x))?;
+        Ok(x)
+    }
+
+    /// The determinant of a square matrix. It may underflow to zero where the matrix is invertible. Refusals: 2, 7.
+    pub fn determinant(&self) -> Result<f64, Refusal> {
+        let mut value = 0.0;
+        Refusal::told(calls::determinant(self.held(), &mut value))?;
+        Ok(value)
+    }
+
+    /// Whether a square matrix is invertible: no zero on the diagonal of its factors. Refusal: 2.
+    pub fn is_invertible(&self) -> Result<bool, Refusal> {
+        let mut invertible = false;
+        Refusal::told(calls::is_invertible(self.held(), &mut invertible))?;
+        Ok(invertible)
+    }
+
+    /// The number of rows, 1 to 64.
+    pub fn rows(&self) -> usize {
+        self.rows
+    }
+
+    /// The number of columns, 0 to 64.
+    pub fn columns(&self) -> usize {
+        self.columns
+    }
+
+    /// L and U packed, column after column: U on and above the diagonal, L below it without its ones.
+    pub fn factors(&self) -> &[f64] {
+        &self.factors
+    }
+
+    /// The exchanged rows, pair after pair, counted from 0.
+    pub fn swaps(&self) -> impl Iterator<Item = (usize, usize)> + '_ {
+        self.swaps.chunks_exact(2).take(self.pairs).map(|pair| (pair[0], pair[1]))
+    }
+
+    /// In how many columns another row had the pivot's magnitude, so that the first was taken.
+    pub fn toss_ups(&self) -> usize {
+        self.toss_ups
+    }
+
+    fn held(&self) -> calls::Held<'_> {
+        calls::Held { factors: &self.factors, swaps: &self.swaps, rows: self.rows, columns: self.columns, pairs: self.pairs }
+    }
+}
+
+/// The pads' numbers, counted from 1, in the order to lift them: greatest magnitude of load first, equal magnitudes by the lower number. Refusals: 1, 5.
+pub fn rank(loads: &[f64]) -> Result<Vec<usize>, Refusal> {
+    let mut ranks = vec![0; loads.len().min(MOST)];
+    Refusal::told(calls::rank(loads, loads.len(), &mut ranks))?;
+    Ok(ranks)
+}
+
+/// A pad and the load on it.
+#[derive(Clone, Copy, Debug, PartialEq)]
+pub struct Pad {
+    /// Its number, counted from 1.
+    pub number: usize,
+    /// Its load.
+    pub load: f64,
+}
+
+/// The pads of a panel file in the order to lift them. Refusals: 8, 1, 3, 5, 6, 7.
+pub fn pad_order(file: &[u8]) -> Result<Vec<Pad>, Refusal> {
+    let (mut ranks, mut loads, mut pads) = ([0; MOST], [0.0; MOST], 0);
+    Refusal::told(calls::pad_order(file, &mut ranks, &mut loads, &mut pads))?;
+    Ok(ranks[..pads].iter().map(|&number| Pad { number, load: loads[number - 1] }).collect())
+}

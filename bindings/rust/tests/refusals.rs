@@ -1,0 +1,126 @@
+//! Every refusal, with sizes and lengths that are anything; and a refused call leaves the type as it was.
+use wejdarox::{pad_order, rank, Lu, Refusal};
+
+/// All that can be seen of factors.
+fn seen(lu: &Lu) -> (usize, usize, Vec<u64>, Vec<(usize, usize)>, usize) {
+    (lu.rows(), lu.columns(), lu.factors().iter().map(|x| x.to_bits()).collect(), lu.swaps().collect(), lu.toss_ups())
+}
+
+fn refused<T>(answer: Result<T, Refusal>) -> usize {
+    answer.err().map_or(0, Refusal::number)
+}
+
+#[test]
+fn sizes_and_lengths() {
+    let large = vec![1.0; 70 * 70];
+    let sizes = [0, 1, 2, 63, 64, 65, 1 << 32, usize::MAX / 8 + 1, usize::MAX];
+    for rows in sizes {
+        for columns in sizes {
+            for length in [0, 1, 2, 4, 63, 64, 128, 4096, 4900] {
+                let wanted = if !(1..=64).contains(&rows) || columns > 64 {
+                    1
+                } else if rows * columns != length {
+                    3
+                } else {
+                    0
+                };
+                assert_eq!(refused(Lu::factor(&large[..length], rows, columns)), wanted, "{rows} by {columns} of {length}");
+            }
+        }
+    }
+    let lu = Lu::factor(&[2.0, 0.0, 0.0, 4.0], 2, 2).expect("a diagonal");
+    for k in sizes {
+        for length in [0, 1, 2, 4, 128, 4900] {
+            let wanted = if !(1..=64).contains(&k) {
+                1
+            } else if 2 * k != length {
+                3
+            } else {
+                0
+            };
+            assert_eq!(refused(lu.solve(&large[..length], k)), wanted, "{k} right-hand columns of {length}");
+        }
+    }
+    assert_eq!(refused(rank(&[])), 1);
+    assert_eq!(refused(rank(&large)), 1);
+}
+
+#[test]
+fn not_square() {
+    for (rows, columns) in [(1, 0), (2, 1), (1, 2), (64, 63)] {
+        let lu = Lu::factor(&vec![1.0; rows * columns], rows, columns).expect("any shape is factored");
+        assert_eq!(lu.solve(&vec![1.0; rows], 1), Err(Refusal::NotSquare));
+        assert_eq!(lu.inverse(), Err(Refusal::NotSquare));
+        assert_eq!(lu.determinant(), Err(Refusal::NotSquare));
+        assert_eq!(lu.is_invertible(), Err(Refusal::NotSquare));
+    }
+}
+
+#[test]
+fn not_finite() {
+    let lu = Lu::factor(&[1.0], 1, 1).expect("one");
+    for x in [f64::INFINITY, f64::NEG_INFINITY, f64::NAN, -f64::NAN] {
+        assert_eq!(refused(Lu::factor(&[1.0, x], 2, 1)), 5);
+        assert_eq!(refused(lu.solve(&[x], 1)), 5);
+        assert_eq!(refused(rank(&[0.0, x])), 5);
+        assert_eq!(refused(Lu::factor(&[1.0, 1.0], 2, 1).expect("finite").add_column(&[x, 1.0])), 5);
+    }
+}
+
+#[test]
+fn singular() {
+    let lu = Lu::factor(&[1.0, 2.0, 2.0, 4.0], 2, 2).expect("a zero pivot is no refusal of factoring");
+    assert_eq!(lu.is_invertible(), Ok(false));
+    assert_eq!(lu.determinant().map(f64::abs), Ok(0.0));
+    assert_eq!(lu.solve(&[1.0, 1.0], 1), Err(Refusal::Singular));
+    assert_eq!(lu.inverse(), Err(Refusal::Singular));
+}
+
+#[test]
+fn overflow() {
+    let tiny = f64::from_bits(1);
+    assert_eq!(refused(Lu::factor(&[tiny, tiny], 2, 1)), 7);
+    let lu = Lu::factor(&[tiny], 1, 1).expect("the last pivot's reciprocal is not formed");
+    assert_eq!(lu.solve(&[1.0], 1), Err(Refusal::Overflow));
+    assert_eq!(lu.inverse(), Err(Refusal::Overflow));
+    let large = Lu::factor(&[f64::MAX, 0.0, 0.0, f64::MAX], 2, 2).expect("finite factors");
+    assert_eq!(large.determinant(), Err(Refusal::Overflow));
+    assert_eq!(large.is_invertible(), Ok(true));
+}
+
+#[test]
+fn refused_adding_leaves_all() {
+    let mut lu = Lu::factor(&[0.0, 2.0, 1.0], 3, 1).expect("a column");
+    let before = seen(&lu);
+    assert_eq!(before.3, [(0, 1)]);
+    assert_eq!(lu.add_column(&[1.0, 2.0]), Err(Refusal::Length));
+    assert_eq!(lu.add_column(&vec![1.0; 5000]), Err(Refusal::Length));
+    assert_eq!(lu.add_column(&[1.0, f64::NAN, 0.0]), Err(Refusal::NotFinite));
+    assert_eq!(lu.add_column(&[f64::from_bits(1), 0.0, f64::from_bits(1)]), Err(Refusal::Overflow));
+    assert_eq!(seen(&lu), before);
+    lu.add_column(&[1.0, 0.0, 0.0]).expect("it fits");
+    assert_eq!((lu.columns(), lu.factors().len()), (2, 6));
+
+    let mut full = Lu::factor(&[1.0; 64], 1, 64).expect("64 columns");
+    let before = seen(&full);
+    assert_eq!(full.add_column(&[1.0]), Err(Refusal::Size));
+    assert_eq!(seen(&full), before);
+}
+
+#[test]
+fn panel_file() {
+    assert_eq!(refused(pad_order(&[])), 8);
+    assert_eq!(refused(pad_order(b"LXQ\x01\x00\x01")), 8);
+    assert_eq!(refused(pad_order(b"LXP\x02\x00\x01")), 8);
+    assert_eq!(refused(pad_order(b"LXP\x01\x00\x00")), 1);
+    assert_eq!(refused(pad_order(b"LXP\x01\x00\x41")), 1);
+    assert_eq!(refused(pad_order(b"LXP\x01\x00\x01")), 3);
+    assert_eq!(refused(pad_order(&[0; 40000])), 8);
+}
+
+#[test]
+fn words() {
+    assert_eq!(Refusal::Singular.to_string(), "refused 6: the matrix is singular: a zero on the diagonal of its factors");
+    let boxed: Box<dyn std::error::Error> = Box::new(Refusal::NotAPanelFile);
+    assert!(boxed.to_string().starts_with("refused 8: "));
+}
