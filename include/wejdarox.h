@@ -22,10 +22,11 @@
  *             1 to 6 and 8 are answered before the work: every slice is left as it was. 7 is answered after it: results are +0.0, as each call says.
  *
  *  A caller   owes that
- *             - a pointer beside a length n points to n elements of its type, aligned, for the time of the call, which hold values of the type; where n
- *               is 0 the pointer is not used, and may be a null pointer;
- *             - a pointer to one number, or to an array of 64, points to it in the same way and is not a null pointer; outputs too hold some value of
- *               their type when the call begins (a `bool` holds false or true);
+ *             - a pointer beside a length n points to n elements of its type, aligned, for the time of the call; where n is 0 nothing is read or written
+ *               through it, and it is still no null pointer;
+ *             - a pointer to one number, or to an array of 64, points to it in the same way;
+ *             - all of these hold values of their type when the call begins, outputs too: any bytes are a double or a size_t, so that an output need not
+ *               be set; a `bool` holds false or true;
  *             - what a call may change (a pointer without `const`) is apart from every other slice and number of that call;
  *             - no other thread changes what is lent, or looks at what may change, until the call returns;
  *             - the floating-point state is the usual one of the ABI: rounding to nearest, no trap enabled, subnormal numbers kept;
