@@ -3,12 +3,15 @@ pub mod Build
 pub mod Diagonal
 pub mod Front
 pub mod Own
+pub mod Panels
+pub mod PanelStore
 pub mod Reach
 pub mod Recorded
 pub mod Removing
 pub mod Restored
 pub mod Shape
 pub mod Slices
+pub mod Updates
 pub mod Slot
 pub mod Step
 pub mod Swaps

@@ -111,6 +111,10 @@ pub few-recorded : (i p pairs pairs' : ℕ) (was is : List ℕ) → Recorded i p
 few-recorded i p pairs pairs' was is rec h =
     rw (rec .count) (cond-cases (λ (k : ℕ). k ≤ i + 1) (eqb p i) (λ t. omega arith) (λ t. omega arith))
 
+pub more-recorded : (i p pairs pairs' : ℕ) (was is : List ℕ) → Recorded i p pairs pairs' was is → pairs ≤ pairs'
+more-recorded i p pairs pairs' was is rec =
+    rw (rec .count) (cond-cases (λ (k : ℕ). pairs ≤ k) (eqb p i) (λ t. omega arith) (λ t. omega arith))
+
 -- ---- before the first step
 module _ (m n : ℕ) (s : Column) where
   pub held-unfactored : (store : List ℕ) → length s ≡ n * m → store ≡ storeOf [] → Held m n (unfactored (columns m n s)) s store 0

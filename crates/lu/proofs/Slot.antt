@@ -29,6 +29,7 @@ use Rattle.permutation_sequence.proofs.Permute.{rows-each}
 use Rattle.permutation_sequence.proofs.SwapList.{held-good}
 use Rattle.lu.specs.Adding.{update, reduced, factorsIn}
 use Rattle.lu.specs.Own.{updatedAt}
+use Rattle.lu.proofs.Updates.{updates-last}
 
 -- ---- the store with its slot
 module _ (m n : ℕ) (s : Column) (len : length s ≡ (n + 1) * m) where
@@ -79,38 +80,6 @@ one-column m swaps x h len =
     ∙ ap flat (rows-each swaps (columns m 1 x))
     ∙ append-nil (permute swaps (take m x))
     ∙ ap (permute swaps) (take-all m x (omega arith))
-
--- ---- the updates
-module _ (m n i : ℕ) (s : Column) (hi : i < n) (hm : i < m) where
-  -- a zero on the packed diagonal
-  pub update-none : (d : Float) → d ≡ getD s (i * m + i) nan → isZero d ≡ true → columns m (n + 1) s ≡ updatedAt n i (columns m (n + 1) s)
-  unfolding updatedAt update
-  update-none d is z =
-      let cs = columns m (n + 1) s in
-      let zero-there : isZero (entry (column cs i) i) ≡ true = ap isZero (sym (is ∙ entry-at m (n + 1) i i s nan (omega arith) hm)) ∙ z in
-      rw zero-there (sym (set-getD cs n []))
-
-  -- the slot is stepped within the store
-  pub update-done : (d : Float) (t : Column) → d ≡ getD s (i * m + i) nan → isZero d ≡ false → isMatrix m (n + 1) s ≡ true
-      → t ≡ onColumns m (n + 1) (λ cs. set cs n (stepColumn i (column cs i) (column cs n))) s → columns m (n + 1) t ≡ updatedAt n i (columns m (n + 1) s)
-  unfolding updatedAt update
-  update-done d t is z fits made =
-      let cs = columns m (n + 1) s in
-      let some : isZero (entry (column cs i) i) ≡ false = ap isZero (sym (is ∙ entry-at m (n + 1) i i s nan (omega arith) hm)) ∙ z in
-      within-columns i n m (n + 1) s fits (omega arith) t made ∙ rw some
-
--- the updates of the last column, by columns that stay
-updated-last : (cs : Matrix) (x : Column) (i : ℕ) → i < length cs → updatedAt (length cs) i (cs ++ x ∷ []) ≡ cs ++ update cs i x ∷ []
-unfolding updatedAt update
-updated-last cs x i h =
-    rw (List·getD-append cs (x ∷ []) [] i h, getD-at cs x [] [] (length cs) refl)
-    (set-at cs x [] (cond (isZero (entry (column cs i) i)) x (stepColumn i (column cs i) x)) (length cs) refl)
-
-pub updates-last : (cs : Matrix) (x : Column) (i k : ℕ) → i + k ≤ length cs → turnsFrom (updatedAt (length cs)) i k (cs ++ x ∷ []) ≡ cs ++ turnsFrom (update cs) i k x ∷ []
-unfolding turnsFrom
-updates-last cs x i zero h = refl
-updates-last cs x i (suc k) h =
-    ap (turnsFrom (updatedAt (length cs)) (i + 1) k) (updated-last cs x i (omega arith)) ∙ updates-last cs (update cs i x) (i + 1) k (omega arith)
 
 -- ---- rows exchanged in the older columns alone
 older-swapped : (i p : ℕ) (cs : Matrix) (x : Column) → rowsSwapped i p 0 (length cs) (cs ++ x ∷ []) ≡ swapInAll i p cs ++ x ∷ []

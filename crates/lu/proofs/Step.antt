@@ -1,10 +1,10 @@
 -- One step of the elimination, column by column, and that it keeps the shape of the matrix. Assumes nothing.
-use Prim.Native.Nat.{ℕ, zero, suc, _+_, _<_}
+use Prim.Native.Nat.{ℕ, zero, suc, _+_, _≤_, _<_}
 use native.Mathlib.Nat.{zero-add, add-zero}
 use borrow.Author.Tests.{eqb-true, eqb-false}
 use lib.Dec.{eqb}
 use native.Mathlib.Omega.{arith}
-use mathlib.Core.Path.{_≡_, refl, sym, ap, _∙_}
+use mathlib.Core.Path.{_≡_, refl, sym, ap, ap₂, _∙_}
 use mathlib.Core.Bool.{Bool, true, false}
 use mathlib.Core.List.{[], _∷_, _++_}
 use lib.ListN.{length, set, length-set, List·getD-append}
@@ -21,6 +21,7 @@ use Rattle.store.specs.Columns.{HasRows}
 use Rattle.store.specs.Steps.{Matrix, column, swapInAll, stepColumn, stepColumns, eliminated}
 use Rattle.store.proofs.Steps.{length-swapInAll, rows-swapInAll, length-eliminated, rows-eliminated}
 use Rattle.lu.specs.Elimination.{Factors, multipliers, scaled, pivotStep, step}
+use Rattle.lu.proofs.Swaps.{record-more}
 
 -- ---- step i's pivot row, whether the step is skipped, and the column that it leaves at i
 abbrev pub pivotAt : ℕ → Factors → ℕ
@@ -150,6 +151,15 @@ turns-last f i (suc c) s =
     let e : i + 1 + c ≡ i + suc c = omega arith in
     turns-last f (i + 1) c (f i s) ∙ ap (λ (k : ℕ). f k (turnsFrom f (i + 1) c (f i s))) e
 
+-- c turns, then d more
+pub turns-join : {S : Type 0} (f : ℕ → S → S) (i c d : ℕ) (s : S) → turnsFrom f (i + c) d (turnsFrom f i c s) ≡ turnsFrom f i (c + d) s
+unfolding turnsFrom
+turns-join f i zero d s = ap₂ (λ (j k : ℕ). turnsFrom f j k s) (add-zero i) (sym (zero-add d))
+turns-join f i (suc c) d s =
+    let e : i + suc c ≡ i + 1 + c = omega arith in
+    let g : suc c + d ≡ suc (c + d) = omega arith in
+    ap (λ (j : ℕ). turnsFrom f j d (turnsFrom f (i + 1) c (f i s))) e ∙ turns-join f (i + 1) c d (f i s) ∙ ap (λ (k : ℕ). turnsFrom f i k s) (sym g)
+
 -- the steps 0 to k - 1
 abbrev pub steps : ℕ → Factors → Factors
 steps k f = turnsFrom step 0 k f
@@ -163,12 +173,25 @@ unfolding turnsFrom
 steps-keep P keeps i zero f h = h
 steps-keep P keeps i (suc c) f h = steps-keep P keeps (i + 1) c (step i f) (keeps i f h)
 
-pub length-steps : (k : ℕ) (f : Factors) → length (steps k f .columns) ≡ length (f .columns)
-length-steps k f =
+pub length-turns : (i k : ℕ) (f : Factors) → length (turnsFrom step i k f .columns) ≡ length (f .columns)
+length-turns i k f =
     steps-keep (λ g. length (g .columns) ≡ length (f .columns))
-    (λ i g e. step-cases i g (λ h. length (h .columns) ≡ length (f .columns)) (λ s. e) (λ s. length-pivotStep i (pivotAt i g) g ∙ e)) 0 k f refl
+    (λ j g e. step-cases j g (λ h. length (h .columns) ≡ length (f .columns)) (λ s. e) (λ s. length-pivotStep j (pivotAt j g) g ∙ e)) i k f refl
+
+pub rows-turns : (m i k : ℕ) (f : Factors) → HasRows m (f .columns) → HasRows m (turnsFrom step i k f .columns)
+rows-turns m i k f rows =
+    steps-keep (λ g. HasRows m (g .columns))
+    (λ j g r. step-cases j g (λ h. HasRows m (h .columns)) (λ s. r) (λ s. rows-pivotStep j (pivotAt j g) g m r)) i k f rows
+
+-- no swap is lost
+pub swaps-turns : (i k : ℕ) (f : Factors) → length (f .swaps) ≤ length (turnsFrom step i k f .swaps)
+unfolding pivotStep
+swaps-turns i k f =
+    steps-keep (λ g. length (f .swaps) ≤ length (g .swaps))
+    (λ j g e. step-cases j g (λ h. length (f .swaps) ≤ length (h .swaps)) (λ s. e) (λ s. let more = record-more j (pivotAt j g) (g .swaps) in omega arith)) i k f (omega arith)
+
+pub length-steps : (k : ℕ) (f : Factors) → length (steps k f .columns) ≡ length (f .columns)
+length-steps k f = length-turns 0 k f
 
 pub rows-steps : (m k : ℕ) (f : Factors) → HasRows m (f .columns) → HasRows m (steps k f .columns)
-rows-steps m k f rows =
-    steps-keep (λ g. HasRows m (g .columns))
-    (λ i g r. step-cases i g (λ h. HasRows m (h .columns)) (λ s. r) (λ s. rows-pivotStep i (pivotAt i g) g m r)) 0 k f rows
+rows-steps m k f rows = rows-turns m 0 k f rows

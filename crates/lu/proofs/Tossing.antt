@@ -5,6 +5,7 @@ use mathlib.Core.Bool.{Bool, true, cond}
 use mathlib.Core.List.{[], _∷_, _++_}
 use Prim.Native.Nat.{ℕ, zero, suc, _+_, _-_, _*_, _≤_, _<_, min}
 use native.Mathlib.Nat.{min-zero, add-zero, zero-add, add-assoc}
+use native.Mathlib.Numerals.{add-one}
 use native.Mathlib.Omega.{arith}
 use borrow.Author.Tests.{ltb-true, ltb-false}
 use borrow.Rule.Slice.PartMut.{midOf}
@@ -71,7 +72,7 @@ length-step : (i : ℕ) (f : Factors) → length (step i f .columns) ≡ length 
 length-step i f = step-cases i f (λ g. length (g .columns) ≡ length (f .columns)) (λ t. refl) (λ t. length-pivotStep i (pivotAt i f) f)
 
 -- to the right of the columns that are counted it does not count
-toss-front : (k i : ℕ) (f : Factors) (x : Column) → i + k ≤ length (f .columns) → tossFrom i k (widen f x) ≡ tossFrom i k f
+pub toss-front : (k i : ℕ) (f : Factors) (x : Column) → i + k ≤ length (f .columns) → tossFrom i k (widen f x) ≡ tossFrom i k f
 unfolding tossFrom
 toss-front zero i f x h = refl
 toss-front (suc k) i f x h =
@@ -79,17 +80,25 @@ toss-front (suc k) i f x h =
     ap₂ (λ (c : Column) (g : Factors). tossAt i c + tossFrom (i + 1) k g) (List·getD-append (f .columns) (x ∷ []) [] i here) (step-widen i f x here)
     ∙ ap (λ (j : ℕ). tossAt i (column (f .columns) i) + j) (toss-front k (i + 1) (step i f) (passOn i f x) (rw (length-step i f) (omega arith)))
 
+-- those of c steps, and of d more
+pub toss-join : (c i d : ℕ) (f : Factors) → tossFrom i (c + d) f ≡ tossFrom i c f + tossFrom (i + c) d (turnsFrom step i c f)
+unfolding tossFrom turnsFrom
+toss-join zero i d f = ap₂ (λ (k j : ℕ). tossFrom j k f) (zero-add d) (sym (add-zero i)) ∙ sym (zero-add _)
+toss-join (suc c) i d f =
+    let first = tossAt i (column (f .columns) i) in
+    let g = turnsFrom step (i + 1) c (step i f) in
+    let all : suc c + d ≡ suc (c + d) = omega arith in
+    let e : i + 1 + c ≡ i + suc c = omega arith in
+    ap (λ (k : ℕ). tossFrom i k f) all
+    ∙ ap (λ (j : ℕ). first + j) (toss-join c (i + 1) d (step i f))
+    ∙ sym (add-assoc first (tossFrom (i + 1) c (step i f)) (tossFrom (i + 1 + c) d g))
+    ∙ ap (λ (j : ℕ). first + tossFrom (i + 1) c (step i f) + tossFrom j d g) e
+
 -- the last of the steps
 toss-last : (k i : ℕ) (f : Factors) → tossFrom i (suc k) f ≡ tossFrom i k f + tossAt (i + k) (column (turnsFrom step i k f .columns) (i + k))
-unfolding tossFrom turnsFrom
-toss-last zero i f = add-zero (tossAt i (column (f .columns) i)) ∙ sym (zero-add _) ∙ ap (λ (j : ℕ). 0 + tossAt j (column (f .columns) j)) (sym (add-zero i))
-toss-last (suc k) i f =
-    let e : i + 1 + k ≡ i + suc k = omega arith in
-    let first = tossAt i (column (f .columns) i) in
-    let g = turnsFrom step (i + 1) k (step i f) in
-    ap (λ (j : ℕ). first + j) (toss-last k (i + 1) (step i f))
-    ∙ sym (add-assoc first (tossFrom (i + 1) k (step i f)) (tossAt (i + 1 + k) (column (g .columns) (i + 1 + k))))
-    ∙ ap (λ (j : ℕ). first + tossFrom (i + 1) k (step i f) + tossAt j (column (g .columns) j)) e
+unfolding tossFrom
+toss-last k i f =
+    ap (λ (c : ℕ). tossFrom i c f) (sym (add-one k)) ∙ toss-join k i 1 f ∙ ap (λ (j : ℕ). tossFrom i k f + j) (add-zero (tossAt (i + k) (column (turnsFrom step i k f .columns) (i + k))))
 
 module _ (m : ℕ) (a : Matrix) (c : Column) (rows : HasRows m a) (len : length c ≡ m) where
   abbrev f : Factors

@@ -2,17 +2,19 @@
 use mathlib.Core.Path.{_≡_}
 use mathlib.Core.Bool.{true, cond}
 use mathlib.Core.List.{List}
-use Prim.Native.Nat.{ℕ, _+_, _*_}
+use Prim.Native.Nat.{ℕ, _+_, _-_, _*_, _≤_}
 use lib.Dec.{eqb}
 use lib.ListN.{length}
+use Rattle.blas.specs.Each.{turnsFrom}
 use Rattle.blas.specs.Column.{Column, allFinite}
 use Rattle.store.specs.Columns.{columns, flat}
 use Rattle.permutation_sequence.specs.SwapList.{withPair}
+use Rattle.lu.specs.declared.Counts.{Counts}
 use Rattle.lu.specs.declared.Factored.{Factored}
 use Rattle.lu.specs.declared.Factored.the-variants.{Accepted, Refused}
-use Rattle.lu.specs.Elimination.{Factors, eliminate}
+use Rattle.lu.specs.Elimination.{Factors, step, eliminate}
 use Rattle.lu.specs.Factoring.{storeOf, recordOf}
-use Rattle.lu.specs.TossUps.{tossUps}
+use Rattle.lu.specs.TossUps.{tossFrom, tossUps}
 
 -- the slice s holds the columns of f, an m by n matrix, and the store with its number of pairs holds the swaps
 pub record Held (m n : ℕ) (f : Factors) (s : Column) (store : List ℕ) (pairs : ℕ) : Type 0 where
@@ -20,6 +22,13 @@ pub record Held (m n : ℕ) (f : Factors) (s : Column) (store : List ℕ) (pairs
   pub is-columns : columns m n s ≡ f .columns
   pub is-store : store ≡ storeOf (f .swaps)
   pub is-pairs : pairs ≡ length (f .swaps)
+
+-- what the steps from `from` up to but not `to` leave of slices s and store, and of what was counted before them: whatever factors were held, the steps on them
+-- are held, and their toss-ups are counted
+pub record Stepped (m n from to : ℕ) (counts : Counts) (s : Column) (store : List ℕ) (r : Counts) (s' : Column) (store' : List ℕ) : Type 0 where
+  pub steps : (f : Factors) → Held m n f s store (counts .pairs) → Held m n (turnsFrom step from (to - from) f) s' store' (r .pairs)
+  pub toss : (f : Factors) → Held m n f s store (counts .pairs) → r .tossed ≡ counts .tossed + tossFrom from (to - from) f
+  pub few : (r .pairs ≤ to) × (r .tossed ≤ to) × (counts .pairs ≤ r .pairs)
 
 -- the pair (i, p) behind the pairs of a store, unless the two numbers are one
 pub record Recorded (i p pairs now-pairs : ℕ) (was is : List ℕ) : Type 0 where

@@ -3,7 +3,7 @@
 ghost use mathlib.Core.Path.{_≡_};
 ghost use mathlib.Core.Bool.{true, cond, _&&_};
 ghost use mathlib.Core.List.{[], _∷_, _++_};
-ghost use Prim.Native.Nat.{_+_, _*_, _<_, _≤_, min};
+ghost use Prim.Native.Nat.{_+_, _-_, _*_, _<_, _≤_, min};
 ghost use lib.ListN.{length, replicate};
 ghost use Rattle.blas.specs.Each.{turnsFrom};
 ghost use Rattle.store.specs.Columns.{columns, isMatrix};
@@ -12,9 +12,9 @@ ghost use Rattle.blas.specs.TossUp.{tossUp};
 ghost use Rattle.store.specs.Steps.{column, swapInAll, eliminated};
 ghost use Rattle.lu.specs.Elimination.{Factors, scaled, step, eliminate};
 ghost use Rattle.lu.specs.Factoring.{storeOf, factoringRefusal, factoring, factoredOf};
-ghost use Rattle.lu.specs.Held.{Held, Recorded, AllAdded};
+ghost use Rattle.lu.specs.Held.{Held, Recorded, Stepped, AllAdded};
 ghost use Rattle.lu.specs.Adding.{reduced, factorsIn, earlyRefusal, adding, addedOf};
-ghost use Rattle.lu.specs.Own.{updatedAt, ownRow, ownColumn};
+ghost use Rattle.lu.specs.Own.{updatedAt, live, afterPanel, ownRow, ownColumn};
 ghost use Rattle.lu.specs.TossUps.{tossAt, tossUps, ownTossUp};
 ghost use Rattle.lu.specs.Removing.{undoes, goodUndoing, removingRefusal, removing, removedOf};
 use blas::FoundPivot;
@@ -110,7 +110,7 @@ fn factor_step(
     requires { ⌜ (i < m) × (i < n) × (counts .pairs ≤ i) × (counts .tossed ≤ i) ⌝ }
     requires { ⌜ (isMatrix m n (now s) ≡ true) × (length (now swaps) ≡ 128) ⌝ }
     ensures { λ r. ⌜ ((f : Factors) → Held m n f (now (s .entry)) (now (swaps .entry)) (counts .pairs) → Held m n (step i f) (now (s .exit)) (now (swaps .exit)) (r .pairs)) ⌝ }
-    ensures { λ r. ⌜ (r .pairs ≤ i + 1) × (r .tossed ≤ i + 1) ⌝ }
+    ensures { λ r. ⌜ (r .pairs ≤ i + 1) × (r .tossed ≤ i + 1) × (counts .pairs ≤ r .pairs) ⌝ }
     ensures { λ r. ⌜ r .tossed ≡ counts .tossed + tossAt i (column (columns m n (now (s .entry))) i) ⌝ }
 {
     let pairs = counts.pairs;
@@ -134,7 +134,116 @@ fn factor_step(
     }
 }
 
-// All steps of the m by n matrix in s. Answers what they counted.
+// The steps from `from` up to but not `to`. Answers the counts with them.
+fn factor_steps(
+    s: &mut [f64],
+    m: usize,
+    n: usize,
+    from: usize,
+    to: usize,
+    swaps: &mut [usize],
+    counts: Counts,
+) -> Counts
+    requires { ⌜ (from ≤ to) × (to ≤ m) × (to ≤ n) × (counts .pairs ≤ from) × (counts .tossed ≤ from) ⌝ }
+    requires { ⌜ (isMatrix m n (now s) ≡ true) × (length (now swaps) ≡ 128) ⌝ }
+    ensures { λ r. ⌜ Stepped m n from to counts (now (s .entry)) (now (swaps .entry)) r (now (s .exit)) (now (swaps .exit)) ⌝ }
+{
+    let mut now = counts;
+    let mut i = from;
+    while i < to {
+        now = factor_step(s, m, n, i, swaps, now);
+        i += 1;
+    }
+    now
+}
+
+// Step 5 on column j by column i left of it; nothing where the packed diagonal is zero.
+fn update_by(s: &mut [f64], m: usize, n: usize, i: usize, j: usize)
+    requires { ⌜ (isMatrix m n (now s) ≡ true) × (i < j) × (j < n) × (i < m) ⌝ }
+    ensures { λ _. ⌜ columns m n (now (s .exit)) ≡ updatedAt j i (columns m n (now (s .entry))) ⌝ }
+{
+    let diag = s[i * m + i];
+    if blas::is_zero(diag) {
+        return;
+    }
+    store::step_within(s, m, n, i, j);
+}
+
+// That by each column from `from` up to but not `to`, in turn.
+fn update_each(s: &mut [f64], m: usize, n: usize, from: usize, to: usize, j: usize)
+    requires { ⌜ (isMatrix m n (now s) ≡ true) × (from ≤ to) × (to ≤ j) × (j < n) × (to ≤ m) ⌝ }
+    ensures { λ _. ⌜ columns m n (now (s .exit)) ≡ turnsFrom (updatedAt j) from (to - from) (columns m n (now (s .entry))) ⌝ }
+{
+    let mut i = from;
+    while i < to {
+        update_by(s, m, n, i, j);
+        i += 1;
+    }
+}
+
+// Whether no step from i to i + 3 was skipped: no zero on their packed diagonal.
+fn are_live(s: &[f64], m: usize, n: usize, i: usize) -> bool
+    requires { ⌜ (isMatrix m n (now s) ≡ true) × (i + 4 ≤ m) × (i + 4 ≤ n) ⌝ }
+    ensures { λ r. ⌜ r ≡ live i (columns m n (now (s .entry))) ⌝ }
+{
+    let i1 = i + 1;
+    let i2 = i + 2;
+    let i3 = i + 3;
+    let dead = blas::is_zero(s[i * m + i]) | blas::is_zero(s[i1 * m + i1]);
+    let later_dead = blas::is_zero(s[i2 * m + i2]) | blas::is_zero(s[i3 * m + i3]);
+    !(dead | later_dead)
+}
+
+// Step 5 on column j by the columns i to i + 3, at once where all four steps were made.
+fn update_four(s: &mut [f64], m: usize, n: usize, i: usize, j: usize)
+    requires { ⌜ (isMatrix m n (now s) ≡ true) × (i + 4 ≤ m) × (i + 4 ≤ j) × (j < n) ⌝ }
+    ensures { λ _. ⌜ columns m n (now (s .exit)) ≡ turnsFrom (updatedAt j) i 4 (columns m n (now (s .entry))) ⌝ }
+{
+    if are_live(s, m, n, i) {
+        panels::four_steps(s, m, n, i, j);
+    } else {
+        update_each(s, m, n, i, i + 4, j);
+    }
+}
+
+// That on each column right of them.
+fn update_columns(s: &mut [f64], m: usize, n: usize, i: usize)
+    requires { ⌜ (isMatrix m n (now s) ≡ true) × (i + 4 ≤ m) × (i + 4 ≤ n) ⌝ }
+    ensures { λ _. ⌜ columns m n (now (s .exit)) ≡ afterPanel i (columns m n (now (s .entry))) ⌝ }
+{
+    let mut j = i + 4;
+    while j < n {
+        update_four(s, m, n, i, j);
+        j += 1;
+    }
+}
+
+// The steps i to i + 3 as a panel: on their own columns first, then their swaps and updates on the columns to the right.
+fn factor_panel(
+    s: &mut [f64],
+    m: usize,
+    n: usize,
+    i: usize,
+    swaps: &mut [usize],
+    counts: Counts,
+) -> Counts
+    requires { ⌜ (i + 4 ≤ m) × (i + 4 ≤ n) × (counts .pairs ≤ i) × (counts .tossed ≤ i) ⌝ }
+    requires { ⌜ (isMatrix m n (now s) ≡ true) × (length (now swaps) ≡ 128) ⌝ }
+    ensures { λ r. ⌜ Stepped m n i (i + 4) counts (now (s .entry)) (now (swaps .entry)) r (now (s .exit)) (now (swaps .exit)) ⌝ }
+{
+    let pairs = counts.pairs;
+    let e = i + 4;
+    let z = e * m;
+    let right = n - e;
+    let now = factor_steps(&mut s[..z], m, e, i, e, swaps, counts);
+    let first = 2 * pairs;
+    let more = now.pairs - pairs;
+    permutation_sequence::apply_to_rows(&mut s[z..], m, right, &swaps[first..], more, false);
+    update_columns(s, m, n, i);
+    now
+}
+
+// All steps of the m by n matrix in s, in panels as long as more than eight are left. Answers what they counted.
 fn factor_in_place(s: &mut [f64], m: usize, n: usize, swaps: &mut [usize]) -> Counts
     requires { ⌜ (isMatrix m n (now s) ≡ true) × (now swaps ≡ storeOf []) ⌝ }
     ensures { λ r. ⌜ Held m n (eliminate m (columns m n (now (s .entry)))) (now (s .exit)) (now (swaps .exit)) (r .pairs) ⌝ }
@@ -146,11 +255,11 @@ fn factor_in_place(s: &mut [f64], m: usize, n: usize, swaps: &mut [usize]) -> Co
         tossed: 0,
     };
     let mut i = 0;
-    while i < min_nrows_ncols {
-        counts = factor_step(s, m, n, i, swaps, counts);
-        i += 1;
+    while 8 < min_nrows_ncols - i {
+        counts = factor_panel(s, m, n, i, swaps, counts);
+        i += 4;
     }
-    counts
+    factor_steps(s, m, n, i, min_nrows_ncols, swaps, counts)
 }
 
 // Factors the m by n matrix a into out, and records the swaps.
@@ -213,29 +322,27 @@ fn adding_refusal(s: &[f64], c: &[f64], swaps: &[usize], told: Record) -> usize
     )
 }
 
-// Step 5 on the new column, number n, by column i; nothing where the packed diagonal is zero.
-fn update_by(s: &mut [f64], m: usize, n: usize, i: usize)
-    requires { ⌜ (isMatrix m (n + 1) (now s) ≡ true) × (i < n) × (i < m) ⌝ }
-    ensures { λ _. ⌜ columns m (n + 1) (now (s .exit)) ≡ updatedAt n i (columns m (n + 1) (now (s .entry))) ⌝ }
+// Step 5 on the new column, number n, by the columns below 4 * fours, four at a time.
+fn update_in_fours(s: &mut [f64], m: usize, n: usize, fours: usize)
+    requires { ⌜ (isMatrix m (n + 1) (now s) ≡ true) × (4 * fours ≤ m) × (4 * fours ≤ n) ⌝ }
+    ensures { λ _. ⌜ columns m (n + 1) (now (s .exit)) ≡ turnsFrom (updatedAt n) 0 (4 * fours) (columns m (n + 1) (now (s .entry))) ⌝ }
 {
-    let diag = s[i * m + i];
-    if blas::is_zero(diag) {
-        return;
+    let mut k = 0;
+    while k < fours {
+        update_four(s, m, n + 1, 4 * k, n);
+        k += 1;
     }
-    store::step_within(s, m, n + 1, i, n);
 }
 
-// That by each column i below min(m, n), in turn.
+// That by each column i below min(m, n).
 fn update_all(s: &mut [f64], m: usize, n: usize)
     requires { ⌜ isMatrix m (n + 1) (now s) ≡ true ⌝ }
     ensures { λ _. ⌜ columns m (n + 1) (now (s .exit)) ≡ turnsFrom (updatedAt n) 0 (min m n) (columns m (n + 1) (now (s .entry))) ⌝ }
 {
     let steps = store::min(m, n);
-    let mut i = 0;
-    while i < steps {
-        update_by(s, m, n, i);
-        i += 1;
-    }
+    let fours = steps / 4;
+    update_in_fours(s, m, n, fours);
+    update_each(s, m, n + 1, 4 * fours, steps, n);
 }
 
 // The raw column c in the slot behind the n columns: permuted by the list, then updated by the older columns.

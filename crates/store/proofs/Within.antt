@@ -24,7 +24,7 @@ use Rattle.store.proofs.Steps.{length-stepColumn}
 -- ---- one column of a list of columns replaced
 
 -- an entry of a list in which place j was written anew
-set-cases : {A : Type 0} (P : A → Type 0) (l : List A) (j k : ℕ) (a d : A) → j < length l → (k ≡ j → P a) → ((k ≡ j → ⊥) → P (getD l k d)) → P (getD (set l j a) k d)
+pub set-cases : {A : Type 0} (P : A → Type 0) (l : List A) (j k : ℕ) (a d : A) → j < length l → (k ≡ j → P a) → ((k ≡ j → ⊥) → P (getD l k d)) → P (getD (set l j a) k d)
 set-cases P l j k a d h same other =
     test-cases (eqb k j)
     (λ t. let e = eqb-true k j t in rw (ap (λ (x : ℕ). getD (set l j a) x d) e ∙ getD-set-same l j a d h) (same e))

@@ -11,7 +11,7 @@ use Rattle.store.proofs.Columns.{sized, column-within}
 use Rattle.blas.proofs.TossUp.{found-row, found-tossed}
 use Rattle.lu.specs.TossUps.{tossAt}
 use Rattle.lu.proofs.Tossing.{toss-most, toss-skipped, toss-found}
-use Rattle.lu.proofs.Slices.{found, pivot-within, pivot-number, pivot-zero-there, step-skipped, step-done, few-recorded}
+use Rattle.lu.proofs.Slices.{found, pivot-within, pivot-number, pivot-zero-there, step-skipped, step-done, few-recorded, more-recorded}
 use Rattle.lu.proofs.factor_step.Statement.{statement}
 use Rattle.lu.proofs.factor_step.Tie as tie
 
@@ -49,7 +49,7 @@ returns c =
     let i-within = at-start .pre .0 .0 in
     let z = sym (at-is-zero .is-zero .ensures) ∙ (c .if1 .taken) in
     let none = toss-skipped g.i _ (pivot-zero-there _ _ _ _ _ (at-start .pre .1 .0) (at-start .pre .0 .0) (at-start .pre .0 .1) row _ refl z) in
-    ((λ f h. step-skipped g.m g.n g.i f _ _ _ _ _ h (found _ _ _ _ _ (at-start .pre .1 .0) (at-start .pre .0 .0) (at-start .pre .0 .1) row) (pivot-number _ _ _ _ _ (at-start .pre .1 .0) (at-start .pre .0 .0) (at-start .pre .0 .1) row) z), ((omega arith, omega arith), sym (ap (λ (k : ℕ). g .counts .tossed + k) none ∙ add-zero (g .counts .tossed))))
+    ((λ f h. step-skipped g.m g.n g.i f _ _ _ _ _ h (found _ _ _ _ _ (at-start .pre .1 .0) (at-start .pre .0 .0) (at-start .pre .0 .1) row) (pivot-number _ _ _ _ _ (at-start .pre .1 .0) (at-start .pre .0 .0) (at-start .pre .0 .1) row) z), ((omega arith, omega arith, omega arith), sym (ap (λ (k : ℕ). g .counts .tossed + k) none ∙ add-zero (g .counts .tossed))))
 
 gauss-step-requires : tie.Need-gauss-step-requires
 gauss-step-requires c κs =
@@ -85,7 +85,7 @@ returns-2 c =
     let few = sized _ _ _ (at-start .pre .1 .0) .rows-most in
     let own = counted c in
     let up = at-start .pre .0 .3 in
-    ((λ f h. step-done g.m g.n g.i f _ _ _ _ _ h (found _ _ _ _ _ (at-start .pre .1 .0) (at-start .pre .0 .0) (at-start .pre .0 .1) row) (pivot-number _ _ _ _ _ (at-start .pre .1 .0) (at-start .pre .0 .0) (at-start .pre .0 .1) row) _ _ _ (sym (at-is-zero .is-zero .ensures) ∙ (at-if1 .if1 .left)) (omega arith) (at-gauss-step .gauss-step .kept .0) (at-gauss-step .gauss-step .ensures) (at-record-swap .record-swap .ensures)), ((few-recorded _ _ _ _ _ _ (at-record-swap .record-swap .ensures) (at-start .pre .0 .2), omega (arith, own .1, up)), ap (λ (k : ℕ). g .counts .tossed + k) (own .0)))
+    ((λ f h. step-done g.m g.n g.i f _ _ _ _ _ h (found _ _ _ _ _ (at-start .pre .1 .0) (at-start .pre .0 .0) (at-start .pre .0 .1) row) (pivot-number _ _ _ _ _ (at-start .pre .1 .0) (at-start .pre .0 .0) (at-start .pre .0 .1) row) _ _ _ (sym (at-is-zero .is-zero .ensures) ∙ (at-if1 .if1 .left)) (omega arith) (at-gauss-step .gauss-step .kept .0) (at-gauss-step .gauss-step .ensures) (at-record-swap .record-swap .ensures)), ((few-recorded _ _ _ _ _ _ (at-record-swap .record-swap .ensures) (at-start .pre .0 .2), omega (arith, own .1, up), more-recorded _ _ _ _ _ _ (at-record-swap .record-swap .ensures)), ap (λ (k : ℕ). g .counts .tossed + k) (own .0)))
 
 pub factor-step-spec : {M : Type 1} → statement M
 factor-step-spec =

@@ -1,0 +1,140 @@
+-- One column updated by columns left of it: the updates within the matrix are those of the column by itself, and where no step was skipped four of them are
+-- four steps. Then all columns right of a panel. Assumes nothing.
+use mathlib.Core.Path.{_≡_, refl, sym, ap, ap₂, _∙_}
+use mathlib.Core.Bool.{Bool, true, false, cond, not, _||_}
+use mathlib.Core.List.{[], _∷_, _++_}
+use Prim.Native.Nat.{ℕ, zero, suc, _+_, _*_, _≤_, _<_}
+use native.Mathlib.Omega.{arith}
+use borrow.Author.Tests.{not-true}
+use lib.ListN.{length, getD, set, length-set, length-append, List·getD-append}
+use lib.Seq.{getD-set-same, getD-set-other, set-getD, set-set, set-at, getD-at}
+use lib.Ieee.{Float, nan}
+use Rattle.blas.specs.Each.{eachFrom, turnsFrom}
+use Rattle.blas.specs.Numbers.{isZero}
+use Rattle.blas.specs.Column.{Column, entry}
+use Rattle.blas.proofs.Each.{each-step, each-stop}
+use Rattle.store.specs.Columns.{columns, isMatrix, onColumns}
+use Rattle.store.specs.Steps.{Matrix, column, stepColumn}
+use Rattle.store.proofs.Columns.{length-columns, entry-at}
+use Rattle.store.proofs.Within.{within-columns}
+use Rattle.panels.specs.Panel.{stepBy, fourSteps, fourStepped}
+use Rattle.panels.proofs.Within.{four-columns}
+use Rattle.refusals.proofs.Tests.{neither}
+use Rattle.lu.specs.Adding.{update}
+use Rattle.lu.specs.Own.{updatedAt, live, afterPanel}
+
+-- ---- one update
+module _ (m n i j : ℕ) (s : Column) (hi : i < j) (hj : j < n) (hm : i < m) where
+  -- a zero on the packed diagonal
+  pub update-none : (d : Float) → d ≡ getD s (i * m + i) nan → isZero d ≡ true → columns m n s ≡ updatedAt j i (columns m n s)
+  unfolding updatedAt update
+  update-none d is z =
+      let cs = columns m n s in
+      let zero-there : isZero (entry (column cs i) i) ≡ true = ap isZero (sym (is ∙ entry-at m n i i s nan (omega arith) hm)) ∙ z in
+      rw zero-there (sym (set-getD cs j []))
+
+  -- the column is stepped within the store
+  pub update-done : (d : Float) (t : Column) → d ≡ getD s (i * m + i) nan → isZero d ≡ false → isMatrix m n s ≡ true
+      → t ≡ onColumns m n (λ cs. set cs j (stepColumn i (column cs i) (column cs j))) s → columns m n t ≡ updatedAt j i (columns m n s)
+  unfolding updatedAt update
+  update-done d t is z fits made =
+      let cs = columns m n s in
+      let some : isZero (entry (column cs i) i) ≡ false = ap isZero (sym (is ∙ entry-at m n i i s nan (omega arith) hm)) ∙ z in
+      within-columns i j m n s fits hj t made ∙ rw some
+
+-- ---- several, one after another
+turns-same : {S : Type 0} (f g : ℕ → S → S) (i k : ℕ) (x : S) → ((q : ℕ) (y : S) → i ≤ q → q < i + k → f q y ≡ g q y) → turnsFrom f i k x ≡ turnsFrom g i k x
+unfolding turnsFrom
+turns-same f g i zero x e = refl
+turns-same f g i (suc k) x e =
+    ap (turnsFrom f (i + 1) k) (e i x (omega arith) (omega arith)) ∙ turns-same f g (i + 1) k (g i x) (λ q y h l. e q y (omega arith) (omega arith))
+
+-- they go by the columns that they read
+pub updates-same : (a b : Matrix) (i k : ℕ) (c : Column) → ((q : ℕ) → q < i + k → column a q ≡ column b q) → turnsFrom (update a) i k c ≡ turnsFrom (update b) i k c
+unfolding update
+updates-same a b i k c e =
+    turns-same (update a) (update b) i k c (λ q y h l. ap (λ (x : Column). cond (isZero (entry x q)) y (stepColumn q x y)) (e q l))
+
+-- within the matrix, the column standing right of those that update it
+pub updates-at : (cs : Matrix) (j i k : ℕ) → i + k ≤ j → j < length cs → turnsFrom (updatedAt j) i k cs ≡ set cs j (turnsFrom (update cs) i k (column cs j))
+unfolding turnsFrom updatedAt
+updates-at cs j i zero h hj = sym (set-getD cs j [])
+updates-at cs j i (suc k) h hj =
+    let y = update cs i (column cs j) in
+    let cs' = set cs j y in
+    updates-at cs' j (i + 1) k (omega arith) (rw length-set hj)
+    ∙ set-set cs j y _
+    ∙ ap (set cs j)
+    (ap (turnsFrom (update cs') (i + 1) k) (getD-set-same cs j y [] hj)
+    ∙ updates-same cs' cs (i + 1) k y (λ q l. getD-set-other cs j q y [] (λ e. omega arith)))
+
+-- the last column
+pub updates-last : (cs : Matrix) (x : Column) (i k : ℕ) → i + k ≤ length cs → turnsFrom (updatedAt (length cs)) i k (cs ++ x ∷ []) ≡ cs ++ turnsFrom (update cs) i k x ∷ []
+updates-last cs x i k h =
+    let n = length cs in
+    let ds = cs ++ x ∷ [] in
+    updates-at ds n i k h (omega (arith, length-append cs (x ∷ [])))
+    ∙ ap (λ (c : Column). set ds n (turnsFrom (update ds) i k c)) (getD-at cs x [] [] n refl)
+    ∙ ap (set ds n) (updates-same ds cs i k x (λ q l. List·getD-append cs (x ∷ []) [] q (omega arith)))
+    ∙ set-at cs x [] (turnsFrom (update cs) i k x) n refl
+
+-- ---- four at once
+-- from what the tests of the four packed numbers give
+pub live-found : (m n i : ℕ) (s : Column) (z0 z1 z2 z3 : Bool) → i + 4 ≤ m → i + 4 ≤ n → z0 ≡ isZero (getD s (i * m + i) nan) → z1 ≡ isZero (getD s ((i + 1) * m + (i + 1)) nan)
+    → z2 ≡ isZero (getD s ((i + 2) * m + (i + 2)) nan) → z3 ≡ isZero (getD s ((i + 3) * m + (i + 3)) nan) → not ((z0 || z1) || (z2 || z3)) ≡ live i (columns m n s)
+unfolding live
+live-found m n i s z0 z1 z2 z3 hm hn e0 e1 e2 e3 =
+    rw (e0 ∙ there i (omega arith) (omega arith), e1 ∙ there (i + 1) (omega arith) (omega arith), e2 ∙ there (i + 2) (omega arith) (omega arith), e3 ∙ there (i + 3) (omega arith) (omega arith)) refl
+  where
+    there : (k : ℕ) → k < m → k < n → isZero (getD s (k * m + k) nan) ≡ isZero (entry (column (columns m n s) k) k)
+    there k km kn = ap isZero (entry-at m n k k s nan kn km)
+
+module _ (i : ℕ) (cs : Matrix) (ok : live i cs ≡ true) where
+  alive : (isZero (entry (column cs i) i) ≡ false) × (isZero (entry (column cs (i + 1)) (i + 1)) ≡ false)
+      × (isZero (entry (column cs (i + 2)) (i + 2)) ≡ false) × (isZero (entry (column cs (i + 3)) (i + 3)) ≡ false)
+  unfolding live
+  alive =
+      let d0 = isZero (entry (column cs i) i) in
+      let d1 = isZero (entry (column cs (i + 1)) (i + 1)) in
+      let d2 = isZero (entry (column cs (i + 2)) (i + 2)) in
+      let d3 = isZero (entry (column cs (i + 3)) (i + 3)) in
+      let both = neither (d0 || d1) (d2 || d3) (not-true ((d0 || d1) || (d2 || d3)) ok) in
+      let front = neither d0 d1 (both .0) in
+      let back = neither d2 d3 (both .1) in
+      (front .0, front .1, back .0, back .1)
+
+  made : (q : ℕ) (c : Column) → isZero (entry (column cs q) q) ≡ false → update cs q c ≡ stepBy cs q c
+  unfolding update stepBy
+  made q c z = rw z
+
+  pub live-four : (c : Column) → turnsFrom (update cs) i 4 c ≡ fourSteps i cs c
+  unfolding turnsFrom fourSteps
+  live-four c =
+      let two : i + 1 + 1 ≡ i + 2 = omega arith in
+      let three : i + 1 + 1 + 1 ≡ i + 3 = omega arith in
+      ap₂ (λ (p q : ℕ). update cs q (update cs p (update cs (i + 1) (update cs i c)))) two three
+      ∙ made (i + 3) _ (alive .3)
+      ∙ ap (stepBy cs (i + 3)) (made (i + 2) _ (alive .2) ∙ ap (stepBy cs (i + 2)) (made (i + 1) _ (alive .1) ∙ ap (stepBy cs (i + 1)) (made i c (alive .0))))
+
+module _ (m n i j : ℕ) (s : Column) (fits : isMatrix m n s ≡ true) (four : i + 4 ≤ m) (right : i + 4 ≤ j) (hj : j < n) where
+  -- by the call of four steps
+  pub four-done : (t : Column) → live i (columns m n s) ≡ true → t ≡ onColumns m n (fourStepped m i j) s → columns m n t ≡ turnsFrom (updatedAt j) i 4 (columns m n s)
+  four-done t ok made =
+      let cs = columns m n s in
+      four-columns i j m n s t fits four right hj made
+      ∙ ap (set cs j) (sym (live-four i cs ok (column cs j)))
+      ∙ sym (updates-at cs j i 4 right (rw length-columns hj))
+
+-- ---- every column right of a panel: one turn of the loop, its end, and the columns of the panel
+module _ (m n i j : ℕ) (s t : Column) (cs : Matrix) (right : i + 4 ≤ j) (hj : j < n) (same : (q : ℕ) → q < i + 4 → column (columns m n s) q ≡ column cs q)
+    (stepped : columns m n t ≡ turnsFrom (updatedAt j) i 4 (columns m n s)) where
+  now-is : columns m n t ≡ set (columns m n s) j (turnsFrom (update cs) i 4 (column (columns m n s) j))
+  now-is =
+      let ds = columns m n s in
+      stepped ∙ updates-at ds j i 4 right (rw length-columns hj) ∙ ap (set ds j) (updates-same ds cs i 4 (column ds j) same)
+
+  pub panel-stays : (q : ℕ) → q < i + 4 → column (columns m n t) q ≡ column cs q
+  panel-stays q h = ap (λ (ds : Matrix). column ds q) now-is ∙ getD-set-other (columns m n s) j q _ [] (λ e. omega arith) ∙ same q h
+
+  pub panel-turn : eachFrom (λ k c. turnsFrom (update cs) i 4 c) (j + 1) (columns m n t) ≡ eachFrom (λ k c. turnsFrom (update cs) i 4 c) j (columns m n s)
+  panel-turn = ap (eachFrom (λ k c. turnsFrom (update cs) i 4 c) (j + 1)) now-is ∙ each-step (λ k c. turnsFrom (update cs) i 4 c) j (columns m n s) [] (rw length-columns hj)
