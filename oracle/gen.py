@@ -72,10 +72,11 @@ put('permutation_sequence.rs', cut(L + "permutation_sequence.rs", 1, 166),
     '    pub fn pairs(&self) -> Vec<(usize, usize)> { (0..self.len).map(|k| self.ipiv[k]).collect() }\n'
     '}\n')
 put('lu.rs', cut(L + 'lu.rs', 1, 390),
-    '// ADDED: raw construction for the driver\n'
+    '// ADDED: raw construction and taking apart, for the driver and for bench/\n'
     'use crate::dimension::Dyn;\n'
     'impl LU<f64, Dyn, Dyn> {\n'
     '    pub fn from_raw(lu: OMatrix<f64, Dyn, Dyn>, p: PermutationSequence<Dyn>) -> Self { LU { lu, p } }\n'
+    '    pub fn into_raw(self) -> (OMatrix<f64, Dyn, Dyn>, PermutationSequence<Dyn>) { (self.lu, self.p) }\n'
     '}\n')
 put('scalar.rs', cut(B + 'scalar.rs', 1, 9))
 put('constraint.rs', cut(B + 'constraint.rs', 1, 109))

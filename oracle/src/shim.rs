@@ -159,7 +159,7 @@ impl<T, R: Dim, C: Dim, S: RawStorage<T, R, C>> Matrix<T, R, C, S> {
     pub fn is_square(&self) -> bool { self.nrows() == self.ncols() }
     pub fn strides(&self) -> (usize, usize) { let (r, c) = self.data.strides(); (r.value(), c.value()) }
     pub unsafe fn get_unchecked(&self, ij: (usize, usize)) -> &T {
-        assert!(ij.0 < self.nrows() && ij.1 < self.ncols());
+        debug_assert!(ij.0 < self.nrows() && ij.1 < self.ncols());
         self.data.get_unchecked(ij.0, ij.1)
     }
     pub fn view_range<A: DimRange, B: DimRange>(&self, a: A, b: B) -> MatrixView<'_, T, A::Size, B::Size, S::RStride, S::CStride> {
@@ -181,11 +181,11 @@ impl<T, R: Dim, C: Dim, S: RawStorage<T, R, C>> Matrix<T, R, C, S> {
     }
     fn v2m(&self, i: usize) -> (usize, usize) {
         let (nrows, ncols) = self.shape();
-        if ncols == 1 { (i, 0) } else if nrows == 1 { (0, i) } else { (i % nrows, i / nrows) }
+        if nrows == 1 { (0, i) } else if ncols == 1 { (i, 0) } else { (i % nrows, i / nrows) }
     }
     pub fn iter(&self) -> impl Iterator<Item = &T> {
         let (r, c) = self.shape();
-        (0..c).flat_map(move |j| (0..r).map(move |i| unsafe { self.get_unchecked((i, j)) }))
+        (0..r * c).map(move |k| unsafe { self.get_unchecked(if c == 1 { (k, 0) } else { (k % r, k / r) }) })
     }
     pub fn clone_owned(&self) -> OMatrix<T, R, C> where T: Scalar, S: Storage<T, R, C>, DefaultAllocator: Allocator<R, C> {
         Matrix { data: self.data.clone_owned(), _p: PhantomData }
@@ -261,13 +261,17 @@ impl<T, R: Dim, C: Dim, S: RawStorageMut<T, R, C>> Matrix<T, R, C, S> {
         let pb = self.data.get_address_unchecked_mut(b.begin(), 0);
         (vwm(pa, (sa, c), st), vwm(pb, (sb, c), st))
     }
+    pub unsafe fn get_unchecked_mut(&mut self, ij: (usize, usize)) -> &mut T {
+        debug_assert!(ij.0 < self.nrows() && ij.1 < self.ncols());
+        self.data.get_unchecked_mut(ij.0, ij.1)
+    }
     pub fn swap_rows(&mut self, i1: usize, i2: usize) {
         assert!(i1 < self.nrows() && i2 < self.nrows());
-        if i1 != i2 { for j in 0..self.ncols() { self.swap((i1, j), (i2, j)); } }
+        if i1 != i2 { for j in 0..self.ncols() { unsafe { self.swap_unchecked((i1, j), (i2, j)) } } }
     }
     pub fn swap_columns(&mut self, j1: usize, j2: usize) {
         assert!(j1 < self.ncols() && j2 < self.ncols());
-        if j1 != j2 { for i in 0..self.nrows() { self.swap((i, j1), (i, j2)); } }
+        if j1 != j2 { for i in 0..self.nrows() { unsafe { self.swap_unchecked((i, j1), (i, j2)) } } }
     }
     pub fn fill_diagonal(&mut self, v: T) where T: Clone {
         for i in 0..self.nrows().min(self.ncols()) { self[(i, i)] = v.clone(); }
@@ -283,12 +287,15 @@ impl<T, R: Dim, C: Dim, S: RawStorageMut<T, R, C>> Matrix<T, R, C, S> {
 }
 impl<T, R: Dim, C: Dim, S: RawStorage<T, R, C>> Index<(usize, usize)> for Matrix<T, R, C, S> {
     type Output = T;
-    fn index(&self, ij: (usize, usize)) -> &T { unsafe { self.get_unchecked(ij) } }
+    fn index(&self, ij: (usize, usize)) -> &T {
+        assert!(ij.0 < self.nrows() && ij.1 < self.ncols());
+        unsafe { self.get_unchecked(ij) }
+    }
 }
 impl<T, R: Dim, C: Dim, S: RawStorageMut<T, R, C>> IndexMut<(usize, usize)> for Matrix<T, R, C, S> {
     fn index_mut(&mut self, ij: (usize, usize)) -> &mut T {
         assert!(ij.0 < self.nrows() && ij.1 < self.ncols());
-        unsafe { self.data.get_unchecked_mut(ij.0, ij.1) }
+        unsafe { self.get_unchecked_mut(ij) }
     }
 }
 impl<T, R: Dim, C: Dim, S: RawStorage<T, R, C>> Index<usize> for Matrix<T, R, C, S> {
@@ -300,7 +307,7 @@ impl<T, R: Dim, C: Dim, S: RawStorageMut<T, R, C>> IndexMut<usize> for Matrix<T,
 }
 impl<T: Scalar + ClosedMulAssign, R: Dim, C: Dim, S: RawStorageMut<T, R, C>> MulAssign<T> for Matrix<T, R, C, S> {
     fn mul_assign(&mut self, rhs: T) {
-        for j in 0..self.ncols() { for i in 0..self.nrows() { self[(i, j)] *= rhs.clone(); } }
+        for j in 0..self.ncols() { for i in 0..self.nrows() { unsafe { *self.get_unchecked_mut((i, j)) *= rhs.clone() } } }
     }
 }
 #[allow(dead_code)]
