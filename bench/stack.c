@@ -1,0 +1,80 @@
+// Prints the bytes of stack that the calls take at 64 pads: the stack below the caller is painted, the call is made, and what it wrote over is
+// counted, less what an empty call writes. A program for x86-64 that needs no C library, so that an emulator can run it.
+#include "wejdarox.h"
+
+typedef unsigned char byte;
+
+void *memset(void *p, int c, size_t n) { volatile byte *q = p; while (n--) *q++ = (byte)c; return p; }
+void *memcpy(void *p, const void *s, size_t n) { volatile byte *q = p; const byte *r = s; while (n--) *q++ = *r++; return p; }
+void *memmove(void *p, const void *s, size_t n) {
+    volatile byte *q = p;
+    const byte *r = s;
+    if ((const byte *)p < r) return memcpy(p, s, n);
+    while (n--) q[n] = r[n];
+    return p;
+}
+
+static long system_call(long number, long a, long b, long c) {
+    long answer;
+    __asm__ volatile("syscall" : "=a"(answer) : "a"(number), "D"(a), "S"(b), "d"(c) : "rcx", "r11", "memory");
+    return answer;
+}
+static void leave(int status) { system_call(60, status, 0, 0); }
+static void put(const char *text, size_t count) { system_call(1, 1, (long)text, (long)count); }
+__asm__(".globl _start\n_start: and $-16,%rsp\n call start\n");
+
+enum { DEEP = 262144, FULL = 4096, HEAD = 6 };
+static double a[FULL], factors[FULL], column[64], x[64], loads[64];
+static size_t swaps[128], ranks[64], pairs, toss_ups, pads, answer;
+static byte file[HEAD + FULL * 8 + 64 * 8];
+
+#define APART __attribute__((noinline)) static
+APART void paint(void) { volatile byte s[DEEP]; for (int i = 0; i < DEEP; i++) s[i] = 0xA5; }
+APART size_t used(void) { volatile byte s[DEEP]; size_t i = 0; while (i < DEEP && s[i] == 0xA5) i++; return DEEP - i; }
+APART void nothing(void) { __asm__ volatile(""); }
+APART void factor(void) { answer = wejdarox_factor(a, FULL, 64, 64, factors, FULL, swaps, 128, &pairs, &toss_ups); __asm__ volatile(""); }
+APART void add(void) { answer = wejdarox_add_column(factors, FULL, column, 64, swaps, 128, 64, 63, &pairs, &toss_ups); __asm__ volatile(""); }
+APART void solve(void) { answer = wejdarox_solve(factors, FULL, swaps, 128, 64, 64, pairs, column, 64, 1, x, 64); __asm__ volatile(""); }
+APART void order(void) { answer = wejdarox_pad_order(file, sizeof file, ranks, loads, &pads); __asm__ volatile(""); }
+
+static size_t taken(void (*call)(void)) {
+    paint();
+    nothing();
+    size_t empty = used();
+    paint();
+    call();
+    return used() - empty;
+}
+
+// A line "NAME BYTES"; ends the program where the call is refused, since it then did not do its work.
+static void say(const char *name, void (*call)(void)) {
+    size_t bytes = taken(call), k = 0, first;
+    char digits[24], line[64];
+    if (answer != 0) { put("refused\n", 8); leave(1); }
+    while (name[k]) { line[k] = name[k]; k++; }
+    line[k++] = ' ';
+    first = sizeof digits;
+    do { digits[--first] = (char)('0' + bytes % 10); bytes /= 10; } while (bytes);
+    while (first < sizeof digits) line[k++] = digits[first++];
+    line[k++] = '\n';
+    put(line, k);
+}
+
+static void numbers(double *p, int count) {
+    static unsigned state = 12345;
+    while (count--) { state = state * 1664525u + 1013904223u; *p++ = (double)(state >> 8) / 4194304.0 - 2.0; }
+}
+
+__attribute__((used)) void start(void) {
+    numbers(a, FULL);
+    numbers(column, 64);
+    memcpy(file, "LXP\1\0\100", HEAD);
+    memcpy(file + HEAD, a, sizeof a);
+    memcpy(file + HEAD + sizeof a, column, sizeof column);
+    say("factor", factor);
+    wejdarox_factor(a, FULL - 64, 64, 63, factors, FULL - 64, swaps, 128, &pairs, &toss_ups);
+    say("add_column", add);
+    say("solve", solve);
+    say("pad_order", order);
+    leave(0);
+}
