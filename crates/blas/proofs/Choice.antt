@@ -34,3 +34,7 @@ pub same-test : (t u : Bool) → (t ≡ true → u ≡ true) → (u ≡ true →
 same-test true u f g = sym (f refl)
 same-test false true f g = g refl
 same-test false false f g = refl
+
+pub and-true : (t : Bool) → (t && true) ≡ t
+and-true true = refl
+and-true false = refl

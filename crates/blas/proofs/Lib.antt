@@ -5,6 +5,7 @@ pub mod Finite
 pub mod FiniteTest
 pub mod One
 pub mod Pivot
+pub mod Product
 pub mod Rows
 pub mod Sum
 pub mod Tied

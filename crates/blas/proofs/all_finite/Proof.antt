@@ -1,40 +1,42 @@
--- What is left to test from row k on gives the whole answer. Assumes nothing.
-use Prim.Native.Nat.{_-_}
-use mathlib.Core.Path.{_≡_, refl, sym, _∙_}
-use mathlib.Core.Bool.{true, false}
+-- Eight products take eight entries a turn: what they tell and what is left from row k on give the answer. Assumes nothing.
+use Prim.Native.Nat.{_-_, _≤_}
+use mathlib.Core.Path.{_≡_, refl, ap₂, _∙_}
+use mathlib.Core.Bool.{true, _&&_}
 use native.Mathlib.Omega.{arith}
 use borrow.Author.Needs.{needs}
 use lib.ListN.{length, drop}
+use lib.Ieee.{ofBits}
 use Rattle.blas.specs.Column.{allFinite}
-use Rattle.blas.proofs.Walk.{finite-next, finite-end}
+use Rattle.blas.proofs.Product.{naught, calm, every, paired, eight, eight-tell, eight-more}
 use Rattle.blas.proofs.all_finite.Statement.{statement}
 use Rattle.blas.proofs.all_finite.Tie as tie
 
 abbrev Inv-loop : tie.InvT-loop
-Inv-loop s k₀ k = allFinite (drop k s) ≡ allFinite s
+Inv-loop s t0₀ t1₀ t2₀ t3₀ t4₀ t5₀ t6₀ t7₀ k₀ t0 t1 t2 t3 t4 t5 t6 t7 k =
+    let ts = eight t0 t1 t2 t3 t4 t5 t6 t7 in
+    (k ≤ length s) × (every calm ts ≡ true) × ((every naught ts && allFinite (drop k s)) ≡ allFinite s)
 
 abbrev μ-loop : tie.MeasureT-loop
-μ-loop s k₀ k = length s - k
+μ-loop s t0₀ t1₀ t2₀ t3₀ t4₀ t5₀ t6₀ t7₀ k₀ t0 t1 t2 t3 t4 t5 t6 t7 k = length s - k
 
 loop-holds : tie.Need-loop-holds Inv-loop μ-loop
-loop-holds c = refl
+unfolding every calm naught ofBits
+loop-holds c = (omega arith, refl, refl)
 
 loop-again : tie.Need-loop-again Inv-loop μ-loop
+unfolding paired
 loop-again c =
-    let at-is-finite = c .before in
-    let at-loop-test = at-is-finite .before .before in
+    let at-loop-test = c .before .before .before .before .before .before .before .before in
     let at-loop = at-loop-test .before in
-    sym (finite-next _ _ (at-loop-test .loop-test .taken) true (sym (at-is-finite .is-finite .ensures) ∙ (c .if1 .taken))) ∙ (at-loop .loop .inv)
+    let l = at-loop .loop in
+    let h = at-loop-test .loop-test .taken in
+    let more = eight-more (at-loop .before .before .args .s .now) (l .k) (omega arith) (eight (l .t0) (l .t1) (l .t2) (l .t3) (l .t4) (l .t5) (l .t6) (l .t7)) refl (l .inv .1) in
+    (omega arith, more .0, more .1 ∙ l .inv .2)
 
 returns : tie.Need-returns Inv-loop μ-loop
 returns c =
-    let at-is-finite = c .before in
-    let at-loop-test = at-is-finite .before .before in
-    let at-loop = at-loop-test .before in
-    sym (finite-next _ _ (at-loop-test .loop-test .taken) false (sym (at-is-finite .is-finite .ensures) ∙ (c .if1 .left))) ∙ (at-loop .loop .inv)
-
-returns-2 : tie.Need-returns-2 Inv-loop μ-loop
-returns-2 c = sym (finite-end _ _ (c .loop-test .left)) ∙ (c .before .loop .inv)
+    let l = c .before .before .loop in
+    ap₂ _&&_ (eight-tell (l .t0) (l .t1) (l .t2) (l .t3) (l .t4) (l .t5) (l .t6) (l .t7) (l .inv .1)) (c .rest-finite .ensures) ∙ l .inv .2
 
 pub all-finite-spec : {M : Type 1} → statement M
 all-finite-spec =
@@ -45,9 +47,30 @@ all-finite-spec =
     loop-holds
     (λ c. omega arith)
     (λ c. omega arith)
-    (λ c κs. search needs)
+    (λ c. omega arith)
+    (λ c. omega arith)
+    (λ c. omega arith)
+    (λ c. omega arith)
+    (λ c. omega arith)
+    (λ c. omega arith)
+    (λ c. omega arith)
+    (λ c. omega arith)
+    (λ c. omega arith)
+    (λ c. omega arith)
+    (λ c. omega arith)
+    (λ c. omega arith)
+    (λ c. omega arith)
+    (λ c. omega arith)
+    (λ c. omega arith)
+    (λ c. omega arith)
+    (λ c. omega arith)
+    (λ c. omega arith)
+    (λ c. omega arith)
+    (λ c. omega arith)
+    (λ c. omega arith)
+    (λ c. omega arith)
     (λ c. omega arith)
     (λ c. omega arith)
     loop-again
-    returns
-    returns-2)
+    (λ c κs. search needs)
+    returns)
