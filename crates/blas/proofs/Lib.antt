@@ -4,6 +4,7 @@ pub mod Exchange
 pub mod Finite
 pub mod FiniteTest
 pub mod One
+pub mod OnePass
 pub mod Pivot
 pub mod Product
 pub mod Rows

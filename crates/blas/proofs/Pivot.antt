@@ -64,7 +64,7 @@ smaller-bare x y =
     ∙ bare-cases (λ a b. lt (bare x) a ≡ lt (bare x) b) (λ a. refl) (zero-right (bare x)) y
 
 -- ---- what is strictly greater in magnitude than anything is not zero
-and-false : (t u : Bool) → (t ≡ true → ⊥) → (t && u) ≡ false
+pub and-false : (t u : Bool) → (t ≡ true → ⊥) → (t && u) ≡ false
 and-false true u n = absurd (n refl)
 and-false false u n = refl
 
@@ -89,7 +89,7 @@ smaller-nonzero x y h = bare-nonzero x y (sym (smaller-bare x y) ∙ h)
 
 -- ---- the order of finite numbers by magnitude
 -- of fractions a / x, b / y, c / z
-frac-trans : (a b c x y z : ℕ) → 0 < x → a * y ≤ b * x → b * z < c * y → a * z < c * x
+pub frac-trans : (a b c x y z : ℕ) → 0 < x → a * y ≤ b * x → b * z < c * y → a * z < c * x
 frac-trans a b c x y z hx p q = lt-of-mul-lt-mul-right y (omega (arith, mul-le-mul-right z p, mul-lt-mul-of-pos-right q hx))
 
 bare-trans : (x y z : Float) → finite x ≡ true → finite y ≡ true → finite z ≡ true → lt (bare y) (bare x) ≡ false → lt (bare y) (bare z) ≡ true → lt (bare x) (bare z) ≡ true

@@ -49,7 +49,7 @@ zero-right (fin false m f) e = simp zero-mul (alike (eqb (m * up f * down e) 0))
 abbrev pub equal : Float → Float → Bool
 equal x y = eq (magnitude x) (magnitude y)
 
-equal-bare : (x y : Float) → equal x y ≡ eq (bare x) (bare y)
+pub equal-bare : (x y : Float) → equal x y ≡ eq (bare x) (bare y)
 equal-bare x y =
     bare-cases (λ a b. eq a (magnitude y) ≡ eq b (magnitude y)) (λ a. refl) (λ e. zero-left e (magnitude y)) x
     ∙ bare-cases (λ a b. eq (bare x) a ≡ eq (bare x) b) (λ a. refl) (zero-right (bare x)) y

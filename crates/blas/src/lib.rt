@@ -1,13 +1,13 @@
 // Arithmetic and pivoting on single columns: base/min_max.rs, base/blas.rs and base/blas_uninit.rs of nalgebra 0.35.0, for f64.
 // Where sizes do not fit, a function leaves all as it was.
 ghost use mathlib.Core.Path.{_≡_};
-ghost use Prim.Native.Nat.{_≤_, _<_, _-_};
+ghost use Prim.Native.Nat.{_≤_, _-_};
 ghost use lib.ListN.{length, drop};
 ghost use lib.Ieee.Scale.{finite};
 ghost use Rattle.blas.specs.Each.{eachFrom, turnsFrom};
 ghost use Rattle.blas.specs.Numbers.{magnitude, isZero};
-ghost use Rattle.blas.specs.Column.{entry, pivotRow, swapRows, scaleFrom, axpyFrom, allFinite, zeros, copied};
-ghost use Rattle.blas.specs.TossUp.{sharedFrom, pivotOf};
+ghost use Rattle.blas.specs.Column.{pivotRow, swapRows, scaleFrom, axpyFrom, allFinite, zeros, copied};
+ghost use Rattle.blas.specs.TossUp.{pivotOf};
 ghost use Rattle.blas.specs.Dot.{addProduct, dotOf};
 
 // Whether x is neither an infinity nor a NaN: such a number less itself is a number.
@@ -38,54 +38,42 @@ pub struct FoundPivot {
     pub tossed: bool,
 }
 
-// The first row at or below `from` with the greatest magnitude; `from` where there is no such row.
-pub fn icamax(col: &[f64], from: usize) -> usize
-    ensures { λ r. ⌜ r ≡ pivotRow from (now (col .entry)) ⌝ }
+// The pivot row, and whether it was a toss-up, in one pass: `last` is the last row so far that was not below the greatest magnitude.
+// With no row to look at, the row is `from`.
+pub fn find_pivot(col: &[f64], from: usize) -> FoundPivot
+    ensures { λ r. ⌜ r ≡ pivotOf from (now (col .entry)) ⌝ }
 {
     if col.len() <= from {
-        return from;
+        return FoundPivot {
+            row: from,
+            tossed: false,
+        };
     }
     let mut the_max = magnitude(col[from]);
     let mut the_i = from;
+    let mut last = from;
     let mut i = from + 1;
     while i < col.len() {
         let val = magnitude(col[i]);
+        if val >= the_max {
+            last = i;
+        }
         if val > the_max {
             the_max = val;
             the_i = i;
         }
         i += 1;
     }
-    the_i
+    let tossed = !is_zero(the_max) & (last != the_i);
+    FoundPivot { row: the_i, tossed }
 }
 
-// Whether another row than `row`, at or below `from`, has that row's magnitude.
-fn is_shared(col: &[f64], from: usize, row: usize) -> bool
-    requires { ⌜ row < length (now col) ⌝ }
-    ensures { λ r. ⌜ r ≡ sharedFrom (magnitude (entry (now (col .entry)) row)) row from (drop from (now (col .entry))) ⌝ }
+// The first row at or below `from` with the greatest magnitude; `from` where there is no such row.
+pub fn icamax(col: &[f64], from: usize) -> usize
+    ensures { λ r. ⌜ r ≡ pivotRow from (now (col .entry)) ⌝ }
 {
-    let the_max = magnitude(col[row]);
-    let mut k = from;
-    while k < col.len() {
-        let val = magnitude(col[k]);
-        if (k != row) & (val == the_max) {
-            return true;
-        }
-        k += 1;
-    }
-    false
-}
-
-// The pivot row, and whether it was a toss-up. With no row to look at, the row is `from`.
-pub fn find_pivot(col: &[f64], from: usize) -> FoundPivot
-    ensures { λ r. ⌜ r ≡ pivotOf from (now (col .entry)) ⌝ }
-{
-    let row = icamax(col, from);
-    if col.len() <= from {
-        return FoundPivot { row, tossed: false };
-    }
-    let tossed = !is_zero(col[row]) & is_shared(col, from, row);
-    FoundPivot { row, tossed }
+    let found = find_pivot(col, from);
+    found.row
 }
 
 // Exchanges the entries i and j.

@@ -1,0 +1,189 @@
+-- The pivot search in one pass. Of the rows so far, `last` is the last one that was not below the greatest magnitude, so another row than the pivot has its
+-- magnitude exactly when `last` is not the pivot row: a row above one that is strictly greater cannot equal it, whatever the doubles are. Assumes nothing.
+use mathlib.Core.Path.{_≡_, refl, sym, ap, _∙_}
+use mathlib.Core.Logic.{inl, inr}
+use mathlib.Core.Bool.{Bool, true, false, cond, not, _&&_, _||_, or-true, or-false, or-assoc, true≢false, false≢true}
+use Prim.Native.Nat.{ℕ, zero, suc, _+_, _-_, _*_, _≤_, _<_}
+use native.Mathlib.Nat.{eq-or-lt-of-le, zero-mul}
+use native.Mathlib.Numerals.{add-one}
+use native.Mathlib.Omega.{arith}
+use borrow.Author.Tests.{ltb-true, ltb-false, lt-ltb, eqb-true, eq-eqb, ne-eqb}
+use lib.Dec.{eqb}
+use lib.ListN.{length, drop}
+use lib.Ieee.{Float, nan, inf, fin, up, down, neg, lt, le, eq, ofBits}
+use lib.Ieee.Fits.{down-pos}
+use Rattle.blas.specs.Numbers.{zero64, magnitude, isZero}
+use Rattle.blas.specs.Column.{Column, entry, searchFrom, pivotRow}
+use Rattle.blas.specs.TossUp.{sharedFrom, pivotOf}
+use Rattle.blas.proofs.Choice.{cond-cases, same-test}
+use Rattle.blas.proofs.Pivot.{bare, and-false, frac-trans, smaller, smaller-bare, smaller-self}
+use Rattle.blas.proofs.Tied.{equal, equal-bare}
+use Rattle.blas.proofs.TossUp.{shared-next, shared-end, found-by}
+use Rattle.blas.proofs.Walk.{search-next, search-end}
+
+-- ---- comparisons of magnitudes, NaNs and infinities among them
+bare-trans : (x y z : Float) → lt (bare x) (bare y) ≡ true → lt (bare y) (bare z) ≡ true → lt (bare x) (bare z) ≡ true
+unfolding lt
+bare-trans nan y z p q = p
+bare-trans (inf s) nan z p q = absurd (false≢true p)
+bare-trans (inf s) (inf t) z p q = absurd (false≢true p)
+bare-trans (inf s) (fin t b f) z p q = absurd (false≢true p)
+bare-trans (fin s a e) nan z p q = absurd (false≢true p)
+bare-trans (fin s a e) (inf t) nan p q = absurd (false≢true q)
+bare-trans (fin s a e) (inf t) (inf u) p q = absurd (false≢true q)
+bare-trans (fin s a e) (inf t) (fin u c g) p q = absurd (false≢true q)
+bare-trans (fin s a e) (fin t b f) nan p q = absurd (false≢true q)
+bare-trans (fin s a e) (fin t b f) (inf u) p q = refl
+bare-trans (fin s a e) (fin t b f) (fin u c g) p q =
+    let less : a * up e * down f < b * up f * down e = ltb-true _ _ p in
+    lt-ltb _ _ (frac-trans (a * up e) (b * up f) (c * up g) (down e) (down f) (down g) (down-pos e) (omega arith) (ltb-true _ _ q))
+
+-- what is greater than t does not equal what is not
+bare-apart : (t x y : Float) → lt (bare t) (bare x) ≡ false → lt (bare t) (bare y) ≡ true → eq (bare x) (bare y) ≡ false
+unfolding lt eq
+bare-apart nan x y p q = absurd (false≢true q)
+bare-apart (inf s) x nan p q = absurd (false≢true q)
+bare-apart (inf s) x (inf u) p q = absurd (false≢true q)
+bare-apart (inf s) x (fin u c g) p q = absurd (false≢true q)
+bare-apart (fin s a e) nan y p q = refl
+bare-apart (fin s a e) (inf t) y p q = absurd (true≢false p)
+bare-apart (fin s a e) (fin t b f) nan p q = refl
+bare-apart (fin s a e) (fin t b f) (inf u) p q = refl
+bare-apart (fin s a e) (fin t b f) (fin u c g) p q =
+    and-false (eqb (b * up f * down g) (c * up g * down f)) _ λ z.
+    let same : b * up f * down g ≡ c * up g * down f = eqb-true _ _ z in
+    let less : b * up f * down g < c * up g * down f = frac-trans (b * up f) (a * up e) (c * up g) (down f) (down e) (down g) (down-pos f) (ltb-false _ _ p) (ltb-true _ _ q) in
+    omega arith
+
+eqb-swap : (a b : ℕ) → eqb a b ≡ eqb b a
+eqb-swap a b = same-test _ _ (λ e. eq-eqb b a (sym (eqb-true a b e))) (λ e. eq-eqb a b (sym (eqb-true b a e)))
+
+bare-swap : (x y : Float) → eq (bare x) (bare y) ≡ eq (bare y) (bare x)
+unfolding eq
+bare-swap nan nan = refl
+bare-swap nan (inf t) = refl
+bare-swap nan (fin t b f) = refl
+bare-swap (inf s) nan = refl
+bare-swap (inf s) (inf t) = refl
+bare-swap (inf s) (fin t b f) = refl
+bare-swap (fin s a e) nan = refl
+bare-swap (fin s a e) (inf t) = refl
+bare-swap (fin s a e) (fin t b f) = ap (λ (z : Bool). z && true) (eqb-swap (a * up e * down f) (b * up f * down e))
+
+smaller-less : (x y z : Float) → smaller x y ≡ true → smaller y z ≡ true → smaller x z ≡ true
+smaller-less x y z p q = smaller-bare x z ∙ bare-trans x y z (sym (smaller-bare x y) ∙ p) (sym (smaller-bare y z) ∙ q)
+
+apart : (t x y : Float) → smaller t x ≡ false → smaller t y ≡ true → equal x y ≡ false
+apart t x y p q = equal-bare x y ∙ bare-apart t x y (sym (smaller-bare t x) ∙ p) (sym (smaller-bare t y) ∙ q)
+
+equal-swap : (x y : Float) → equal x y ≡ equal y x
+equal-swap x y = equal-bare x y ∙ bare-swap x y ∙ sym (equal-bare y x)
+
+-- a magnitude is zero where its number is
+alike : (u w z : Bool) → (z && (u || z)) ≡ (z && (w || z))
+alike u w true = or-true u ∙ sym (or-true w)
+alike u w false = refl
+
+zero-neg : (x : Float) → isZero (neg x) ≡ isZero x
+unfolding isZero eq neg ofBits
+zero-neg nan = refl
+zero-neg (inf s) = refl
+zero-neg (fin true m e) = rw (zero-mul (down e)) (alike true false (eqb (m * up e * 1) 0))
+zero-neg (fin false m e) = rw (zero-mul (down e)) (alike false true (eqb (m * up e * 1) 0))
+
+zero-magnitude : (x : Float) → isZero (magnitude x) ≡ isZero x
+unfolding magnitude
+zero-magnitude x = cond-cases (λ v. isZero v ≡ isZero x) (lt x zero64) (λ t. zero-neg x) (λ t. refl)
+
+-- ---- rows that do not have the magnitude are passed over
+shared-past : (v : Float) (p : ℕ) (c : Column) (n k i : ℕ) → k + n ≡ i → i ≤ length c
+    → ((j : ℕ) → k ≤ j → j < i → eq (magnitude (entry c j)) v ≡ false) → sharedFrom v p k (drop k c) ≡ sharedFrom v p i (drop i c)
+shared-past v p c zero k i e h none = let is : k ≡ i = omega (arith, e) in ap (λ (k : ℕ). sharedFrom v p k (drop k c)) is
+shared-past v p c (suc n) k i e h none =
+    shared-next v p c k (omega (arith, e)) false (ap (λ (b : Bool). not (eqb k p) && b) (none k (omega arith) (omega (arith, e))) ∙ never (not (eqb k p)))
+    ∙ shared-past v p c n (k + 1) i (omega (arith, e)) h (λ j lo hi. none j (omega arith) hi)
+  where
+    never : (b : Bool) → (b && false) ≡ false
+    never true = refl
+    never false = refl
+
+-- ---- what holds before row i is looked at: t is the greatest magnitude so far, b the first row that has it
+pub record Searched (c : Column) (from : ℕ) (t : Float) (b last i : ℕ) : Type 0 where
+  pub found : searchFrom t b i (drop i c) ≡ pivotRow from c
+  pub greatest : t ≡ magnitude (entry c b)
+  pub shared : (not (eqb last b) || sharedFrom t b i (drop i c)) ≡ sharedFrom t b from (drop from c)
+  pub above : (j : ℕ) → from ≤ j → j < i → (y : Float) → smaller (entry c b) y ≡ true → equal (entry c j) y ≡ false
+  pub begun : from < i
+  pub passed : b < i
+
+module _ (c : Column) (from : ℕ) where
+  up-to : (P : ℕ → Type 0) (i : ℕ) → ((j : ℕ) → from ≤ j → j < i → P j) → P i → (j : ℕ) → from ≤ j → j < i + 1 → P j
+  up-to P i g z j lo hi = elim (eq-or-lt-of-le (let h : j ≤ i = omega arith in h)) [ inl e ↦ rw e z | inr l ↦ g j lo l ]
+
+  -- the pivot row itself is none that shares
+  itself : (v : Float) (k : ℕ) → k < length c → sharedFrom v k k (drop k c) ≡ sharedFrom v k (k + 1) (drop (k + 1) c)
+  itself v k h = shared-next v k c k h false (rw (eq-eqb k k refl))
+
+  pub searched-begin : from < length c → (t : Float) → t ≡ magnitude (entry c from) → Searched c from t from from (from + 1)
+  unfolding pivotRow
+  searched-begin h t e =
+      record {
+        found = λ i. searchFrom (e i) from (add-one from i) (drop (add-one from i) c);
+        greatest = e;
+        shared = rw (eq-eqb from from refl) (sym (itself t from h));
+        above = up-to (λ j. (y : Float) → smaller (entry c from) y ≡ true → equal (entry c j) y ≡ false) from (λ j lo hi. absurd (let n : ⊥ = omega arith in n)) (λ y. apart (entry c from) (entry c from) y (smaller-self (entry c from)));
+        begun = omega arith;
+        passed = omega arith;
+      }
+
+  module _ (t : Float) (b last i : ℕ) (s : Searched c from t b last i) (h : i < length c) where
+    abbrev v : Float
+    v = magnitude (entry c i)
+
+    -- row i is strictly greater: no row above it has its magnitude
+    moved : lt t v ≡ true → Searched c from v i i (i + 1)
+    moved g =
+        let more : smaller (entry c b) (entry c i) ≡ true = rw (s .greatest) at g in
+        let past = s .begun in
+        let none = shared-past v i c (i - from) from i (omega arith) (omega arith) (λ j lo hi. s .above j lo hi (entry c i) more) in
+        record {
+          found = sym (search-next c i h t b true g) ∙ s .found;
+          greatest = refl;
+          shared = rw (eq-eqb i i refl) (sym (none ∙ itself v i h));
+          above = up-to (λ j. (y : Float) → smaller (entry c i) y ≡ true → equal (entry c j) y ≡ false) i (λ j lo hi y p. s .above j lo hi y (smaller-less (entry c b) (entry c i) y more p)) (λ y. apart (entry c i) (entry c i) y (smaller-self (entry c i)));
+          begun = omega arith;
+          passed = omega arith;
+        }
+
+    -- row i is not greater: it shares the magnitude where it equals it
+    stayed : (d : Bool) (last' : ℕ) → lt t v ≡ false → eq t v ≡ d → (not (eqb last' b)) ≡ (not (eqb last b) || d) → Searched c from t b last' (i + 1)
+    stayed d last' g e n =
+        let less : smaller (entry c b) (entry c i) ≡ false = rw (s .greatest) at g in
+        let past = s .begun in
+        let passed = s .passed in
+        let same : eq v t ≡ d = rw (s .greatest) (equal-swap (entry c i) (entry c b)) ∙ e in
+        let here : (not (eqb i b) && eq v t) ≡ d = rw (ne-eqb i b (λ q. omega arith)) same in
+        record {
+          found = sym (search-next c i h t b false g) ∙ s .found;
+          greatest = s .greatest;
+          shared = ap (λ (a : Bool). a || sharedFrom t b (i + 1) (drop (i + 1) c)) n ∙ or-assoc (not (eqb last b)) d _ ∙ ap (λ (a : Bool). not (eqb last b) || a) (sym (shared-next t b c i h d here)) ∙ s .shared;
+          above = up-to (λ j. (y : Float) → smaller (entry c b) y ≡ true → equal (entry c j) y ≡ false) i (s .above) (λ y. apart (entry c b) (entry c i) y less);
+          begun = omega arith;
+          passed = omega arith;
+        }
+
+    by-tests : (g d : Bool) → lt t v ≡ g → eq t v ≡ d → Searched c from (cond g v t) (cond g i b) (cond (g || d) i last) (i + 1)
+    by-tests true d p q = moved p
+    by-tests false true p q = let passed = s .passed in stayed true i p q (rw (ne-eqb i b (λ q. omega arith)) (sym (or-true (not (eqb last b)))))
+    by-tests false false p q = stayed false last p q (sym (or-false (not (eqb last b))))
+
+    pub searched-next : (v' t' : Float) (b' last' : ℕ) → v' ≡ v → t' ≡ cond (lt t v') v' t → b' ≡ cond (lt t v') i b → last' ≡ cond (le t v') i last
+        → Searched c from t' b' last' (i + 1)
+    unfolding le
+    searched-next v' t' b' last' e p q r = rw (p, q, r, e) (by-tests (lt t v) (eq t v) refl refl)
+
+  pub searched-end : (t : Float) (b last i : ℕ) → Searched c from t b last i → length c ≤ i → (z : Bool) → z ≡ isZero t
+      → record { row = b; tossed = not z && not (eqb last b) } ≡ pivotOf from c
+  searched-end t b last i s h z e =
+      found-by from b c (sym (search-end c i t b h) ∙ s .found) z (not (eqb last b)) (e ∙ ap isZero (s .greatest) ∙ zero-magnitude (entry c b))
+      (sym (or-false (not (eqb last b))) ∙ ap (λ (a : Bool). not (eqb last b) || a) (sym (shared-end t b c i h)) ∙ s .shared ∙ ap (λ (w : Float). sharedFrom w b from (drop from c)) (s .greatest))
