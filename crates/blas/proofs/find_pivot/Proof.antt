@@ -6,6 +6,7 @@ use native.Mathlib.Omega.{arith}
 use borrow.Author.Needs.{needs}
 use lib.ListN.{length}
 use Rattle.blas.specs.Column.{pivotRow}
+use Rattle.blas.proofs.Choice.{cond-by}
 use Rattle.blas.proofs.OnePass.{Searched, searched-begin, searched-next, searched-end}
 use Rattle.blas.proofs.TossUp.{found-none}
 use Rattle.blas.proofs.Walk.{search-end}
@@ -33,9 +34,9 @@ loop-again c =
     let l = at-loop-test .before .loop in
     let v = at-magnitude2 .magnitude2 in
     searched-next _ _ (l .the-max) (l .the-i) (l .last) (l .i) (l .inv) (at-loop-test .loop-test .taken) (v .result) _ _ _ (v .ensures)
-    (⊎-elim (λ w. rw (w .0 .taken) (w .1)) (λ w. rw (w .0 .left) (w .1)) (c .if3 .came))
-    (⊎-elim (λ w. rw (w .0 .taken) (w .2)) (λ w. rw (w .0 .left) (w .2)) (c .if3 .came))
-    (⊎-elim (λ w. rw (w .0 .taken) (w .1)) (λ w. rw (w .0 .left) (w .1)) (at-if2 .if2 .came))
+    (⊎-elim (λ w. cond-by _ (l .the-max) (w .0 .taken) (w .1)) (λ w. cond-by (v .result) _ (w .0 .left) (w .1)) (c .if3 .came))
+    (⊎-elim (λ w. cond-by _ (l .the-i) (w .0 .taken) (w .2)) (λ w. cond-by (l .i) _ (w .0 .left) (w .2)) (c .if3 .came))
+    (⊎-elim (λ w. cond-by _ (l .last) (w .0 .taken) (w .1)) (λ w. cond-by (l .i) _ (w .0 .left) (w .1)) (at-if2 .if2 .came))
 
 returns-2 : tie.Need-returns-2 Inv-loop μ-loop
 returns-2 c = searched-end _ _ _ _ _ _ (c .before .before .loop .inv) (c .before .loop-test .left) _ (c .is-zero .ensures)
