@@ -146,20 +146,25 @@ pub fn fill_zero(s: &mut [f64])
 fn rest_finite(s: &[f64], from: usize) -> bool
     ensures { λ r. ⌜ r ≡ allFinite (drop from (now (s .entry))) ⌝ }
 {
-    let mut finite = true;
     let mut k = from;
     while k < s.len() {
-        finite = finite & is_finite(s[k]);
-        k += 1;
+        if is_finite(s[k]) {
+            k += 1;
+        } else {
+            return false;
+        }
     }
-    finite
+    true
 }
 
-// Whether no entry is an infinity or a NaN: eight products, with no branch for an entry. Each starts at 0.0, stays a zero over finite
-// factors, and is a NaN after any other.
+// Whether no entry is an infinity or a NaN. By eight products, with no branch for an entry: each starts at 0.0, stays a zero over finite
+// factors, and is a NaN after any other. Fewer than eight entries are tested one by one.
 pub fn all_finite(s: &[f64]) -> bool
     ensures { λ r. ⌜ r ≡ allFinite (now (s .entry)) ⌝ }
 {
+    if s.len() < 8 {
+        return rest_finite(s, 0);
+    }
     let mut t0 = 0.0f64;
     let mut t1 = 0.0f64;
     let mut t2 = 0.0f64;

@@ -1,4 +1,4 @@
--- Eight products take eight entries a turn: what they tell and what is left from row k on give the answer. Assumes nothing.
+-- Fewer than eight entries are all rest. Else eight products take eight entries a turn: what they tell and what is left from row k on give the answer. Assumes nothing.
 use Prim.Native.Nat.{_-_, _≤_}
 use mathlib.Core.Path.{_≡_, refl, ap₂, _∙_}
 use mathlib.Core.Bool.{true, _&&_}
@@ -19,6 +19,9 @@ Inv-loop s t0₀ t1₀ t2₀ t3₀ t4₀ t5₀ t6₀ t7₀ k₀ t0 t1 t2 t3 t4 t
 abbrev μ-loop : tie.MeasureT-loop
 μ-loop s t0₀ t1₀ t2₀ t3₀ t4₀ t5₀ t6₀ t7₀ k₀ t0 t1 t2 t3 t4 t5 t6 t7 k = length s - k
 
+returns : tie.Need-returns Inv-loop μ-loop
+returns c = c .rest-finite .ensures
+
 loop-holds : tie.Need-loop-holds Inv-loop μ-loop
 unfolding every calm naught ofBits
 loop-holds c = (omega arith, refl, refl)
@@ -30,13 +33,13 @@ loop-again c =
     let at-loop = at-loop-test .before in
     let l = at-loop .loop in
     let h = at-loop-test .loop-test .taken in
-    let more = eight-more (at-loop .before .before .args .s .now) (l .k) (omega arith) (eight (l .t0) (l .t1) (l .t2) (l .t3) (l .t4) (l .t5) (l .t6) (l .t7)) refl (l .inv .1) in
+    let more = eight-more (at-loop .before .before .before .args .s .now) (l .k) (omega arith) (eight (l .t0) (l .t1) (l .t2) (l .t3) (l .t4) (l .t5) (l .t6) (l .t7)) refl (l .inv .1) in
     (omega arith, more .0, more .1 ∙ l .inv .2)
 
-returns : tie.Need-returns Inv-loop μ-loop
-returns c =
+returns-2 : tie.Need-returns-2 Inv-loop μ-loop
+returns-2 c =
     let l = c .before .before .loop in
-    ap₂ _&&_ (eight-tell (l .t0) (l .t1) (l .t2) (l .t3) (l .t4) (l .t5) (l .t6) (l .t7) (l .inv .1)) (c .rest-finite .ensures) ∙ l .inv .2
+    ap₂ _&&_ (eight-tell (l .t0) (l .t1) (l .t2) (l .t3) (l .t4) (l .t5) (l .t6) (l .t7) (l .inv .1)) (c .rest-finite2 .ensures) ∙ l .inv .2
 
 pub all-finite-spec : {M : Type 1} → statement M
 all-finite-spec =
@@ -44,6 +47,8 @@ all-finite-spec =
     (tie.spec
     Inv-loop
     μ-loop
+    (λ c κs. search needs)
+    returns
     loop-holds
     (λ c. omega arith)
     (λ c. omega arith)
@@ -73,4 +78,4 @@ all-finite-spec =
     (λ c. omega arith)
     loop-again
     (λ c κs. search needs)
-    returns)
+    returns-2)
