@@ -9,17 +9,17 @@ use native.Mathlib.Numerals.{add-one}
 use native.Mathlib.Omega.{arith}
 use borrow.Author.Tests.{ltb-true, ltb-false, lt-ltb, eqb-true, eq-eqb, ne-eqb}
 use lib.Dec.{eqb}
-use lib.ListN.{length, drop}
+use lib.ListN.{length, drop, drop-of-length-le}
 use lib.Ieee.{Float, nan, inf, fin, up, down, neg, lt, le, eq, ofBits}
 use lib.Ieee.Fits.{down-pos}
 use Rattle.blas.specs.Numbers.{zero64, magnitude, isZero}
 use Rattle.blas.specs.Column.{Column, entry, searchFrom, pivotRow}
-use Rattle.blas.specs.TossUp.{sharedFrom, pivotOf}
+use Rattle.blas.specs.TossUp.{sharedFrom, notBelowFrom, pivotOf}
 use Rattle.blas.proofs.Choice.{cond-cases, same-test}
 use Rattle.blas.proofs.Pivot.{bare, and-false, frac-trans, smaller, smaller-bare, smaller-self}
 use Rattle.blas.proofs.Tied.{equal, equal-bare}
 use Rattle.blas.proofs.TossUp.{shared-next, shared-end, found-by}
-use Rattle.blas.proofs.Walk.{search-next, search-end}
+use Rattle.blas.proofs.Walk.{drop-next, search-next, search-end}
 
 -- ---- comparisons of magnitudes, NaNs and infinities among them
 bare-trans : (x y z : Float) → lt (bare x) (bare y) ≡ true → lt (bare y) (bare z) ≡ true → lt (bare x) (bare z) ≡ true
@@ -94,6 +94,10 @@ zero-neg (fin false m e) = rw (zero-mul (down e)) (alike false true (eqb (m * up
 zero-magnitude : (x : Float) → isZero (magnitude x) ≡ isZero x
 unfolding magnitude
 zero-magnitude x = cond-cases (λ v. isZero v ≡ isZero x) (lt x zero64) (λ t. zero-neg x) (λ t. refl)
+
+neither-test : (a b : Bool) → (a || b) ≡ false → (a ≡ false) × (b ≡ false)
+neither-test true b e = absurd (true≢false e)
+neither-test false b e = (refl, e)
 
 -- ---- rows that do not have the magnitude are passed over
 shared-past : (v : Float) (p : ℕ) (c : Column) (n k i : ℕ) → k + n ≡ i → i ≤ length c
@@ -181,6 +185,24 @@ module _ (c : Column) (from : ℕ) where
         → Searched c from t' b' last' (i + 1)
     unfolding le
     searched-next v' t' b' last' e p q r = rw (p, q, r, e) (by-tests (lt t v) (eq t v) refl refl)
+
+  -- Rows below the greatest magnitude change nothing, so the search may go on at the next one that is not.
+  abbrev Next : Float → ℕ → ℕ → ℕ → Type 0
+  Next t b last r = Searched c from t b last r × (r < length c → le t (magnitude (entry c r)) ≡ true)
+
+  skip : (t : Float) (b last n k : ℕ) → k + n ≡ length c → Searched c from t b last k → Next t b last (notBelowFrom t k (drop k c))
+  unfolding notBelowFrom le
+  skip t b last zero k e s = rw (drop-of-length-le c {i = k} (omega (arith, e))) (s, λ h. absurd (let no : ⊥ = omega (arith, e) in no))
+  skip t b last (suc n) k e s =
+      let here : k < length c = omega (arith, e) in
+      rw (drop-next c k nan here)
+      (cond-cases (Next t b last) (le t (magnitude (entry c k))) (λ z. (s, λ h. z))
+      (λ z.
+      let below = neither-test (lt t (magnitude (entry c k))) (eq t (magnitude (entry c k))) z in
+      rw (← add-one k) (skip t b last n (k + 1) (omega (arith, e)) (stayed t b last k s here false last (below .0) (below .1) (sym (or-false (not (eqb last b))))))))
+
+  pub searched-skip : (t : Float) (b last k r : ℕ) → k ≤ length c → Searched c from t b last k → r ≡ notBelowFrom t k (drop k c) → Next t b last r
+  searched-skip t b last k r h s e = rw e (skip t b last (length c - k) k (omega arith) s)
 
   pub searched-end : (t : Float) (b last i : ℕ) → Searched c from t b last i → length c ≤ i → (z : Bool) → z ≡ isZero t
       → record { row = b; tossed = not z && not (eqb last b) } ≡ pivotOf from c

@@ -1,11 +1,11 @@
 -- Document 02, request 3: whether the pivot was a toss-up, "whether another row at or below has the pivot's magnitude, this not being zero"; magnitudes are equal as
 -- IEEE compares them.
-use mathlib.Core.Bool.{Bool, false, not, _&&_, _||_}
+use mathlib.Core.Bool.{Bool, false, cond, not, _&&_, _||_}
 use mathlib.Core.List.{[], _∷_}
 use Prim.Native.Nat.{ℕ, suc}
 use lib.Dec.{eqb}
 use lib.ListN.{drop}
-use lib.Ieee.{Float, eq}
+use lib.Ieee.{Float, eq, le}
 use Rattle.blas.specs.declared.FoundPivot.{FoundPivot}
 use Rattle.blas.specs.Numbers.{magnitude, isZero}
 use Rattle.blas.specs.Column.{Column, entry, pivotRow}
@@ -19,6 +19,11 @@ unfoldable pub tossUp : ℕ → Column → Bool
 tossUp from c =
     let p = pivotRow from c in
     not (isZero (entry c p)) && sharedFrom (magnitude (entry c p)) p from (drop from c)
+
+-- the first row from row k on that is not below t, or the row behind the last: where the search in one pass looks next
+unfoldable pub notBelowFrom : Float → ℕ → Column → ℕ
+notBelowFrom t k [] = k
+notBelowFrom t k (x ∷ xs) = cond (le t (magnitude x)) k (notBelowFrom t (suc k) xs)
 
 -- what the pivot search answers
 unfoldable pub pivotOf : ℕ → Column → FoundPivot

@@ -7,7 +7,7 @@ ghost use lib.Ieee.Scale.{finite};
 ghost use Rattle.blas.specs.Each.{eachFrom, turnsFrom};
 ghost use Rattle.blas.specs.Numbers.{magnitude, isZero};
 ghost use Rattle.blas.specs.Column.{pivotRow, swapRows, scaleFrom, axpyFrom, allFinite, zeros, copied};
-ghost use Rattle.blas.specs.TossUp.{pivotOf};
+ghost use Rattle.blas.specs.TossUp.{notBelowFrom, pivotOf};
 ghost use Rattle.blas.specs.Dot.{addProduct, dotOf};
 
 // Whether x is neither an infinity nor a NaN: such a number less itself is a number.
@@ -38,6 +38,22 @@ pub struct FoundPivot {
     pub tossed: bool,
 }
 
+// The first row from `from` on whose magnitude is not below `top`, or the row behind the last. A loop of its own, so that the search goes from one such row to
+// the next by a jump that the processor foresees, and waits for no comparison between them.
+fn next_not_below(col: &[f64], from: usize, top: f64) -> usize
+    requires { ⌜ from ≤ length (now col) ⌝ }
+    ensures { λ r. ⌜ r ≡ notBelowFrom top from (drop from (now (col .entry))) ⌝ }
+{
+    let mut k = from;
+    while k < col.len() {
+        if magnitude(col[k]) >= top {
+            return k;
+        }
+        k += 1;
+    }
+    k
+}
+
 // The pivot row, and whether it was a toss-up, in one pass: `last` is the last row so far that was not below the greatest magnitude.
 // With no row to look at, the row is `from`.
 pub fn find_pivot(col: &[f64], from: usize) -> FoundPivot
@@ -52,17 +68,15 @@ pub fn find_pivot(col: &[f64], from: usize) -> FoundPivot
     let mut the_max = magnitude(col[from]);
     let mut the_i = from;
     let mut last = from;
-    let mut i = from + 1;
+    let mut i = next_not_below(col, from + 1, the_max);
     while i < col.len() {
         let val = magnitude(col[i]);
-        if val >= the_max {
-            last = i;
-        }
+        last = i;
         if val > the_max {
             the_max = val;
             the_i = i;
         }
-        i += 1;
+        i = next_not_below(col, i + 1, the_max);
     }
     let tossed = !is_zero(the_max) & (last != the_i);
     FoundPivot { row: the_i, tossed }

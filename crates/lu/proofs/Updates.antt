@@ -12,13 +12,13 @@ use lib.Ieee.{Float, nan}
 use Rattle.blas.specs.Each.{eachFrom, turnsFrom}
 use Rattle.blas.specs.Numbers.{isZero}
 use Rattle.blas.specs.Column.{Column, entry}
-use Rattle.blas.proofs.Each.{each-step, each-stop}
+use Rattle.blas.proofs.Each.{each-step, each-same}
 use Rattle.store.specs.Columns.{columns, isMatrix, onColumns}
 use Rattle.store.specs.Steps.{Matrix, column, stepColumn}
 use Rattle.store.proofs.Columns.{length-columns, entry-at}
 use Rattle.store.proofs.Within.{within-columns}
-use Rattle.panels.specs.Panel.{stepBy, fourSteps, fourStepped}
-use Rattle.panels.proofs.Within.{four-columns}
+use Rattle.panels.specs.Panel.{stepBy, fourSteps, fourStepped, fourSteppedRight}
+use Rattle.panels.proofs.Within.{four-columns, right-columns}
 use Rattle.refusals.proofs.Tests.{neither}
 use Rattle.lu.specs.Adding.{update}
 use Rattle.lu.specs.Own.{updatedAt, live, afterPanel}
@@ -124,6 +124,13 @@ module _ (m n i j : ℕ) (s : Column) (fits : isMatrix m n s ≡ true) (four : i
       four-columns i j m n s t fits four right hj made
       ∙ ap (set cs j) (sym (live-four i cs ok (column cs j)))
       ∙ sym (updates-at cs j i 4 right (rw length-columns hj))
+
+-- by the call of four steps on every column right of theirs
+pub right-done : (m n i : ℕ) (s : Column) → isMatrix m n s ≡ true → i + 4 ≤ m → i + 4 ≤ n → (t : Column) → live i (columns m n s) ≡ true
+    → t ≡ onColumns m n (fourSteppedRight m i) s → columns m n t ≡ afterPanel i (columns m n s)
+unfolding afterPanel
+right-done m n i s fits hm hn t ok made =
+    right-columns i m n s t fits hm hn made ∙ each-same _ _ (i + 4) (columns m n s) (λ j c h l. sym (live-four i (columns m n s) ok c))
 
 -- ---- every column right of a panel: one turn of the loop, its end, and the columns of the panel
 module _ (m n i j : ℕ) (s t : Column) (cs : Matrix) (right : i + 4 ≤ j) (hj : j < n) (same : (q : ℕ) → q < i + 4 → column (columns m n s) q ≡ column cs q)

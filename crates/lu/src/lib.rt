@@ -206,15 +206,27 @@ fn update_four(s: &mut [f64], m: usize, n: usize, i: usize, j: usize)
     }
 }
 
-// That on each column right of them.
-fn update_columns(s: &mut [f64], m: usize, n: usize, i: usize)
+// Step 5 on each column right of column i + 3 by those columns, one by one.
+fn update_columns_each(s: &mut [f64], m: usize, n: usize, i: usize)
     requires { ⌜ (isMatrix m n (now s) ≡ true) × (i + 4 ≤ m) × (i + 4 ≤ n) ⌝ }
     ensures { λ _. ⌜ columns m n (now (s .exit)) ≡ afterPanel i (columns m n (now (s .entry))) ⌝ }
 {
     let mut j = i + 4;
     while j < n {
-        update_four(s, m, n, i, j);
+        update_each(s, m, n, i, i + 4, j);
         j += 1;
+    }
+}
+
+// The same, at once where all four steps were made.
+fn update_columns(s: &mut [f64], m: usize, n: usize, i: usize)
+    requires { ⌜ (isMatrix m n (now s) ≡ true) × (i + 4 ≤ m) × (i + 4 ≤ n) ⌝ }
+    ensures { λ _. ⌜ columns m n (now (s .exit)) ≡ afterPanel i (columns m n (now (s .entry))) ⌝ }
+{
+    if are_live(s, m, n, i) {
+        panels::four_steps_right(s, m, n, i);
+    } else {
+        update_columns_each(s, m, n, i);
     }
 }
 

@@ -13,12 +13,12 @@ use lib.Ieee.{Float, nan, neg, add, mul, binary64}
 use Rattle.blas.specs.Each.{eachFrom}
 use Rattle.blas.specs.Column.{Column, entry}
 use Rattle.blas.proofs.Choice.{cond-cases, and-first, and-second}
-use Rattle.blas.proofs.Each.{each-step, each-stop, each-same}
+use Rattle.blas.proofs.Each.{length-each, each-step, each-stop, each-same}
 use Rattle.store.specs.Columns.{columns, HasRows, isMatrix, onColumns}
 use Rattle.store.specs.Steps.{Matrix, column}
-use Rattle.store.proofs.Columns.{sized, length-columns, columns-rows, entry-at, written-at, on-columns}
+use Rattle.store.proofs.Columns.{sized, length-columns, columns-rows, entry-at, written-at, on-columns, each-rows}
 use Rattle.store.proofs.Within.{set-cases}
-use Rattle.panels.specs.Panel.{stepBy, fourSteps, fourStepped, plusProduct, multiplier, headOf, addFour, tailOf}
+use Rattle.panels.specs.Panel.{stepBy, fourSteps, fourStepped, fourSteppedRight, plusProduct, multiplier, headOf, addFour, tailOf}
 use Rattle.panels.proofs.Four.{length-stepBy, four-rows}
 
 -- ---- the store's rows and columns
@@ -127,16 +127,58 @@ not-stepped i j m n s out =
     (λ t. absurd (out (leb-true (i + 4) (min m j) (and-first (leb (i + 4) (min m j)) (ltb j (length (columns m n s))) t)) (rw length-columns at (ltb-true j (length (columns m n s)) (and-second (leb (i + 4) (min m j)) (ltb j (length (columns m n s))) t)))))
     (λ t. refl)
 
+length-four : (i : ℕ) (cs : Matrix) (c : Column) → length (fourSteps i cs c) ≡ length c
+unfolding fourSteps
+length-four i cs c = length-stepBy cs (i + 3) _ ∙ length-stepBy cs (i + 2) _ ∙ length-stepBy cs (i + 1) _ ∙ length-stepBy cs i c
+
 -- THE LAW of the call, for those above: column j has the four steps, and the others are as they were
 pub four-columns : (i j m n : ℕ) (s t : List Float) → isMatrix m n s ≡ true → i + 4 ≤ m → i + 4 ≤ j → j < n → t ≡ onColumns m n (fourStepped m i j) s
     → columns m n t ≡ set (columns m n s) j (fourSteps i (columns m n s) (column (columns m n s) j))
-unfolding fourSteps
 four-columns i j m n s t fits four right hj made =
     let cs = columns m n s in
     let size = sized m n s fits .size in
     let c = fourSteps i cs (column cs j) in
     let full : (k : ℕ) → k < n → length (column cs k) ≡ m = λ k h. columns-rows m n s size k (rw length-columns h) in
-    let long : length c ≡ m = length-stepBy cs (i + 3) _ ∙ length-stepBy cs (i + 2) _ ∙ length-stepBy cs (i + 1) _ ∙ length-stepBy cs i (column cs j) ∙ full j hj in
+    let long : length c ≡ m = length-four i cs (column cs j) ∙ full j hj in
     let is : fourStepped m i j cs ≡ set cs j c = stepped-is i j m n s size four right hj in
     let rows : HasRows m (set cs j c) = λ k h. set-cases (λ (x : Column). length x ≡ m) cs j k c [] (rw length-columns hj) (λ e. long) (λ d. full k (omega (arith, h, length-set cs j c, length-columns m n s))) in
     ap (columns m n) made ∙ on-columns m n (fourStepped m i j) s fits (ap length is ∙ length-set cs j c ∙ length-columns m n s) (rw is rows) ∙ is
+
+-- ---- every column right of the four
+-- they go by the columns that they read
+four-same : (i : ℕ) (a b : Matrix) (c : Column) → ((k : ℕ) → k < i + 4 → column a k ≡ column b k) → fourSteps i a c ≡ fourSteps i b c
+unfolding fourSteps stepBy
+four-same i a b c e = rw (e i (omega arith), e (i + 1) (omega arith), e (i + 2) (omega arith), e (i + 3) (omega arith)) refl
+
+-- one turn: column j was stepped, the columns left of it being those of ds as far as they are read
+module _ (i j m n : ℕ) (s t : List Float) (ds : Matrix) (right : i + 4 ≤ j) (hj : j < n) (same : (k : ℕ) → k < i + 4 → column (columns m n s) k ≡ column ds k)
+    (made : columns m n t ≡ set (columns m n s) j (fourSteps i (columns m n s) (column (columns m n s) j))) where
+  pub right-turn : eachFrom (λ k c. fourSteps i ds c) (j + 1) (columns m n t) ≡ eachFrom (λ k c. fourSteps i ds c) j (columns m n s)
+  right-turn =
+      ap (eachFrom (λ k c. fourSteps i ds c) (j + 1)) (made ∙ ap (set (columns m n s) j) (four-same i (columns m n s) ds (column (columns m n s) j) same))
+      ∙ each-step (λ k c. fourSteps i ds c) j (columns m n s) [] (rw length-columns hj)
+
+  pub right-left : (k : ℕ) → k < i + 4 → column (columns m n t) k ≡ column ds k
+  right-left k h = ap (λ (es : Matrix). column es k) made ∙ getD-set-other (columns m n s) j k _ [] (λ e. omega arith) ∙ same k h
+
+module _ (i m n : ℕ) (s : List Float) where
+  pub right-is : i + 4 ≤ m → i + 4 ≤ n → fourSteppedRight m i (columns m n s) ≡ eachFrom (λ j c. fourSteps i (columns m n s) c) (i + 4) (columns m n s)
+  unfolding fourSteppedRight
+  right-is hm hn = rw (le-leb (i + 4) (min m (length (columns m n s))) (omega (arith, length-columns m n s)))
+
+  pub not-right : (i + 4 ≤ min m n → ⊥) → columns m n s ≡ fourSteppedRight m i (columns m n s)
+  unfolding fourSteppedRight
+  not-right out =
+      cond-cases (λ (x : Matrix). columns m n s ≡ x) (leb (i + 4) (min m (length (columns m n s))))
+      (λ t. absurd (out (rw length-columns at (leb-true (i + 4) (min m (length (columns m n s))) t)))) (λ t. refl)
+
+  -- THE LAW of that call, for those above
+  pub right-columns : (t : List Float) → isMatrix m n s ≡ true → i + 4 ≤ m → i + 4 ≤ n → t ≡ onColumns m n (fourSteppedRight m i) s
+      → columns m n t ≡ eachFrom (λ j c. fourSteps i (columns m n s) c) (i + 4) (columns m n s)
+  right-columns t fits hm hn made =
+      let cs = columns m n s in
+      let is = right-is hm hn in
+      ap (columns m n) made
+      ∙ on-columns m n (fourSteppedRight m i) s fits (ap length is ∙ length-each _ (i + 4) cs ∙ length-columns m n s)
+      (rw is (each-rows m (λ j c. fourSteps i cs c) (i + 4) cs (λ j c l. length-four i cs c ∙ l) (columns-rows m n s (sized m n s fits .size))))
+      ∙ is

@@ -20,6 +20,10 @@ fourSteps i cs c = stepBy cs (i + 3) (stepBy cs (i + 2) (stepBy cs (i + 1) (step
 unfoldable pub fourStepped : ℕ → ℕ → ℕ → Matrix → Matrix
 fourStepped m i j cs = cond (leb (i + 4) (min m j) && ltb j (length cs)) (set cs j (fourSteps i cs (column cs j))) cs
 
+-- and for every column right of them
+unfoldable pub fourSteppedRight : ℕ → ℕ → Matrix → Matrix
+fourSteppedRight m i cs = cond (leb (i + 4) (min m (length cs))) (eachFrom (λ j c. fourSteps i cs c) (i + 4) cs) cs
+
 -- ---- row by row
 
 -- a times x, rounded, plus y, rounded

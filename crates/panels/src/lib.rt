@@ -6,7 +6,7 @@ ghost use Prim.Native.Nat.{_+_, _≤_, _<_};
 ghost use lib.ListN.{set};
 ghost use Rattle.store.specs.Columns.{columns, isMatrix, onColumns};
 ghost use Rattle.store.specs.Steps.{column};
-ghost use Rattle.panels.specs.Panel.{headOf, tailOf, fourStepped};
+ghost use Rattle.panels.specs.Panel.{headOf, tailOf, fourSteps, fourStepped, fourSteppedRight};
 
 // The rows i + 1 to i + 3 of column j after the four steps.
 fn head(s: &mut [f64], m: usize, n: usize, i: usize, j: usize)
@@ -58,7 +58,16 @@ fn tail(s: &mut [f64], m: usize, n: usize, i: usize, j: usize)
     }
 }
 
-// The steps i to i + 3 on column j, by those columns. Where column j does not lie right of them, or there is no row i + 3, nothing is done.
+// The steps i to i + 3 on column j, by those columns.
+fn steps_on(s: &mut [f64], m: usize, n: usize, i: usize, j: usize)
+    requires { ⌜ (isMatrix m n (now s) ≡ true) × (i + 4 ≤ m) × (i + 4 ≤ j) × (j < n) ⌝ }
+    ensures { λ _. ⌜ columns m n (now (s .exit)) ≡ set (columns m n (now (s .entry))) j (fourSteps i (columns m n (now (s .entry))) (column (columns m n (now (s .entry))) j)) ⌝ }
+{
+    head(s, m, n, i, j);
+    tail(s, m, n, i, j);
+}
+
+// That, where column j lies right of those columns and there is a row i + 3.
 pub fn four_steps(s: &mut [f64], m: usize, n: usize, i: usize, j: usize)
     ensures { λ _. ⌜ now (s .exit) ≡ onColumns m n (fourStepped m i j) (now (s .entry)) ⌝ }
 {
@@ -75,6 +84,26 @@ pub fn four_steps(s: &mut [f64], m: usize, n: usize, i: usize, j: usize)
     if most - 4 < i {
         return;
     }
-    head(s, m, n, i, j);
-    tail(s, m, n, i, j);
+    steps_on(s, m, n, i, j);
+}
+
+// The steps i to i + 3 on every column right of theirs, where these columns and a row i + 3 are there.
+pub fn four_steps_right(s: &mut [f64], m: usize, n: usize, i: usize)
+    ensures { λ _. ⌜ now (s .exit) ≡ onColumns m n (fourSteppedRight m i) (now (s .entry)) ⌝ }
+{
+    if !store::is_matrix(s, m, n) {
+        return;
+    }
+    let most = store::min(m, n);
+    if most < 4 {
+        return;
+    }
+    if most - 4 < i {
+        return;
+    }
+    let mut j = i + 4;
+    while j < n {
+        steps_on(s, m, n, i, j);
+        j += 1;
+    }
 }

@@ -1,6 +1,6 @@
 -- The steps on the columns, as the loops and the callers meet them: a range of columns, and that the shape of the matrix is kept. Assumes nothing.
-use mathlib.Core.Path.{_≡_, sym, ap, _∙_}
-use mathlib.Core.Bool.{cond}
+use mathlib.Core.Path.{_≡_, refl, sym, ap, _∙_}
+use mathlib.Core.Bool.{true, cond}
 use mathlib.Core.List.{List, []}
 use Prim.Native.Nat.{ℕ, _+_, _-_, _*_, _≤_, _<_, min}
 use native.Mathlib.Omega.{arith}
@@ -8,15 +8,23 @@ use borrow.Author.Tests.{ltb-true, ltb-false, lt-ltb, le-ltb}
 use borrow.Rule.Slice.PartMut.{midOf, putMid, same-len-mid}
 use lib.Dec.{ltb}
 use lib.ListN.{length, set}
-use lib.Ieee.{Float, nan}
-use Rattle.blas.specs.Column.{Column, swapRows, copied}
+use lib.Seq.{ext-getD}
+use lib.Ieee.{Float, nan, neg}
+use Rattle.blas.specs.Each.{eachFrom}
+use Rattle.blas.specs.Column.{Column, entry, swapRows, copied}
 use Rattle.blas.proofs.Choice.{test-cases, cond-cases}
-use Rattle.blas.proofs.Each.{length-each, each-id, each-same}
-use Rattle.blas.proofs.Exchange.{length-exchanged, exchanged-is, exchanged-out}
-use Rattle.blas.proofs.Rows.{length-axpy, copied-whole}
-use Rattle.store.specs.Columns.{columns, HasRows}
+use Rattle.blas.proofs.Each.{length-each, each-id, each-same, each-at, each-before}
+use Rattle.blas.proofs.Exchange.{length-exchanged, exchanged-is, exchanged-out, exchanged-self}
+use Rattle.blas.proofs.Rows.{length-axpy, axpy-none, copied-whole}
+use Rattle.store.specs.Columns.{columns, HasRows, isMatrix}
 use Rattle.store.specs.Steps.{Matrix, column, columnsSwapped, swapInAll, rowsSwapped, stepColumn, stepColumns, eliminated}
-use Rattle.store.proofs.Columns.{length-columns, columns-rows, column-length, part-column, column-lent, column-turn, column-stop, each-rows}
+use Rattle.store.proofs.Columns.{sized, length-columns, columns-rows, column-length, part-column, column-lent, column-turn, column-stop, each-rows}
+
+-- rows that are one stay
+pub rows-itself : (i p from to : ℕ) (cs : Matrix) → i ≡ p → cs ≡ rowsSwapped i p from to cs
+unfolding rowsSwapped
+rows-itself i p from to cs e =
+    rw (← e) (sym (each-id (λ j c. cond (ltb j to) (swapRows i i c) c) from cs (λ j c h. cond-cases (λ (x : Column). x ≡ c) (ltb j to) (λ t. exchanged-self nan i c) (λ t. refl))))
 
 -- ---- rows exchanged in a range of columns
 
@@ -97,11 +105,6 @@ written : (i m n : ℕ) (s c new : List Float) → i < n → length s ≡ n * m 
 written i m n s c new h len fit kept made =
     column-lent (λ (x : Column). new) m n i s c h len kept (made ∙ copied-whole new (midOf (i * m) (i * m + m - i * m) s) (fit ∙ sym (column-length m n i s h len)))
 
--- past the last column there is none to the right
-pub eliminated-none : (i m n : ℕ) (s : List Float) → n ≤ i → columns m n s ≡ eliminated i (columns m n s)
-unfolding eliminated stepColumns
-eliminated-none i m n s h = sym (column-stop _ m n (i + 1) s (omega arith))
-
 -- a column that is not there is not exchanged
 pub swapped-none : (i j m n : ℕ) (s : List Float) → (i < n → j < n → ⊥) → columns m n s ≡ columnsSwapped i j (columns m n s)
 swapped-none i j m n s out = sym (exchanged-out [] i j (columns m n s) (λ hi hj. out (rw length-columns at hi) (rw length-columns at hj)))
@@ -123,3 +126,23 @@ module _ (i j m n : ℕ) (s x y x' y' c d : List Float) (hi : i < n) (hj : j < n
       written j m n s' d x' hj len' (ap length x-is ∙ columns-rows m n s len i (rw length-columns hi)) kd ed
       ∙ (λ t. set (first t) j (x-is t))
       ∙ sym (exchanged-is [] i j cs (rw length-columns hi) (rw length-columns hj))
+
+-- no row is below row i
+eliminated-no-row : (i m : ℕ) (cs : Matrix) → m ≤ i → HasRows m cs → cs ≡ eliminated i cs
+unfolding eliminated stepColumns stepColumn
+eliminated-no-row i m cs h rows =
+    let l = column cs i in
+    sym (ext-getD [] (eachFrom (λ j c. stepColumn i l c) (i + 1) cs) cs (length-each _ (i + 1) cs)
+    (λ j k.
+    let hj : j < length cs = rw length-each at k in
+    test-cases (ltb j (i + 1))
+    (λ t. each-before _ (i + 1) cs j [] (ltb-true j (i + 1) t))
+    (λ t. each-at _ (i + 1) cs j [] (ltb-false j (i + 1) t) hj ∙ axpy-none (i + 1) (neg (entry (column cs j) i)) l (column cs j) (rw (rows j hj) (omega arith)))))
+
+-- past the last column there is none to the right, and past the last row none below
+pub eliminated-past : (i m n : ℕ) (s : List Float) → isMatrix m n s ≡ true → min m n ≤ i → columns m n s ≡ eliminated i (columns m n s)
+unfolding eliminated stepColumns
+eliminated-past i m n s fits h =
+    test-cases (ltb i n)
+    (λ t. let l = ltb-true i n t in eliminated-no-row i m (columns m n s) (omega arith) (columns-rows m n s (sized m n s fits .size)))
+    (λ t. let l = ltb-false i n t in sym (column-stop _ m n (i + 1) s (omega arith)))

@@ -1,6 +1,7 @@
 // Work on whole matrices that lie column after column in a slice: the views and swaps of nalgebra's Matrix, for f64.
 // A slice that does not hold n columns of m entries, both at most 64, stays as it was.
 ghost use mathlib.Core.Path.{_≡_};
+ghost use mathlib.Core.Bool.{true};
 ghost use Prim.Native.Nat.{_*_, _<_, min};
 ghost use lib.ListN.{length, set};
 ghost use Rattle.store.specs.Columns.{columns, isMatrix, onColumns};
@@ -31,6 +32,9 @@ pub fn swap_rows(s: &mut [f64], m: usize, n: usize, i: usize, p: usize, from: us
     ensures { λ _. ⌜ now (s .exit) ≡ onColumns m n (rowsSwapped i p from to) (now (s .entry)) ⌝ }
 {
     if !is_matrix(s, m, n) {
+        return;
+    }
+    if i == p {
         return;
     }
     let end = min(to, n);
@@ -113,6 +117,21 @@ pub fn step_columns(s: &mut [f64], m: usize, n: usize, l: &[f64], i: usize, from
 }
 
 // Step i on column j, by column i of the same store: each entry below row i takes minus the entry of row i, the one number copied, times its multiplier.
+fn step_inner(s: &mut [f64], m: usize, n: usize, i: usize, j: usize)
+    requires { ⌜ (isMatrix m n (now s) ≡ true) × (i < m) × (i < n) × (j < n) ⌝ }
+    ensures { λ _. ⌜ columns m n (now (s .exit)) ≡ set (columns m n (now (s .entry))) j (stepColumn i (column (columns m n (now (s .entry))) i) (column (columns m n (now (s .entry))) j)) ⌝ }
+{
+    let a = i * m;
+    let b = j * m;
+    let u = -s[b + i];
+    let mut k = i + 1;
+    while k < m {
+        s[b + k] = u * s[a + k] + s[b + k];
+        k += 1;
+    }
+}
+
+// That, where the columns and row i are there.
 pub fn step_within(s: &mut [f64], m: usize, n: usize, i: usize, j: usize)
     ensures { λ _. ⌜ now (s .exit) ≡ onColumns m n (λ cs. set cs j (stepColumn i (column cs i) (column cs j))) (now (s .entry)) ⌝ }
 {
@@ -125,14 +144,7 @@ pub fn step_within(s: &mut [f64], m: usize, n: usize, i: usize, j: usize)
     if min(m, n) <= i {
         return;
     }
-    let a = i * m;
-    let b = j * m;
-    let u = -s[b + i];
-    let mut k = i + 1;
-    while k < m {
-        s[b + k] = u * s[a + k] + s[b + k];
-        k += 1;
-    }
+    step_inner(s, m, n, i, j);
 }
 
 // Step i on the columns right of column i, whose entries below row i are the multipliers.
@@ -142,12 +154,12 @@ pub fn eliminate(s: &mut [f64], m: usize, n: usize, i: usize)
     if !is_matrix(s, m, n) {
         return;
     }
-    if n <= i {
+    if min(m, n) <= i {
         return;
     }
     let mut j = i + 1;
     while j < n {
-        step_within(s, m, n, i, j);
+        step_inner(s, m, n, i, j);
         j += 1;
     }
 }

@@ -1,70 +1,26 @@
--- The columns that are left from column j on give the whole; those of the panel stay. Assumes nothing.
-use Prim.Native.Nat.{ℕ, _+_, _-_, _≤_, _<_}
-use mathlib.Core.Path.{_≡_, refl, sym, _∙_}
-use native.Mathlib.Omega.{arith}
+-- By the test whether all four steps were made: at once (`right-done`), or one by one. Assumes nothing.
+use mathlib.Core.Path.{sym, _∙_}
 use borrow.Author.Needs.{needs}
-use lib.ListN.{length}
-use Rattle.blas.specs.Each.{eachFrom, turnsFrom}
-use Rattle.store.specs.Columns.{columns}
-use Rattle.store.specs.Steps.{column}
-use Rattle.store.proofs.Columns.{sized, same-matrix, column-stop}
-use Rattle.lu.specs.Adding.{update}
-use Rattle.lu.specs.Own.{afterPanel}
-use Rattle.lu.proofs.Updates.{panel-stays, panel-turn}
+use Rattle.lu.proofs.Updates.{right-done}
 use Rattle.lu.proofs.update_columns.Statement.{statement}
 use Rattle.lu.proofs.update_columns.Tie as tie
 
-abbrev Inv-loop : tie.InvT-loop
-Inv-loop s₀ m n i j₀ s j = (length s ≡ length s₀) × (i + 4 ≤ j) × ((q : ℕ) → q < i + 4 → column (columns m n s) q ≡ column (columns m n s₀) q)
-    × (eachFrom (λ k c. turnsFrom (update (columns m n s₀)) i 4 c) j (columns m n s) ≡ afterPanel i (columns m n s₀))
-
-abbrev μ-loop : tie.MeasureT-loop
-μ-loop s₀ m n i j₀ s j = n - j
-
-loop-holds : tie.Need-loop-holds Inv-loop μ-loop
-unfolding afterPanel
-loop-holds c = (refl, omega arith, λ q h. refl, refl)
-
-update-four-requires : tie.Need-update-four-requires Inv-loop μ-loop
-update-four-requires c κs =
-    let at-loop = c .before .before in
-    let at-start = at-loop .before .before in
-    let inv = at-loop .loop .inv in
-    (same-matrix _ _ _ _ (inv .0) ∙ (at-start .pre .0), at-start .pre .1, inv .1, c .before .loop-test .taken)
-
-add-j-2 : tie.Need-add-j-2 Inv-loop μ-loop
-add-j-2 c =
-    let at-start = c .before .before .before .before .before .before .before in
-    omega (arith, sized _ _ _ (at-start .pre .0) .columns-most)
-
-loop-again : tie.Need-loop-again Inv-loop μ-loop
-loop-again c =
-    let at-update-four = c .before .before in
-    let at-loop-test = at-update-four .before .before in
-    let at-loop = at-loop-test .before in
-    let g = at-loop .before .before .args in
-    let inv = at-loop .loop .inv in
-    let k = at-update-four .update-four in
-    let hj = at-loop-test .loop-test .taken in
-    let cs = columns (g .m) (g .n) (g .s .now) in
-    (k .kept .0 ∙ inv .0, omega arith, panel-stays _ _ _ _ _ _ cs (inv .1) hj (inv .2) (k .ensures), panel-turn _ _ _ _ _ _ cs (inv .1) hj (inv .2) (k .ensures) ∙ inv .3)
-
-returns : tie.Need-returns Inv-loop μ-loop
+returns : tie.Need-returns
 returns c =
-    let inv = c .before .loop .inv in
-    sym (column-stop _ _ _ _ _ (c .loop-test .left)) ∙ inv .3
+    let at-four-steps-right = c .before .before in
+    let at-if1 = at-four-steps-right .before .before in
+    let at-are-live = at-if1 .before in
+    let pre = at-are-live .before .before .before .pre in
+    right-done _ _ _ _ (pre .0) (pre .1) (pre .2) _ (sym (at-are-live .are-live .ensures) ∙ (at-if1 .if1 .taken)) (at-four-steps-right .four-steps-right .ensures)
 
 pub update-columns-spec : {M : Type 1} → statement M
 update-columns-spec =
     tie.close
     (tie.spec
-    Inv-loop
-    μ-loop
-    (λ c. omega (arith, sized _ _ _ (c .before .pre .0) .rows-most))
-    loop-holds
-    update-four-requires
-    add-j-2
-    (λ c. omega arith)
-    loop-again
+    (λ c κs. search needs)
+    (λ c κs. search needs)
+    (λ c κs. search needs)
     (λ c. search needs)
-    returns)
+    returns
+    (λ c. search needs)
+    (λ c. c .before .before .update-columns-each .ensures))

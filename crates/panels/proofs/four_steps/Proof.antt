@@ -1,4 +1,4 @@
--- Past the tests: the head, then the rows below it, are the four steps (`both-made`). Assumes nothing.
+-- By the tests, and what the steps give past them. Assumes nothing.
 use Prim.Native.Nat.{_+_, _≤_, _<_}
 use mathlib.Core.Path.{_≡_, refl, sym, _∙_}
 use mathlib.Core.Bool.{true}
@@ -7,8 +7,8 @@ use borrow.Author.Needs.{needs}
 use borrow.Author.Tests.{not-true, not-false}
 use lib.ListN.{length}
 use Rattle.store.specs.Columns.{isMatrix}
-use Rattle.store.proofs.Columns.{sized, same-matrix, on-none, on-done}
-use Rattle.panels.proofs.Within.{stepped-is, both-made, not-stepped}
+use Rattle.store.proofs.Columns.{sized, on-none, on-done}
+use Rattle.panels.proofs.Within.{stepped-is, not-stepped}
 use Rattle.panels.proofs.four_steps.Statement.{statement}
 use Rattle.panels.proofs.four_steps.Tie as tie
 
@@ -45,22 +45,11 @@ has c =
     let enough = c .before .if3 .left in
     (sym (at-min .before .before .before .is-matrix .ensures) ∙ not-false _ (at-min .before .before .if1 .left), omega arith, omega arith, at-min .before .if2 .left)
 
-head-requires : tie.Need-head-requires
-head-requires c κs = has (c .before)
-
-tail-requires : tie.Need-tail-requires
-tail-requires c κs =
-    let h = has (c .before .before .before .before .before) in
-    (same-matrix _ _ _ _ (c .before .before .before .head .kept .0) ∙ h .0, h .1, h .2, h .3)
-
 returns-5 : tie.Need-returns-5
 returns-5 c =
-    let at-tail = c .before .before in
-    let at-head = at-tail .before .before .before .before in
-    let h = has (at-head .before .before) in
-    let size = sized _ _ _ (h .0) .size in
-    on-done _ _ _ _ _ (h .0) (at-tail .tail .kept .0 ∙ at-head .head .kept .0)
-    (both-made _ _ _ _ _ size (h .1) (h .2) (h .3) _ _ (at-head .head .ensures) (at-tail .tail .ensures) ∙ sym (stepped-is _ _ _ _ _ size (h .1) (h .2) (h .3)))
+    let at-steps-on = c .before .before in
+    let h = has (at-steps-on .before .before) in
+    on-done _ _ _ _ _ (h .0) (at-steps-on .steps-on .kept .0) (at-steps-on .steps-on .ensures ∙ sym (stepped-is _ _ _ _ _ (sized _ _ _ (h .0) .size) (h .1) (h .2) (h .3)))
 
 pub four-steps-spec : {M : Type 1} → statement M
 four-steps-spec =
@@ -76,7 +65,6 @@ four-steps-spec =
     returns-3
     (λ c. search needs)
     returns-4
-    head-requires
-    tail-requires
+    (λ c κs. has (c .before))
     (λ c. search needs)
     returns-5)

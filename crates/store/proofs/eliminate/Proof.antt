@@ -9,8 +9,8 @@ use lib.ListN.{length}
 use Rattle.store.specs.Columns.{columns, isMatrix}
 use Rattle.store.specs.Steps.{column, stepColumns, eliminated}
 use Rattle.store.proofs.Columns.{same-matrix, column-stop, on-none, on-done}
-use Rattle.store.proofs.Steps.{eliminated-none}
-use Rattle.store.proofs.Within.{within-columns, stepped-column, stepped-turn}
+use Rattle.store.proofs.Steps.{eliminated-past}
+use Rattle.store.proofs.Within.{stepped-column, stepped-turn}
 use Rattle.store.proofs.eliminate.Statement.{statement}
 use Rattle.store.proofs.eliminate.Tie as tie
 
@@ -22,19 +22,32 @@ Inv-loop s₀ m n i j₀ s j =
 abbrev μ-loop : tie.MeasureT-loop
 μ-loop s₀ m n i j₀ s j = n - j
 
--- past the tests the slice is a matrix
-fits : (c : tie.Else2 Inv-loop μ-loop) → let g = c .before .before .before .before .before .args in isMatrix (g .m) (g .n) (g .s .now) ≡ true
-fits c = sym (c .before .before .is-matrix .ensures) ∙ not-false _ (c .before .if1 .left)
+-- past the tests the slice is a matrix that has row and column i
+has : (c : tie.Else2 Inv-loop μ-loop) → let g = c .before .before .before .before .before .before .args in
+    (isMatrix (g .m) (g .n) (g .s .now) ≡ true) × (g .i < g .m) × (g .i < g .n)
+has c =
+    let at-min = c .before in
+    let e = at-min .min .ensures in
+    (sym (at-min .before .before .is-matrix .ensures) ∙ not-false _ (at-min .before .if1 .left), omega arith, omega arith)
 
 returns : tie.Need-returns Inv-loop μ-loop
 returns c = on-none _ _ _ _ (sym (c .before .is-matrix .ensures) ∙ not-true _ (c .if1 .taken))
 
 returns-2 : tie.Need-returns-2 Inv-loop μ-loop
-returns-2 c = on-done _ _ _ _ _ (sym (c .before .before .is-matrix .ensures) ∙ not-false _ (c .before .if1 .left)) refl (eliminated-none _ _ _ _ (c .if2 .taken))
+returns-2 c =
+    let at-min = c .before in
+    let fit = sym (at-min .before .before .is-matrix .ensures) ∙ not-false _ (at-min .before .if1 .left) in
+    on-done _ _ _ _ _ fit refl (eliminated-past _ _ _ _ fit (rw (← at-min .min .ensures) (c .if2 .taken)))
 
 loop-holds : tie.Need-loop-holds Inv-loop μ-loop
 unfolding eliminated
 loop-holds c = (refl, omega arith, refl, refl)
+
+step-inner-requires : tie.Need-step-inner-requires Inv-loop μ-loop
+step-inner-requires c κs =
+    let at-loop = c .before .before in
+    let h = has (at-loop .before) in
+    (same-matrix _ _ _ _ (at-loop .loop .inv .0) ∙ h .0, h .1, h .2, c .before .loop-test .taken)
 
 loop-again : tie.Need-loop-again Inv-loop μ-loop
 loop-again c =
@@ -43,14 +56,14 @@ loop-again c =
     let at-loop = at-turn .before in
     let inv = at-loop .loop .inv in
     let hj = at-turn .loop-test .taken in
-    let made = within-columns _ _ _ _ _ (same-matrix _ _ _ _ (inv .0) ∙ fits (at-loop .before)) hj _ (at-step .step-within .ensures) in
-    (at-step .step-within .kept .0 ∙ inv .0, omega arith, stepped-column _ _ _ _ _ _ hj made (inv .1) ∙ inv .2, stepped-turn _ _ _ _ _ _ hj made _ (inv .2) ∙ inv .3)
+    let made = at-step .step-inner .ensures in
+    (at-step .step-inner .kept .0 ∙ inv .0, omega arith, stepped-column _ _ _ _ _ _ hj made (inv .1) ∙ inv .2, stepped-turn _ _ _ _ _ _ hj made _ (inv .2) ∙ inv .3)
 
 returns-3 : tie.Need-returns-3 Inv-loop μ-loop
 unfolding stepColumns
 returns-3 c =
     let inv = c .before .loop .inv in
-    on-done _ _ _ _ _ (fits (c .before .before)) (inv .0) (sym (column-stop _ _ _ _ _ (c .loop-test .left)) ∙ inv .3)
+    on-done _ _ _ _ _ (has (c .before .before) .0) (inv .0) (sym (column-stop _ _ _ _ _ (c .loop-test .left)) ∙ inv .3)
 
 pub eliminate-spec : {M : Type 1} → statement M
 eliminate-spec =
@@ -61,11 +74,12 @@ eliminate-spec =
     (λ c κs. search needs)
     (λ c. search needs)
     returns
+    (λ c κs. search needs)
     (λ c. search needs)
     returns-2
-    (λ c. omega arith)
+    (λ c. omega (arith, has c))
     loop-holds
-    (λ c κs. search needs)
+    step-inner-requires
     (λ c. omega arith)
     (λ c. omega arith)
     loop-again

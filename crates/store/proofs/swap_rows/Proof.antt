@@ -8,7 +8,7 @@ use lib.ListN.{length}
 use Rattle.store.specs.Columns.{columns}
 use Rattle.store.specs.Steps.{rowsSwapped}
 use Rattle.store.proofs.Columns.{sized, column-within, on-none, on-done}
-use Rattle.store.proofs.Steps.{range-turn, range-stop}
+use Rattle.store.proofs.Steps.{rows-itself, range-turn, range-stop}
 use Rattle.store.proofs.swap_rows.Statement.{statement}
 use Rattle.store.proofs.swap_rows.Tie as tie
 
@@ -19,13 +19,13 @@ abbrev μ-loop : tie.MeasureT-loop
 μ-loop s₀ m n i p from to end j₀ s j = n - j
 
 -- the store has its size all along, and in a turn column j ends within it
-size : (c : tie.At-loop Inv-loop μ-loop) → length (c .loop .s) ≡ (c .before .before .before .before .before .before .args .n) * (c .before .before .before .before .before .before .args .m)
-size c = (c .loop .inv .0) ∙ sized _ _ _ (sym (c .before .before .before .is-matrix .ensures) ∙ not-false _ (c .before .before .if1 .left)) .size
+size : (c : tie.At-loop Inv-loop μ-loop) → length (c .loop .s) ≡ (c .before .before .before .before .before .before .before .args .n) * (c .before .before .before .before .before .before .before .args .m)
+size c = (c .loop .inv .0) ∙ sized _ _ _ (sym (c .before .before .before .before .is-matrix .ensures) ∙ not-false _ (c .before .before .before .if1 .left)) .size
 
-within : (c : tie.In-loop Inv-loop μ-loop) → (c .before .loop .j) * (c .before .before .before .before .before .before .before .args .m) + (c .before .before .before .before .before .before .before .args .m) ≤ length (c .before .loop .s)
+within : (c : tie.In-loop Inv-loop μ-loop) → (c .before .loop .j) * (c .before .before .before .before .before .before .before .before .args .m) + (c .before .before .before .before .before .before .before .before .args .m) ≤ length (c .before .loop .s)
 within c =
     let e = (c .before .before .min .ensures) in
-    let h : (c .before .loop .j) < (c .before .before .before .before .before .before .before .args .n) = omega arith in
+    let h : (c .before .loop .j) < (c .before .before .before .before .before .before .before .before .args .n) = omega arith in
     column-within _ _ _ (c .before .loop .s) h (size (c .before))
 
 returns : tie.Need-returns Inv-loop μ-loop
@@ -67,11 +67,17 @@ loop-again c =
     let e = at-min .min .ensures in
     (omega arith, range-turn _ _ _ _ _ _ _ _ (rw (← e) (at-loop-test .loop-test .taken)) (size at-loop) (k .kept .0) (k .ensures) ∙ l .inv .1)
 
+-- a row exchanged with itself
 returns-2 : tie.Need-returns-2 Inv-loop μ-loop
 returns-2 c =
+    let at-if1 = c .before in
+    on-done _ _ _ _ _ (sym (at-if1 .before .is-matrix .ensures) ∙ not-false _ (at-if1 .if1 .left)) refl (rows-itself _ _ _ _ _ (c .if2 .taken))
+
+returns-3 : tie.Need-returns-3 Inv-loop μ-loop
+returns-3 c =
     let at-loop = c .before in
     let at-min = at-loop .before in
-    let at-if1 = at-min .before in
+    let at-if1 = at-min .before .before in
     let at-is-matrix = at-if1 .before in
     let e = at-min .min .ensures in
     on-done _ _ _ _ _ (sym (at-is-matrix .is-matrix .ensures) ∙ not-false _ (at-if1 .if1 .left)) (at-loop .loop .inv .0) (sym (range-stop _ _ _ _ _ _ _ (rw (← e) (c .loop-test .left))) ∙ (at-loop .loop .inv .1))
@@ -85,6 +91,8 @@ swap-rows-spec =
     (λ c κs. search needs)
     (λ c. search needs)
     returns
+    (λ c. search needs)
+    returns-2
     (λ c κs. search needs)
     loop-holds
     mul-a
@@ -98,4 +106,4 @@ swap-rows-spec =
     loop-less
     loop-again
     (λ c. search needs)
-    returns-2)
+    returns-3)

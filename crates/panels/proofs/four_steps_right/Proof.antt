@@ -1,0 +1,104 @@
+-- The columns that are left from column j on give the whole; the four columns stay. Assumes nothing.
+use Prim.Native.Nat.{ℕ, _+_, _-_, _≤_, _<_}
+use mathlib.Core.Path.{_≡_, refl, sym, _∙_}
+use mathlib.Core.Bool.{true}
+use native.Mathlib.Omega.{arith}
+use borrow.Author.Needs.{needs}
+use borrow.Author.Tests.{not-true, not-false}
+use lib.ListN.{length}
+use Rattle.blas.specs.Each.{eachFrom}
+use Rattle.store.specs.Columns.{columns, isMatrix}
+use Rattle.store.specs.Steps.{column}
+use Rattle.store.proofs.Columns.{sized, same-matrix, column-stop, on-none, on-done}
+use Rattle.panels.specs.Panel.{fourSteps}
+use Rattle.panels.proofs.Within.{right-turn, right-left, right-is, not-right}
+use Rattle.panels.proofs.four_steps_right.Statement.{statement}
+use Rattle.panels.proofs.four_steps_right.Tie as tie
+
+abbrev Inv-loop : tie.InvT-loop
+Inv-loop s₀ m n i most j₀ s j = (length s ≡ length s₀) × (i + 4 ≤ j) × ((k : ℕ) → k < i + 4 → column (columns m n s) k ≡ column (columns m n s₀) k)
+    × (eachFrom (λ k c. fourSteps i (columns m n s₀) c) j (columns m n s) ≡ eachFrom (λ k c. fourSteps i (columns m n s₀) c) (i + 4) (columns m n s₀))
+
+abbrev μ-loop : tie.MeasureT-loop
+μ-loop s₀ m n i most j₀ s j = n - j
+
+returns : tie.Need-returns Inv-loop μ-loop
+returns c = on-none _ _ _ _ (sym (c .before .is-matrix .ensures) ∙ not-true _ (c .if1 .taken))
+
+returns-2 : tie.Need-returns-2 Inv-loop μ-loop
+returns-2 c =
+    let at-min = c .before in
+    let e = at-min .min .ensures in
+    let few = c .if2 .taken in
+    on-done _ _ _ _ _ (sym (at-min .before .before .is-matrix .ensures) ∙ not-false _ (at-min .before .if1 .left)) refl (not-right _ _ _ _ (λ a. omega arith))
+
+returns-3 : tie.Need-returns-3 Inv-loop μ-loop
+returns-3 c =
+    let at-min = c .before .before in
+    let e = at-min .min .ensures in
+    let below = c .if3 .taken in
+    let enough = c .before .if2 .left in
+    on-done _ _ _ _ _ (sym (at-min .before .before .is-matrix .ensures) ∙ not-false _ (at-min .before .if1 .left)) refl (not-right _ _ _ _ (λ a. omega arith))
+
+-- past the tests: the slice is a matrix with the four columns and row i + 3
+has : (c : tie.Else3 Inv-loop μ-loop) → let g = c .before .before .before .before .before .before .before .args in
+    (isMatrix (g .m) (g .n) (g .s .now) ≡ true) × (g .i + 4 ≤ g .m) × (g .i + 4 ≤ g .n) × (g .n ≤ 64)
+has c =
+    let at-min = c .before .before in
+    let e = at-min .min .ensures in
+    let above = c .if3 .left in
+    let enough = c .before .if2 .left in
+    let fits = sym (at-min .before .before .is-matrix .ensures) ∙ not-false _ (at-min .before .if1 .left) in
+    (fits, omega arith, omega arith, sized _ _ _ fits .columns-most)
+
+loop-holds : tie.Need-loop-holds Inv-loop μ-loop
+loop-holds c = (refl, omega arith, λ k h. refl, refl)
+
+steps-on-requires : tie.Need-steps-on-requires Inv-loop μ-loop
+steps-on-requires c κs =
+    let at-loop = c .before .before in
+    let h = has (at-loop .before) in
+    let inv = at-loop .loop .inv in
+    (same-matrix _ _ _ _ (inv .0) ∙ h .0, h .1, inv .1, c .before .loop-test .taken)
+
+loop-again : tie.Need-loop-again Inv-loop μ-loop
+loop-again c =
+    let at-steps-on = c .before .before in
+    let at-turn = at-steps-on .before .before in
+    let at-loop = at-turn .before in
+    let inv = at-loop .loop .inv in
+    let k = at-steps-on .steps-on in
+    let g = at-loop .before .before .before .before .before .before .before .before .args in
+    let cs = columns (g .m) (g .n) (g .s .now) in
+    let hj = at-turn .loop-test .taken in
+    (k .kept .0 ∙ inv .0, omega arith, right-left _ _ _ _ _ _ cs (inv .1) hj (inv .2) (k .ensures), right-turn _ _ _ _ _ _ cs (inv .1) hj (inv .2) (k .ensures) ∙ inv .3)
+
+returns-4 : tie.Need-returns-4 Inv-loop μ-loop
+returns-4 c =
+    let at-loop = c .before in
+    let h = has (at-loop .before) in
+    let inv = at-loop .loop .inv in
+    on-done _ _ _ _ _ (h .0) (inv .0) (sym (column-stop _ _ _ _ _ (c .loop-test .left)) ∙ inv .3 ∙ sym (right-is _ _ _ _ (h .1) (h .2)))
+
+pub four-steps-right-spec : {M : Type 1} → statement M
+four-steps-right-spec =
+    tie.close
+    (tie.spec
+    Inv-loop
+    μ-loop
+    (λ c κs. search needs)
+    (λ c. search needs)
+    returns
+    (λ c κs. search needs)
+    (λ c. search needs)
+    returns-2
+    (λ c. search needs)
+    returns-3
+    (λ c. omega (arith, has c))
+    loop-holds
+    steps-on-requires
+    (λ c. omega (arith, has (c .before .before .before .before .before .before)))
+    (λ c. omega arith)
+    loop-again
+    (λ c. search needs)
+    returns-4)
