@@ -1,4 +1,4 @@
--- Two wrong programs for each call of `blas`, `store` and `refusals`, as in `WrongAnswers`: all that always give the same, and one named at each call. Assumes
+-- Two wrong programs for each call of `blas`, `store`, `panels` and `refusals`, as in `WrongAnswers`: all that always give the same, and one named at each call. Assumes
 -- nothing.
 use mathlib.Core.Path.{_≡_, sym, ap}
 use mathlib.Core.Bool.{Bool, true, false, not, cond}
@@ -18,6 +18,7 @@ use Rattle.blas.specs.declared.FoundPivot.{FoundPivot}
 use Rattle.blas.specs.Dot.{addProduct, addBlock, eightSums, pairSums, dotOf}
 use Rattle.store.specs.Columns.{columns, flat, isMatrix, onColumns}
 use Rattle.store.specs.Steps.{column, swapInAll, rowsSwapped, columnsSwapped, stepColumn, stepColumns, eliminated}
+use Rattle.panels.specs.Panel.{stepBy, fourSteps, fourStepped, fourSteppedRight}
 use Rattle.refusals.specs.declared.Answer.{Answer}
 use Rattle.refusals.specs.declared.Answer.the-variants.{Done, Refused}
 use Rattle.refusals.specs.Refusals.{firstOf, outside, answerOf, numberOf, Outcome, seventh}
@@ -26,7 +27,7 @@ use Rattle.figures.proofs.Outcomes.{TwoShutOut, two}
 
 -- a name for all that has to unfold for these calls to compute
 runs : Type 0
-unfolding add sub mul div neg eq lt ofBits eachFrom turnsFrom isZero magnitude searchFrom pivotRow exchanged scaleFrom axpyFrom allFinite copied addProduct addBlock eightSums pairSums dotOf columns flat isMatrix onColumns swapInAll rowsSwapped stepColumn stepColumns eliminated firstOf outside answerOf numberOf seventh
+unfolding add sub mul div neg eq lt ofBits eachFrom turnsFrom isZero magnitude searchFrom pivotRow exchanged scaleFrom axpyFrom allFinite copied addProduct addBlock eightSums pairSums dotOf columns flat isMatrix onColumns swapInAll rowsSwapped stepColumn stepColumns eliminated stepBy fourSteps fourStepped fourSteppedRight firstOf outside answerOf numberOf seventh
 runs = Unit {0}
 
 abbrev -n1 : Float
@@ -211,6 +212,32 @@ pub eliminate : TwoShutOut eliminates (λ x. x .1 .1 .1)
 unfolding runs
 eliminate =
     two eliminates (λ x. x .1 .1 .1) (0, (2, (2, n1 ∷ n1 ∷ n1 ∷ n0 ∷ []))) (0, (1, (1, n1 ∷ []))) (0, (0, (0, []))) (λ d. let e : n1 ∷ n1 ∷ n1 ∷ -n1 ∷ [] ≡ n1 ∷ n1 ∷ n1 ∷ n0 ∷ [] = d in let z : _≡_ {A = ℕ} 0 1 = cc in omega arith) (some-none n1 [])
+
+-- ---- panels
+
+-- five columns of four rows: the first has a multiplier 1 in row 1, the next three none, and of the last the first entry is 1, so that its row 1 becomes -1
+abbrev fiveBefore : Column
+fiveBefore = n1 ∷ n1 ∷ n0 ∷ n0 ∷ n0 ∷ n1 ∷ n0 ∷ n0 ∷ n0 ∷ n0 ∷ n1 ∷ n0 ∷ n0 ∷ n0 ∷ n0 ∷ n1 ∷ n1 ∷ n0 ∷ n0 ∷ n0 ∷ []
+
+abbrev fiveAfter : Column
+fiveAfter = n1 ∷ n1 ∷ n0 ∷ n0 ∷ n0 ∷ n1 ∷ n0 ∷ n0 ∷ n0 ∷ n0 ∷ n1 ∷ n0 ∷ n0 ∷ n0 ∷ n0 ∷ n1 ∷ n1 ∷ -n1 ∷ n0 ∷ n0 ∷ []
+
+five-differ : fiveAfter ≡ fiveBefore → ⊥
+five-differ d = let z : _≡_ {A = ℕ} 0 1 = cc in omega arith
+
+abbrev fours : (ℕ × ℕ) × Sized → Column
+fours x = onColumns (x .1 .0) (x .1 .1 .0) (fourStepped (x .1 .0) (x .0 .0) (x .0 .1)) (x .1 .1 .1)
+
+pub four-steps : TwoShutOut fours (λ x. x .1 .1 .1)
+unfolding runs
+four-steps = two fours (λ x. x .1 .1 .1) ((0, 4), (4, (5, fiveBefore))) ((0, 0), (1, (1, n1 ∷ []))) ((0, 0), (0, (0, []))) five-differ (some-none n1 [])
+
+abbrev foursRight : ℕ × Sized → Column
+foursRight x = onColumns (x .1 .0) (x .1 .1 .0) (fourSteppedRight (x .1 .0) (x .0)) (x .1 .1 .1)
+
+pub four-steps-right : TwoShutOut foursRight (λ x. x .1 .1 .1)
+unfolding runs
+four-steps-right = two foursRight (λ x. x .1 .1 .1) (0, (4, (5, fiveBefore))) (0, (1, (1, n1 ∷ []))) (0, (0, (0, []))) five-differ (some-none n1 [])
 
 -- ---- refusals
 
