@@ -1,5 +1,5 @@
--- The pivot search in one pass. Of the rows so far, `last` is the last one that was not below the greatest magnitude, so another row than the pivot has its
--- magnitude exactly when `last` is not the pivot row: a row above one that is strictly greater cannot equal it, whatever the doubles are. Assumes nothing.
+-- The pivot search from one greatest row so far to the next. A row above one that is strictly greater cannot equal it, whatever the doubles are, so another row
+-- than the pivot has its magnitude exactly when one below it has. Assumes nothing.
 use mathlib.Core.Path.{_≡_, refl, sym, ap, _∙_}
 use mathlib.Core.Logic.{inl, inr}
 use mathlib.Core.Bool.{Bool, true, false, cond, not, _&&_, _||_, or-true, or-false, or-assoc, true≢false, false≢true}
@@ -14,11 +14,11 @@ use lib.Ieee.{Float, nan, inf, fin, up, down, neg, lt, le, eq, ofBits}
 use lib.Ieee.Fits.{down-pos}
 use Rattle.blas.specs.Numbers.{zero64, magnitude, isZero}
 use Rattle.blas.specs.Column.{Column, entry, searchFrom, pivotRow}
-use Rattle.blas.specs.TossUp.{sharedFrom, notBelowFrom, pivotOf}
+use Rattle.blas.specs.TossUp.{sharedFrom, aboveFrom, pivotOf}
 use Rattle.blas.proofs.Choice.{cond-cases, same-test}
 use Rattle.blas.proofs.Pivot.{bare, and-false, frac-trans, smaller, smaller-bare, smaller-self}
 use Rattle.blas.proofs.Tied.{equal, equal-bare}
-use Rattle.blas.proofs.TossUp.{shared-next, shared-end, found-by}
+use Rattle.blas.proofs.TossUp.{shared-next, found-by}
 use Rattle.blas.proofs.Walk.{drop-next, search-next, search-end}
 
 -- ---- comparisons of magnitudes, NaNs and infinities among them
@@ -94,10 +94,6 @@ zero-neg (fin false m e) = rw (zero-mul (down e)) (alike false true (eqb (m * up
 zero-magnitude : (x : Float) → isZero (magnitude x) ≡ isZero x
 unfolding magnitude
 zero-magnitude x = cond-cases (λ v. isZero v ≡ isZero x) (lt x zero64) (λ t. zero-neg x) (λ t. refl)
-
-neither-test : (a b : Bool) → (a || b) ≡ false → (a ≡ false) × (b ≡ false)
-neither-test true b e = absurd (true≢false e)
-neither-test false b e = (refl, e)
 
 -- ---- rows that do not have the magnitude are passed over
 shared-past : (v : Float) (p : ℕ) (c : Column) (n k i : ℕ) → k + n ≡ i → i ≤ length c
@@ -181,31 +177,32 @@ module _ (c : Column) (from : ℕ) where
     by-tests false true p q = let passed = s .passed in stayed true i p q (rw (ne-eqb i b (λ q. omega arith)) (sym (or-true (not (eqb last b)))))
     by-tests false false p q = stayed false last p q (sym (or-false (not (eqb last b))))
 
-    pub searched-next : (v' t' : Float) (b' last' : ℕ) → v' ≡ v → t' ≡ cond (lt t v') v' t → b' ≡ cond (lt t v') i b → last' ≡ cond (le t v') i last
-        → Searched c from t' b' last' (i + 1)
-    unfolding le
-    searched-next v' t' b' last' e p q r = rw (p, q, r, e) (by-tests (lt t v) (eq t v) refl refl)
+  -- Rows that are not above the greatest magnitude leave it, so the search may go on at the next one that is.
+  abbrev Next : Float → ℕ → ℕ → Type 0
+  Next t b r = ((last : ℕ) × Searched c from t b last r) × (r < length c → lt t (magnitude (entry c r)) ≡ true)
 
-  -- Rows below the greatest magnitude change nothing, so the search may go on at the next one that is not.
-  abbrev Next : Float → ℕ → ℕ → ℕ → Type 0
-  Next t b last r = Searched c from t b last r × (r < length c → le t (magnitude (entry c r)) ≡ true)
-
-  skip : (t : Float) (b last n k : ℕ) → k + n ≡ length c → Searched c from t b last k → Next t b last (notBelowFrom t k (drop k c))
-  unfolding notBelowFrom le
-  skip t b last zero k e s = rw (drop-of-length-le c {i = k} (omega (arith, e))) (s, λ h. absurd (let no : ⊥ = omega (arith, e) in no))
+  skip : (t : Float) (b last n k : ℕ) → k + n ≡ length c → Searched c from t b last k → Next t b (aboveFrom t k (drop k c))
+  unfolding aboveFrom
+  skip t b last zero k e s = rw (drop-of-length-le c {i = k} (omega (arith, e))) ((last, s), λ h. absurd (let no : ⊥ = omega (arith, e) in no))
   skip t b last (suc n) k e s =
       let here : k < length c = omega (arith, e) in
       rw (drop-next c k nan here)
-      (cond-cases (Next t b last) (le t (magnitude (entry c k))) (λ z. (s, λ h. z))
+      (cond-cases (Next t b) (lt t (magnitude (entry c k))) (λ z. ((last, s), λ h. z))
       (λ z.
-      let below = neither-test (lt t (magnitude (entry c k))) (eq t (magnitude (entry c k))) z in
-      rw (← add-one k) (skip t b last n (k + 1) (omega (arith, e)) (stayed t b last k s here false last (below .0) (below .1) (sym (or-false (not (eqb last b))))))))
+      let d = eq t (magnitude (entry c k)) in
+      rw (← add-one k) (skip t b (cond d k last) n (k + 1) (omega (arith, e)) (by-tests t b last k s here false d z refl))))
 
-  pub searched-skip : (t : Float) (b last k r : ℕ) → k ≤ length c → Searched c from t b last k → r ≡ notBelowFrom t k (drop k c) → Next t b last r
-  searched-skip t b last k r h s e = rw e (skip t b last (length c - k) k (omega arith) s)
+  -- before the first row: the next one that is greater, and what holds there
+  pub searched-next : (t : Float) (b last r : ℕ) → Searched c from t b last (b + 1) → b < length c → r ≡ aboveFrom t (b + 1) (drop (b + 1) c) → Next t b r
+  searched-next t b last r s h e = rw e (skip t b last (length c - (b + 1)) (b + 1) (omega arith) s)
 
-  pub searched-end : (t : Float) (b last i : ℕ) → Searched c from t b last i → length c ≤ i → (z : Bool) → z ≡ isZero t
-      → record { row = b; tossed = not z && not (eqb last b) } ≡ pivotOf from c
-  searched-end t b last i s h z e =
-      found-by from b c (sym (search-end c i t b h) ∙ s .found) z (not (eqb last b)) (e ∙ ap isZero (s .greatest) ∙ zero-magnitude (entry c b))
-      (sym (or-false (not (eqb last b))) ∙ ap (λ (a : Bool). not (eqb last b) || a) (sym (shared-end t b c i h)) ∙ s .shared ∙ ap (λ (w : Float). sharedFrom w b from (drop from c)) (s .greatest))
+  -- that row is the greatest so far
+  pub searched-moved : (t : Float) (b r : ℕ) → Next t b r → r < length c → Searched c from (magnitude (entry c r)) r r (r + 1)
+  searched-moved t b r s h = moved t b (s .0 .0) r (s .0 .1) h (s .1 h)
+
+  -- there is none: the answer
+  pub searched-end : (t : Float) (b r : ℕ) → Searched c from t b b (b + 1) → Next t b r → length c ≤ r → (z shared : Bool) → z ≡ isZero t → shared ≡ sharedFrom t b (b + 1) (drop (b + 1) c)
+      → record { row = b; tossed = not z && shared } ≡ pivotOf from c
+  searched-end t b r s end h z shared e is =
+      found-by from b c (sym (search-end c r t b h) ∙ end .0 .1 .found) z shared (e ∙ ap isZero (s .greatest) ∙ zero-magnitude (entry c b))
+      (is ∙ sym (ap (λ (a : Bool). not a || sharedFrom t b (b + 1) (drop (b + 1) c)) (eq-eqb b b refl)) ∙ s .shared ∙ ap (λ (w : Float). sharedFrom w b from (drop from c)) (s .greatest))

@@ -5,6 +5,8 @@ use mathlib.Core.Path.{_≡_, refl, sym, ap, ap₂, _∙_}
 use mathlib.Core.Bool.{Bool, true, false, not, _&&_, _||_}
 use Prim.Native.Nat.{ℕ, _+_, _-_, _≤_, _<_}
 use native.Mathlib.Numerals.{add-one}
+use native.Mathlib.Omega.{arith}
+use borrow.Author.Tests.{ne-eqb}
 use lib.Dec.{eqb}
 use lib.ListN.{length, drop, drop-of-length-le}
 use lib.Ieee.{Float, nan, eq}
@@ -25,6 +27,17 @@ module _ (v : Float) (p : ℕ) (c : Column) where
   pub shared-end : (k : ℕ) → length c ≤ k → sharedFrom v p k (drop k c) ≡ false
   unfolding sharedFrom
   shared-end k h = ap (sharedFrom v p k) (drop-of-length-le c h)
+
+-- the same for a row below p
+module _ (v : Float) (p : ℕ) (c : Column) (k : ℕ) (h : k < length c) (below : p < k) where
+  apart : not (eqb k p) ≡ true
+  apart = rw (ne-eqb k p (λ e. omega arith))
+
+  pub shared-here : eq (magnitude (entry c k)) v ≡ true → sharedFrom v p k (drop k c) ≡ true
+  shared-here e = shared-next v p c k h true (rw (apart, e))
+
+  pub shared-not-here : eq (magnitude (entry c k)) v ≡ false → sharedFrom v p (k + 1) (drop (k + 1) c) ≡ sharedFrom v p k (drop k c)
+  shared-not-here e = sym (shared-next v p c k h false (rw (apart, e)))
 
 -- a pivot of zero, and a column with no row to look at, are no toss-ups
 pub zero-tossUp : (from : ℕ) (c : Column) → isZero (entry c (pivotRow from c)) ≡ true → tossUp from c ≡ false

@@ -7,11 +7,11 @@ use native.Mathlib.Numerals.{add-one}
 use native.Mathlib.Omega.{arith}
 use lib.ListN.{length, getD, drop, drop-of-length-le}
 use lib.Seq.{drop-cons}
-use lib.Ieee.{Float, nan, lt, le}
+use lib.Ieee.{Float, nan, lt}
 use lib.Ieee.Scale.{finite}
 use Rattle.blas.specs.Numbers.{magnitude}
 use Rattle.blas.specs.Column.{Column, entry, searchFrom, allFinite}
-use Rattle.blas.specs.TossUp.{notBelowFrom}
+use Rattle.blas.specs.TossUp.{aboveFrom}
 use Rattle.blas.proofs.Choice.{cond-cases}
 
 -- what is left at k is the entry k, and what is left at k + 1
@@ -32,24 +32,24 @@ module _ (s : Column) (k : ℕ) (h : k < length s) where
       ap (searchFrom t b k) (drop-next s k nan h)
       ∙ (λ i. searchFrom (cond (e i) (magnitude (entry s k)) t) (cond (e i) k b) (sym (add-one k) i) (drop (k + 1) s))
 
-  -- one turn of the search for a row that is not below t
-  pub not-below-here : (t : Float) → le t (magnitude (entry s k)) ≡ true → k ≡ notBelowFrom t k (drop k s)
-  unfolding notBelowFrom
-  not-below-here t e = rw (drop-next s k nan h, e)
+  -- one turn of the search for a row that is above t
+  pub above-here : (t : Float) → lt t (magnitude (entry s k)) ≡ true → k ≡ aboveFrom t k (drop k s)
+  unfolding aboveFrom
+  above-here t e = rw (drop-next s k nan h, e)
 
-  pub not-below-next : (t : Float) → le t (magnitude (entry s k)) ≡ false → notBelowFrom t (k + 1) (drop (k + 1) s) ≡ notBelowFrom t k (drop k s)
-  unfolding notBelowFrom
-  not-below-next t e = rw (drop-next s k nan h, e, add-one k)
+  pub above-next : (t : Float) → lt t (magnitude (entry s k)) ≡ false → aboveFrom t (k + 1) (drop (k + 1) s) ≡ aboveFrom t k (drop k s)
+  unfolding aboveFrom
+  above-next t e = rw (drop-next s k nan h, e, add-one k)
 
-pub not-below-from : (t : Float) (k : ℕ) (xs : Column) → k ≤ notBelowFrom t k xs
-unfolding notBelowFrom
-not-below-from t k [] = omega arith
-not-below-from t k (x ∷ xs) =
-    cond-cases (λ (r : ℕ). k ≤ r) (le t (magnitude x)) (λ z. omega arith) (λ z. omega (arith, not-below-from t (suc k) xs))
+pub above-from : (t : Float) (k : ℕ) (xs : Column) → k ≤ aboveFrom t k xs
+unfolding aboveFrom
+above-from t k [] = omega arith
+above-from t k (x ∷ xs) =
+    cond-cases (λ (r : ℕ). k ≤ r) (lt t (magnitude x)) (λ z. omega arith) (λ z. omega (arith, above-from t (suc k) xs))
 
-pub not-below-end : (s : Column) (k : ℕ) (t : Float) → length s ≤ k → k ≡ notBelowFrom t k (drop k s)
-unfolding notBelowFrom
-not-below-end s k t h = rw (drop-of-length-le s h)
+pub above-end : (s : Column) (k : ℕ) (t : Float) → length s ≤ k → k ≡ aboveFrom t k (drop k s)
+unfolding aboveFrom
+above-end s k t h = rw (drop-of-length-le s h)
 
 pub finite-end : (s : Column) (k : ℕ) → length s ≤ k → allFinite (drop k s) ≡ true
 unfolding allFinite

@@ -5,7 +5,7 @@ use mathlib.Core.List.{[], _∷_}
 use Prim.Native.Nat.{ℕ, suc}
 use lib.Dec.{eqb}
 use lib.ListN.{drop}
-use lib.Ieee.{Float, eq, le}
+use lib.Ieee.{Float, eq, lt}
 use Rattle.blas.specs.declared.FoundPivot.{FoundPivot}
 use Rattle.blas.specs.Numbers.{magnitude, isZero}
 use Rattle.blas.specs.Column.{Column, entry, pivotRow}
@@ -20,10 +20,10 @@ tossUp from c =
     let p = pivotRow from c in
     not (isZero (entry c p)) && sharedFrom (magnitude (entry c p)) p from (drop from c)
 
--- the first row from row k on that is not below t, or the row behind the last: where the search in one pass looks next
-unfoldable pub notBelowFrom : Float → ℕ → Column → ℕ
-notBelowFrom t k [] = k
-notBelowFrom t k (x ∷ xs) = cond (le t (magnitude x)) k (notBelowFrom t (suc k) xs)
+-- the first row from row k on that is above t, or the row behind the last: the next greatest row so far
+unfoldable pub aboveFrom : Float → ℕ → Column → ℕ
+aboveFrom t k [] = k
+aboveFrom t k (x ∷ xs) = cond (lt t (magnitude x)) k (aboveFrom t (suc k) xs)
 
 -- what the pivot search answers
 unfoldable pub pivotOf : ℕ → Column → FoundPivot

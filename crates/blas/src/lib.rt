@@ -1,13 +1,13 @@
 // Arithmetic and pivoting on single columns: base/min_max.rs, base/blas.rs and base/blas_uninit.rs of nalgebra 0.35.0, for f64.
 // Where sizes do not fit, a function leaves all as it was.
 ghost use mathlib.Core.Path.{_≡_};
-ghost use Prim.Native.Nat.{_≤_, _-_};
+ghost use Prim.Native.Nat.{_≤_, _<_, _+_, _-_};
 ghost use lib.ListN.{length, drop};
 ghost use lib.Ieee.Scale.{finite};
 ghost use Rattle.blas.specs.Each.{eachFrom, turnsFrom};
 ghost use Rattle.blas.specs.Numbers.{magnitude, isZero};
 ghost use Rattle.blas.specs.Column.{pivotRow, swapRows, scaleFrom, axpyFrom, allFinite, zeros, copied};
-ghost use Rattle.blas.specs.TossUp.{notBelowFrom, pivotOf};
+ghost use Rattle.blas.specs.TossUp.{sharedFrom, aboveFrom, pivotOf};
 ghost use Rattle.blas.specs.Dot.{addProduct, dotOf};
 
 // Whether x is neither an infinity nor a NaN: such a number less itself is a number.
@@ -38,15 +38,15 @@ pub struct FoundPivot {
     pub tossed: bool,
 }
 
-// The first row from `from` on whose magnitude is not below `top`, or the row behind the last. A loop of its own, so that the search goes from one such row to
-// the next by a jump that the processor foresees, and waits for no comparison between them.
-fn next_not_below(col: &[f64], from: usize, top: f64) -> usize
+// The first row from `from` on whose magnitude is above `top`, or the row behind the last. A loop of its own, so that the search goes from one greatest row so far
+// to the next by a jump that the processor foresees, and waits for no comparison between them.
+fn next_above(col: &[f64], from: usize, top: f64) -> usize
     requires { ⌜ from ≤ length (now col) ⌝ }
-    ensures { λ r. ⌜ r ≡ notBelowFrom top from (drop from (now (col .entry))) ⌝ }
+    ensures { λ r. ⌜ r ≡ aboveFrom top from (drop from (now (col .entry))) ⌝ }
 {
     let mut k = from;
     while k < col.len() {
-        if magnitude(col[k]) >= top {
+        if magnitude(col[k]) > top {
             return k;
         }
         k += 1;
@@ -54,8 +54,22 @@ fn next_not_below(col: &[f64], from: usize, top: f64) -> usize
     k
 }
 
-// The pivot row, and whether it was a toss-up, in one pass: `last` is the last row so far that was not below the greatest magnitude.
-// With no row to look at, the row is `from`.
+// Whether a row below `row` has the magnitude `top`.
+fn is_shared(col: &[f64], row: usize, top: f64) -> bool
+    requires { ⌜ row < length (now col) ⌝ }
+    ensures { λ r. ⌜ r ≡ sharedFrom top row (row + 1) (drop (row + 1) (now (col .entry))) ⌝ }
+{
+    let mut k = row + 1;
+    while k < col.len() {
+        if magnitude(col[k]) == top {
+            return true;
+        }
+        k += 1;
+    }
+    false
+}
+
+// The pivot row, and whether it was a toss-up: no row above the pivot row can share its magnitude. With no row to look at, the row is `from`.
 pub fn find_pivot(col: &[f64], from: usize) -> FoundPivot
     ensures { λ r. ⌜ r ≡ pivotOf from (now (col .entry)) ⌝ }
 {
@@ -65,20 +79,14 @@ pub fn find_pivot(col: &[f64], from: usize) -> FoundPivot
             tossed: false,
         };
     }
-    let mut the_max = magnitude(col[from]);
     let mut the_i = from;
-    let mut last = from;
-    let mut i = next_not_below(col, from + 1, the_max);
+    let mut i = next_above(col, from + 1, magnitude(col[from]));
     while i < col.len() {
-        let val = magnitude(col[i]);
-        last = i;
-        if val > the_max {
-            the_max = val;
-            the_i = i;
-        }
-        i = next_not_below(col, i + 1, the_max);
+        the_i = i;
+        i = next_above(col, i + 1, magnitude(col[i]));
     }
-    let tossed = !is_zero(the_max) & (last != the_i);
+    let the_max = magnitude(col[the_i]);
+    let tossed = !is_zero(the_max) & is_shared(col, the_i, the_max);
     FoundPivot { row: the_i, tossed }
 }
 

@@ -1,26 +1,23 @@
--- What holds of the rows so far (`Searched`) holds from turn to turn, and at the end it is the answer. Assumes nothing.
-use Prim.Native.Nat.{suc, _+_, _-_, _<_}
-use mathlib.Core.Path.{_≡_, refl, sym}
-use mathlib.Core.Logic.{⊎-elim}
+-- What holds of the greatest row so far (`Searched`) holds from turn to turn, and at the end it is the answer. Assumes nothing.
+use Prim.Native.Nat.{suc, _+_, _-_, _≤_, _<_}
+use mathlib.Core.Path.{_≡_, refl, sym, _∙_}
 use native.Mathlib.Omega.{arith}
 use borrow.Author.Needs.{needs}
-use mathlib.Core.Bool.{true}
 use lib.ListN.{length, drop}
-use lib.Ieee.{le}
 use Rattle.blas.specs.Numbers.{magnitude}
 use Rattle.blas.specs.Column.{entry, pivotRow}
-use Rattle.blas.proofs.Choice.{cond-by}
-use Rattle.blas.proofs.OnePass.{Searched, searched-begin, searched-next, searched-skip, searched-end}
+use Rattle.blas.specs.TossUp.{aboveFrom}
+use Rattle.blas.proofs.OnePass.{Searched, searched-begin, searched-next, searched-moved, searched-end}
 use Rattle.blas.proofs.TossUp.{found-none}
-use Rattle.blas.proofs.Walk.{search-end, not-below-from}
+use Rattle.blas.proofs.Walk.{search-end, above-from}
 use Rattle.blas.proofs.find_pivot.Statement.{statement}
 use Rattle.blas.proofs.find_pivot.Tie as tie
 
 abbrev Inv-loop : tie.InvT-loop
-Inv-loop col from the-max₀ the-i₀ last₀ i₀ the-max the-i last i = Searched col from the-max the-i last i × (i < length col → le the-max (magnitude (entry col i)) ≡ true)
+Inv-loop col from the-i₀ i₀ the-i i = Searched col from (magnitude (entry col the-i)) the-i the-i (the-i + 1) × (the-i < length col) × (i ≡ aboveFrom (magnitude (entry col the-i)) (the-i + 1) (drop (the-i + 1) col))
 
 abbrev μ-loop : tie.MeasureT-loop
-μ-loop col from the-max₀ the-i₀ last₀ i₀ the-max the-i last i = length col - i
+μ-loop col from the-i₀ i₀ the-i i = length col - i
 
 returns : tie.Need-returns Inv-loop μ-loop
 unfolding pivotRow
@@ -30,32 +27,30 @@ loop-holds : tie.Need-loop-holds Inv-loop μ-loop
 loop-holds c =
     let at-magnitude = c .before in
     let here = at-magnitude .before .before .if1 .left in
-    searched-skip _ _ _ _ _ _ _ (omega arith) (searched-begin _ _ here _ (at-magnitude .magnitude .ensures)) (c .next-not-below .ensures)
+    (searched-begin _ _ here _ refl, here, rw (← at-magnitude .magnitude .ensures) (c .next-above .ensures))
+
+-- the next greatest row is behind this one
+loop-less : tie.Need-loop-less Inv-loop μ-loop
+loop-less c =
+    let at-turn = c .before .before .before in
+    let i = at-turn .before .loop .i in
+    let col = c .before .before .before .before .before .before .before .before .before .before .args .col .now in
+    omega (arith, above-from (c .before .magnitude2 .result) (i + 1) (drop (i + 1) col), c .next-above2 .ensures, at-turn .loop-test .taken)
 
 loop-again : tie.Need-loop-again Inv-loop μ-loop
 loop-again c =
-    let at-if2 = c .before in
-    let at-magnitude2 = at-if2 .before in
-    let at-loop-test = at-magnitude2 .before .before in
-    let l = at-loop-test .before .loop in
-    let v = at-magnitude2 .magnitude2 in
-    let here = at-loop-test .loop-test .taken in
-    let not-below : le (l .the-max) (v .result) ≡ true = rw (v .ensures) (l .inv .1 here) in
-    searched-skip _ _ _ _ _ _ _ (omega arith)
-    (searched-next _ _ (l .the-max) (l .the-i) (l .last) (l .i) (l .inv .0) here (v .result) _ _ _ (v .ensures)
-    (⊎-elim (λ w. cond-by _ (l .the-max) (w .0 .taken) (w .1)) (λ w. cond-by (v .result) _ (w .0 .left) (w .1)) (at-if2 .if2 .came))
-    (⊎-elim (λ w. cond-by _ (l .the-i) (w .0 .taken) (w .2)) (λ w. cond-by (l .i) _ (w .0 .left) (w .2)) (at-if2 .if2 .came))
-    (rw not-below refl))
-    (c .next-not-below2 .ensures)
-
--- the next row is behind this one
-loop-less : tie.Need-loop-less Inv-loop μ-loop
-loop-less c =
-    let next = not-below-from (c .before .if2 .the-max) (c .before .before .before .before .before .loop .i + 1) (drop (c .before .before .before .before .before .loop .i + 1) (c .before .before .before .before .before .before .before .before .before .before .before .args .col .now)) in
-    omega (arith, next, c .next-not-below2 .ensures, c .before .before .before .before .loop-test .taken)
+    let at-turn = c .before .before .before in
+    let inv = at-turn .before .loop .inv in
+    let here = at-turn .loop-test .taken in
+    (searched-moved _ _ _ _ _ (searched-next _ _ _ _ _ _ (inv .0) (inv .1) (inv .2)) here, here, rw (← c .before .magnitude2 .ensures) (c .next-above2 .ensures))
 
 returns-2 : tie.Need-returns-2 Inv-loop μ-loop
-returns-2 c = searched-end _ _ _ _ _ _ (c .before .before .loop .inv .0) (c .before .loop-test .left) _ (c .is-zero .ensures)
+returns-2 c =
+    let at-is-zero = c .before in
+    let at-magnitude3 = at-is-zero .before in
+    let at-end = at-magnitude3 .before .before in
+    let inv = at-end .before .loop .inv in
+    searched-end _ _ _ _ _ (inv .0) (searched-next _ _ _ _ _ _ (inv .0) (inv .1) (inv .2)) (at-end .loop-test .left) (at-is-zero .is-zero .result) (c .is-shared .result) (rw (← at-magnitude3 .magnitude3 .ensures) (at-is-zero .is-zero .ensures)) (rw (← at-magnitude3 .magnitude3 .ensures) (c .is-shared .ensures))
 
 pub find-pivot-spec : {M : Type 1} → statement M
 find-pivot-spec =
@@ -66,16 +61,20 @@ find-pivot-spec =
     returns
     (λ c. omega arith)
     (λ c. omega arith)
-    (λ c κs. search needs)
     (λ c. omega arith)
+    (λ c κs. search needs)
     (λ c κs. omega arith)
     loop-holds
     (λ c. omega arith)
     (λ c. omega arith)
-    (λ c κs. search needs)
     (λ c. omega arith)
+    (λ c κs. search needs)
     (λ c κs. omega arith)
     loop-less
     loop-again
+    (λ c. omega (arith, c .before .loop .inv .1))
+    (λ c. c .before .before .loop .inv .1)
     (λ c κs. search needs)
+    (λ c κs. search needs)
+    (λ c κs. c .before .before .before .before .loop .inv .1)
     returns-2)

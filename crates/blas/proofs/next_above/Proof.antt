@@ -4,13 +4,13 @@ use mathlib.Core.Path.{_≡_, refl, sym, _∙_}
 use native.Mathlib.Omega.{arith}
 use borrow.Author.Needs.{needs}
 use lib.ListN.{length, drop}
-use Rattle.blas.specs.TossUp.{notBelowFrom}
-use Rattle.blas.proofs.Walk.{not-below-here, not-below-next, not-below-end}
-use Rattle.blas.proofs.next_not_below.Statement.{statement}
-use Rattle.blas.proofs.next_not_below.Tie as tie
+use Rattle.blas.specs.TossUp.{aboveFrom}
+use Rattle.blas.proofs.Walk.{above-here, above-next, above-end}
+use Rattle.blas.proofs.next_above.Statement.{statement}
+use Rattle.blas.proofs.next_above.Tie as tie
 
 abbrev Inv-loop : tie.InvT-loop
-Inv-loop col from top k₀ k = (k ≤ length col) × (notBelowFrom top k (drop k col) ≡ notBelowFrom top from (drop from col))
+Inv-loop col from top k₀ k = (k ≤ length col) × (aboveFrom top k (drop k col) ≡ aboveFrom top from (drop from col))
 
 abbrev μ-loop : tie.MeasureT-loop
 μ-loop col from top k₀ k = length col - k
@@ -22,20 +22,20 @@ returns : tie.Need-returns Inv-loop μ-loop
 returns c =
     let at-magnitude = c .before in
     let at-turn = at-magnitude .before .before in
-    not-below-here _ _ (at-turn .loop-test .taken) _ (rw (← at-magnitude .magnitude .ensures) (c .if1 .taken)) ∙ (at-turn .before .loop .inv .1)
+    above-here _ _ (at-turn .loop-test .taken) _ (rw (← at-magnitude .magnitude .ensures) (c .if1 .taken)) ∙ (at-turn .before .loop .inv .1)
 
 loop-again : tie.Need-loop-again Inv-loop μ-loop
 loop-again c =
     let at-magnitude = c .before in
     let at-turn = at-magnitude .before .before in
     let here = at-turn .loop-test .taken in
-    (omega arith, not-below-next _ _ here _ (rw (← at-magnitude .magnitude .ensures) (c .if1 .left)) ∙ (at-turn .before .loop .inv .1))
+    (omega arith, above-next _ _ here _ (rw (← at-magnitude .magnitude .ensures) (c .if1 .left)) ∙ (at-turn .before .loop .inv .1))
 
 returns-2 : tie.Need-returns-2 Inv-loop μ-loop
-returns-2 c = not-below-end _ _ _ (c .loop-test .left) ∙ (c .before .loop .inv .1)
+returns-2 c = above-end _ _ _ (c .loop-test .left) ∙ (c .before .loop .inv .1)
 
-pub next-not-below-spec : {M : Type 1} → statement M
-next-not-below-spec =
+pub next-above-spec : {M : Type 1} → statement M
+next-above-spec =
     tie.close
     (tie.spec
     Inv-loop
