@@ -50,7 +50,7 @@ axpy-set from a l b i x h = rw length-set
 -- ---- the turns of the two solves by the diagonal d
 
 module _ (d : Float) (n : ℕ) (cs : Matrix) where
-  abbrev kept : ℕ → Column → Column
+  abbrev pub kept : ℕ → Column → Column
   kept = turn (GivenDiagonal d) n cs
 
   abbrev corrected : ℕ → Column → Column
@@ -104,7 +104,7 @@ module _ (d : Float) (n : ℕ) (cs : Matrix) where
       ∙ each-step _ i after nan (omega (arith, e, whole))
 
   -- the Rust's turn for the last row, which it leaves out, would change nothing
-  last-turn : (i c : ℕ) (b : Column) → i + suc c ≡ length b → turnsFrom kept i (suc c) b ≡ turnsFrom kept i c b
+  pub last-turn : (i c : ℕ) (b : Column) → i + suc c ≡ length b → turnsFrom kept i (suc c) b ≡ turnsFrom kept i c b
   unfolding turnsFrom turn solvedRow keptRow
   last-turn i zero b e = axpy-none (i + 1) _ _ b (omega (arith, e))
   last-turn i (suc c) b e = last-turn (i + 1) c (kept i b) (omega (arith, e, kept-length i b))
@@ -133,7 +133,7 @@ each-doubles f makes zero (y ∷ ys) all (suc i) = each-doubles (λ j. f (suc j)
 each-doubles f makes (suc k) (y ∷ ys) all zero = all 0
 each-doubles f makes (suc k) (y ∷ ys) all (suc i) = each-doubles (λ j. f (suc j)) (λ j. makes (suc j)) k ys (λ j. all (suc j)) i
 
-kept-doubles : (d : Float) (n : ℕ) (cs : Matrix) (k : ℕ) (b : Column) → Doubles b → Doubles (kept d n cs k b)
+pub kept-doubles : (d : Float) (n : ℕ) (cs : Matrix) (k : ℕ) (b : Column) → Doubles b → Doubles (kept d n cs k b)
 unfolding turn solvedRow keptRow axpyFrom
 kept-doubles d n cs k b all =
     cond-cases Doubles (eqb (length (column cs k)) (length b)) (λ e. each-doubles _ (λ i x. add-fits binary64 _ x) (k + 1) b all) (λ e. all)

@@ -14,7 +14,7 @@ use Rattle.solve.specs.declared.Pass.{Pass}
 use Rattle.solve.specs.declared.Pass.the-variants.{Lower, Upper, GivenDiagonal, TransposedLower, TransposedUpper, CorrectedDiagonal, TransposedUnitLower}
 use Rattle.solve.specs.Triangular.{lowerRow, upperRow, keptRow, transposedLowerRow, transposedUpperRow, transposedUnitLowerRow, rowBy, solvedRow, turn, solvedColumn, solvedFrom}
 
-length-row : (pass : Pass) (d : Float) (l : Column) (i : ℕ) (b : Column) → length (rowBy pass d l i b) ≡ length b
+pub length-row : (pass : Pass) (d : Float) (l : Column) (i : ℕ) (b : Column) → length (rowBy pass d l i b) ≡ length b
 unfolding lowerRow upperRow keptRow transposedLowerRow transposedUpperRow transposedUnitLowerRow
 length-row Lower d l i b = simp (length-axpy, length-set)
 length-row Upper d l i b = simp (length-append, length-axpy, length-take, length-drop, length-set) (omega arith)

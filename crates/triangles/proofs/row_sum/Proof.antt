@@ -1,0 +1,84 @@
+-- The turns that are left, on the number so far, give the sum. Assumes nothing.
+use Prim.Native.Nat.{_+_, _-_, _*_, _≤_, _<_}
+use mathlib.Core.Path.{_≡_, sym, _∙_}
+use native.Mathlib.Omega.{arith}
+use borrow.Author.Needs.{needs}
+use lib.ListN.{length}
+use Rattle.blas.specs.Each.{turnsFrom}
+use Rattle.blas.proofs.Each.{turns-begin, turns-done}
+use Rattle.store.specs.Columns.{columns}
+use Rattle.store.proofs.Columns.{sized, column-within}
+use Rattle.triangles.specs.Rows.{withTurn, rowSum}
+use Rattle.triangles.proofs.Rows.{row-below, sum-turn}
+use Rattle.triangles.proofs.row_sum.Statement.{statement}
+use Rattle.triangles.proofs.row_sum.Tie as tie
+
+abbrev Inv-loop : tie.InvT-loop
+Inv-loop upward t n b r turns v₀ k₀ v k = turnsFrom (withTurn upward n (columns n n t) b r) k (turns - k) v ≡ rowSum upward n (columns n n t) b r turns
+
+abbrev μ-loop : tie.MeasureT-loop
+μ-loop upward t n b r turns v₀ k₀ v k = turns - k
+
+-- the row lies in the column, which is short
+inside : (c : tie.Start Inv-loop μ-loop) → let g = c .args in (g .n ≤ 64) × (length (g .b .now) ≡ g .n) × (g .r < g .n)
+inside c = (sized _ _ _ (c .pre .0) .rows-most, c .pre .1, c .pre .2)
+
+-- in a turn, its row is below n, and that row's column ends within the matrix
+below : (c : tie.After-row-of Inv-loop μ-loop) → c .row-of .result < c .before .before .before .before .before .before .args .n
+below c =
+    let at-start = c .before .before .before .before .before .before in
+    let g = at-start .args in
+    rw (c .row-of .ensures) (row-below (g .upward) (g .n) _ (omega (arith, c .before .loop-test .taken, at-start .pre .3)))
+
+within : (c : tie.After-row-of Inv-loop μ-loop) → let g = c .before .before .before .before .before .before .args in
+    (c .row-of .result * g .n + g .n ≤ length (g .t .now)) × (c .row-of .result < g .n) × (g .n ≤ 64) × (length (g .b .now) ≡ g .n) × (g .r < g .n)
+within c =
+    let at-start = c .before .before .before .before .before .before in
+    let p = at-start .pre in
+    let fits = sized _ _ _ (p .0) in
+    (column-within _ _ _ (at-start .args .t .now) (below c) (fits .size), below c, fits .rows-most, p .1, p .2)
+
+loop-holds : tie.Need-loop-holds Inv-loop μ-loop
+unfolding rowSum
+loop-holds c = turns-begin _ _ _
+
+row-of-requires : tie.Need-row-of-requires Inv-loop μ-loop
+row-of-requires c κs = omega (arith, c .loop-test .taken, c .before .before .before .before .before .pre .3)
+
+add-k : tie.Need-add-k Inv-loop μ-loop
+add-k c = omega arith
+
+loop-less : tie.Need-loop-less Inv-loop μ-loop
+loop-less c = omega arith
+
+loop-again : tie.Need-loop-again Inv-loop μ-loop
+loop-again c =
+    let at-row-of = c .before .before in
+    let at-loop = at-row-of .before .before in
+    let at-start = at-loop .before .before .before .before in
+    let g = at-start .args in
+    sum-turn (g .upward) (g .n) (g .r) _ (g .turns) _ (g .t .now) (g .b .now) _ (at-row-of .row-of .ensures) (at-row-of .before .loop-test .taken) (at-start .pre .3) (at-start .pre .2) ∙ at-loop .loop .inv
+
+returns : tie.Need-returns Inv-loop μ-loop
+returns c = sym (turns-done _ _ _ _ (c .loop-test .left)) ∙ c .before .loop .inv
+
+pub row-sum-spec : {M : Type 1} → statement M
+row-sum-spec =
+    tie.close
+    (tie.spec
+    Inv-loop
+    μ-loop
+    (λ c. omega (arith, inside (c .before .before)))
+    (λ c. omega (arith, inside (c .before .before .before)))
+    loop-holds
+    (λ c. omega (arith, inside (c .before .before .before .before .before)))
+    (λ c. omega (arith, within c))
+    (λ c. omega (arith, within c))
+    (λ c. omega (arith, within (c .before)))
+    (λ c. omega (arith, within (c .before)))
+    (λ c. omega (arith, within (c .before)))
+    (λ c. omega (arith, within (c .before .before)))
+    add-k
+    loop-less
+    loop-again
+    returns)

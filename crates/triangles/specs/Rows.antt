@@ -1,0 +1,41 @@
+-- Document 01, "Solving": the unit lower and the upper solve of one column, row by row. The rows that come before a row in the solve's order are
+-- solved when it has its turn, and it takes their products one after another, each by the rule of step 5, as the solves column by column give them.
+use mathlib.Core.Bool.{Bool, true, false, cond}
+use Prim.Native.Nat.{ℕ, _-_}
+use lib.ListN.{set}
+use lib.Ieee.{Float, binary64, add, mul, neg, div}
+use Rattle.blas.specs.Each.{turnsFrom}
+use Rattle.blas.specs.Numbers.{one64}
+use Rattle.blas.specs.Column.{Column, entry}
+use Rattle.store.specs.Steps.{Matrix, column}
+use Rattle.solve.specs.declared.Pass.{Pass}
+use Rattle.solve.specs.declared.Pass.the-variants.{Upper, GivenDiagonal}
+
+-- the solve that is meant: upward by the upper triangle, or downward by the unit lower one
+abbrev pub passOf : Bool → Pass
+passOf true = Upper
+passOf false = GivenDiagonal one64
+
+-- the row of turn k of n
+unfoldable pub rowOf : Bool → ℕ → ℕ → ℕ
+rowOf upward n k = cond upward (n - 1 - k) k
+
+-- a times x, rounded, plus y, rounded
+unfoldable pub plusProduct : Float → Float → Float → Float
+plusProduct a x y = add binary64 (mul binary64 a x) y
+
+-- the number v of row r with the product of turn k: minus the solved number of that turn, times what the matrix has for it in row r
+unfoldable pub withTurn : Bool → ℕ → Matrix → Column → ℕ → ℕ → Float → Float
+withTurn upward n cs b r k v = let c = rowOf upward n k in plusProduct (neg (entry b c)) (entry (column cs c) r) v
+
+-- row r with the products of that many turns, from the first on
+unfoldable pub rowSum : Bool → ℕ → Matrix → Column → ℕ → ℕ → Float
+rowSum upward n cs b r turns = turnsFrom (withTurn upward n cs b r) 0 turns (entry b r)
+
+-- upward, row i is divided by the diagonal
+unfoldable pub finished : Bool → Matrix → ℕ → Float → Float
+finished upward cs i v = cond upward (div binary64 v (entry (column cs i) i)) v
+
+-- turn k: its row, with the products of all turns before it
+unfoldable pub rowDone : Bool → ℕ → Matrix → ℕ → Column → Column
+rowDone upward n cs k b = let i = rowOf upward n k in set b i (finished upward cs i (rowSum upward n cs b i k))
