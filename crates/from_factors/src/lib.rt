@@ -168,8 +168,8 @@ fn solve_mut(factors: &[f64], swaps: &[usize], told: Record, x: &mut [f64], k: u
 {
     let n = told.rows;
     permutation_sequence::apply_to_rows(x, n, k, swaps, told.pairs, false);
-    solve::solve_in_place(Pass::CorrectedDiagonal(1.0), factors, n, x, k);
-    solve::solve_in_place(Pass::Upper, factors, n, x, k);
+    triangles::solve_in_place(false, factors, n, x, k);
+    triangles::solve_in_place(true, factors, n, x, k);
 }
 
 // The same by the transposed system: transposed upper, transposed unit lower, rows swapped by the list in reverse.
