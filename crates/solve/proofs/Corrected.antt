@@ -149,7 +149,7 @@ divided-by-one [] all = refl
 divided-by-one (y ∷ ys) all = ap₂ (λ (v : Float) (t : Column). v ∷ t) (div-one64 y (all 0)) (divided-by-one ys (λ i. all (suc i)))
 
 -- one column
-same-column : (n : ℕ) (cs : Matrix) (b : Column) → length b ≡ n → Doubles b → solvedColumn (CorrectedDiagonal one64) n cs b ≡ solvedColumn (GivenDiagonal one64) n cs b
+pub same-column : (n : ℕ) (cs : Matrix) (b : Column) → length b ≡ n → Doubles b → solvedColumn (CorrectedDiagonal one64) n cs b ≡ solvedColumn (GivenDiagonal one64) n cs b
 unfolding solvedColumn
 same-column n cs b e all =
     divided-once one64 n cs b e ∙ divided-by-one (solvedColumn (GivenDiagonal one64) n cs b) (turns-doubles one64 n cs 0 (n - 1) b all)

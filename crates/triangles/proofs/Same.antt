@@ -23,7 +23,7 @@ use Rattle.store.proofs.Steps.{length-stepColumn}
 use Rattle.solve.specs.declared.Pass.the-variants.{Upper, GivenDiagonal}
 use Rattle.solve.specs.Triangular.{upperRow, keptRow, solvedRow, turn, solvedColumn}
 use Rattle.solve.proofs.Lengths.{length-turns, length-row}
-use Rattle.solve.proofs.Corrected.{Doubles, kept, kept-doubles, last-turn}
+use Rattle.solve.proofs.Corrected.{Doubles, kept, kept-doubles, last-turn, same-column}
 use Rattle.triangles.specs.Rows.{passOf, rowOf, plusProduct, withTurn, rowSum, finished, rowDone}
 use Rattle.triangles.proofs.Rows.{row-below, row-apart, row-row, sum-same, turns-last}
 
@@ -218,4 +218,4 @@ pub rows-solve : (upward : Bool) (n : ℕ) (cs : Matrix) (b : Column) → ((k : 
     → turnsFrom (rowDone upward n cs) 0 n b ≡ solvedColumn (passOf upward) n cs b
 unfolding solvedColumn
 rows-solve true n cs b full len all = by-rows true n cs (turn Upper n cs) (up-turns n cs full) b len
-rows-solve false n cs b full len all = by-rows false n cs (step n cs full) (down-turns n cs full) b len ∙ steps-kept n cs full 0 n b all ∙ kept-all n cs b len
+rows-solve false n cs b full len all = by-rows false n cs (step n cs full) (down-turns n cs full) b len ∙ steps-kept n cs full 0 n b all ∙ kept-all n cs b len ∙ sym (same-column n cs b len all)

@@ -9,12 +9,12 @@ use Rattle.blas.specs.Numbers.{one64}
 use Rattle.blas.specs.Column.{Column, entry}
 use Rattle.store.specs.Steps.{Matrix, column}
 use Rattle.solve.specs.declared.Pass.{Pass}
-use Rattle.solve.specs.declared.Pass.the-variants.{Upper, GivenDiagonal}
+use Rattle.solve.specs.declared.Pass.the-variants.{Upper, CorrectedDiagonal}
 
--- the solve that is meant: upward by the upper triangle, or downward by the unit lower one
+-- the solve that is meant: upward by the upper triangle, or downward by the lower one, corrected, with ones for its diagonal (document 02, request 4)
 abbrev pub passOf : Bool → Pass
 passOf true = Upper
-passOf false = GivenDiagonal one64
+passOf false = CorrectedDiagonal one64
 
 -- the row of turn k of n
 unfoldable pub rowOf : Bool → ℕ → ℕ → ℕ
