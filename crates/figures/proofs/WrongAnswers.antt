@@ -15,6 +15,7 @@ use Rattle.blas.specs.Dot.{addProduct, addBlock, eightSums, pairSums, dotOf}
 use Rattle.store.specs.Columns.{columns, flat, isMatrix, onColumns}
 use Rattle.refusals.specs.Refusals.{firstOf, outside, Outcome, seventh, tested}
 use Rattle.permutation_sequence.specs.SwapList.{pairsOf, holds, goodPair, goodPairs, goodList}
+use Rattle.triangles.specs.Rows.{passOf}
 use Rattle.solve.specs.declared.Pass.{Pass}
 use Rattle.solve.specs.declared.Pass.the-variants.{Lower, Upper, GivenDiagonal, TransposedLower, TransposedUpper, CorrectedDiagonal}
 use Rattle.solve.specs.Triangular.{lowerRow, upperRow, keptRow, transposedLowerRow, transposedUpperRow, solvedRow, turn, solvedColumn, solvedFrom, solvedInPlace}
@@ -131,6 +132,16 @@ unfolding solves
 solve-in-place =
     strong inPlace (Lower, (1, (1, (n2 ∷ [], n4 ∷ [])))) (Lower, (1, (1, (n2 ∷ [], n8 ∷ [])))) (λ d. let z : _≡_ {A = ℕ} 0 1 = cc in omega arith)
     (shut-out inPlace (λ x. x .1 .1 .1 .1) (Lower, (1, (1, (n2 ∷ [], n4 ∷ [])))) (λ d. let z : _≡_ {A = ℕ} 0 1 = cc in omega arith))
+
+-- the same by rows
+abbrev inRows : Bool × (ℕ × (ℕ × (Column × Column))) → Column
+inRows x = solvedInPlace (passOf (x .0)) (x .1 .0) (x .1 .1 .0) (x .1 .1 .1 .0) (x .1 .1 .1 .1)
+
+pub solve-in-place-by-rows : Strong inRows (ShutsOut inRows (λ x. x .1 .1 .1 .1))
+unfolding solves
+solve-in-place-by-rows =
+    strong inRows (true, (1, (1, (n2 ∷ [], n4 ∷ [])))) (true, (1, (1, (n2 ∷ [], n8 ∷ [])))) (λ d. let z : _≡_ {A = ℕ} 0 1 = cc in omega arith)
+    (shut-out inRows (λ x. x .1 .1 .1 .1) (true, (1, (1, (n2 ∷ [], n4 ∷ [])))) (λ d. let z : _≡_ {A = ℕ} 0 1 = cc in omega arith))
 
 -- the same always; and the first entry alone tested
 abbrev zeroThere : ℕ × Column → Bool

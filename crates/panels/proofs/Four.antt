@@ -9,13 +9,14 @@ use lib.ListN.{length, set, length-set}
 use lib.Seq.{ext-getD, getD-set-same, getD-set-other}
 use lib.Ieee.{Float, nan, neg}
 use Rattle.blas.specs.Each.{eachFrom}
+use Rattle.blas.specs.Numbers.{plusProduct}
 use Rattle.blas.specs.Column.{Column, entry}
 use Rattle.blas.proofs.Choice.{test-cases}
 use Rattle.blas.proofs.Each.{length-each, each-at, each-before}
 use Rattle.blas.proofs.Rows.{entry-axpy-at, entry-axpy-before}
 use Rattle.store.specs.Steps.{Matrix, column, stepColumn}
 use Rattle.store.proofs.Steps.{length-stepColumn}
-use Rattle.panels.specs.Panel.{stepBy, fourSteps, plusProduct, multiplier, headOf, addFour, tailOf}
+use Rattle.panels.specs.Panel.{stepBy, fourSteps, multiplier, headOf, addFour, tailOf}
 
 -- ---- one step, row by row
 module _ (cs : Matrix) (k : ℕ) (c : Column) where

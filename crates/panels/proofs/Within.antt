@@ -11,6 +11,7 @@ use lib.ListN.{length, getD, set, length-set}
 use lib.Seq.{getD-set-same, getD-set-other, set-getD, set-set}
 use lib.Ieee.{Float, nan, neg, add, mul, binary64}
 use Rattle.blas.specs.Each.{eachFrom}
+use Rattle.blas.specs.Numbers.{plusProduct}
 use Rattle.blas.specs.Column.{Column, entry}
 use Rattle.blas.proofs.Choice.{cond-cases, and-first, and-second}
 use Rattle.blas.proofs.Each.{length-each, each-step, each-stop, each-same}
@@ -18,7 +19,7 @@ use Rattle.store.specs.Columns.{columns, HasRows, isMatrix, onColumns}
 use Rattle.store.specs.Steps.{Matrix, column}
 use Rattle.store.proofs.Columns.{sized, length-columns, columns-rows, entry-at, written-at, on-columns, each-rows}
 use Rattle.store.proofs.Within.{set-cases}
-use Rattle.panels.specs.Panel.{stepBy, fourSteps, fourStepped, fourSteppedRight, plusProduct, multiplier, headOf, addFour, tailOf}
+use Rattle.panels.specs.Panel.{stepBy, fourSteps, fourStepped, fourSteppedRight, multiplier, headOf, addFour, tailOf}
 use Rattle.panels.proofs.Four.{length-stepBy, four-rows}
 
 -- ---- the store's rows and columns

@@ -3,8 +3,9 @@ use mathlib.Core.Bool.{cond, _&&_}
 use Prim.Native.Nat.{ℕ, _+_, min}
 use lib.Dec.{leb, ltb}
 use lib.ListN.{length, set}
-use lib.Ieee.{Float, binary64, add, mul, neg}
+use lib.Ieee.{Float, neg}
 use Rattle.blas.specs.Each.{eachFrom}
+use Rattle.blas.specs.Numbers.{plusProduct}
 use Rattle.blas.specs.Column.{Column, entry}
 use Rattle.store.specs.Steps.{Matrix, column, stepColumn}
 
@@ -25,10 +26,6 @@ unfoldable pub fourSteppedRight : ℕ → ℕ → Matrix → Matrix
 fourSteppedRight m i cs = cond (leb (i + 4) (min m (length cs))) (eachFrom (λ j c. fourSteps i cs c) (i + 4) cs) cs
 
 -- ---- row by row
-
--- a times x, rounded, plus y, rounded
-unfoldable pub plusProduct : Float → Float → Float → Float
-plusProduct a x y = add binary64 (mul binary64 a x) y
 
 -- the multiplier in row r of column k
 abbrev pub multiplier : Matrix → ℕ → ℕ → Float

@@ -7,12 +7,13 @@ use lib.ListN.{length, getD, set, length-set}
 use lib.Seq.{getD-set-same, getD-set-other}
 use lib.Ieee.{Float, nan, binary64, add, mul, neg, div}
 use Rattle.blas.specs.Each.{turnsFrom}
+use Rattle.blas.specs.Numbers.{plusProduct}
 use Rattle.blas.specs.Column.{Column, entry}
 use Rattle.blas.proofs.Each.{turns-turn, turns-stop, turns-next}
 use Rattle.store.specs.Columns.{columns}
 use Rattle.store.specs.Steps.{Matrix, column}
 use Rattle.store.proofs.Columns.{entry-at}
-use Rattle.triangles.specs.Rows.{rowOf, plusProduct, withTurn, rowSum, finished, rowDone}
+use Rattle.triangles.specs.Rows.{rowOf, withTurn, rowSum, finished, rowDone}
 
 -- ---- turns one after another
 module _ {S : Type 0} (f : ℕ → S → S) where

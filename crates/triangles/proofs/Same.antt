@@ -13,7 +13,7 @@ use lib.ListN.{length, set, take, drop, length-set, length-take, List·getD-appe
 use lib.Seq.{ext-getD, getD-set-same, getD-set-other, getD-append-add, getD-take, getD-drop}
 use lib.Ieee.{Float, nan, binary64, neg, div}
 use Rattle.blas.specs.Each.{turnsFrom}
-use Rattle.blas.specs.Numbers.{one64}
+use Rattle.blas.specs.Numbers.{one64, plusProduct}
 use Rattle.blas.specs.Column.{Column, entry, axpyFrom}
 use Rattle.blas.proofs.Choice.{test-cases}
 use Rattle.blas.proofs.One.{div-one64}
@@ -24,7 +24,7 @@ use Rattle.solve.specs.declared.Pass.the-variants.{Upper, GivenDiagonal}
 use Rattle.solve.specs.Triangular.{upperRow, keptRow, solvedRow, turn, solvedColumn}
 use Rattle.solve.proofs.Lengths.{length-turns, length-row}
 use Rattle.solve.proofs.Corrected.{Doubles, kept, kept-doubles, last-turn, same-column}
-use Rattle.triangles.specs.Rows.{passOf, rowOf, plusProduct, withTurn, rowSum, finished, rowDone}
+use Rattle.triangles.specs.Rows.{passOf, rowOf, withTurn, rowSum, finished, rowDone}
 use Rattle.triangles.proofs.Rows.{row-below, row-apart, row-row, sum-same, turns-last}
 
 -- ---- what a turn column by column does to the rows, and that this is enough

@@ -3,9 +3,9 @@
 use mathlib.Core.Bool.{Bool, true, false, cond}
 use Prim.Native.Nat.{ℕ, _-_}
 use lib.ListN.{set}
-use lib.Ieee.{Float, binary64, add, mul, neg, div}
+use lib.Ieee.{Float, binary64, neg, div}
 use Rattle.blas.specs.Each.{turnsFrom}
-use Rattle.blas.specs.Numbers.{one64}
+use Rattle.blas.specs.Numbers.{one64, plusProduct}
 use Rattle.blas.specs.Column.{Column, entry}
 use Rattle.store.specs.Steps.{Matrix, column}
 use Rattle.solve.specs.declared.Pass.{Pass}
@@ -19,10 +19,6 @@ passOf false = CorrectedDiagonal one64
 -- the row of turn k of n
 unfoldable pub rowOf : Bool → ℕ → ℕ → ℕ
 rowOf upward n k = cond upward (n - 1 - k) k
-
--- a times x, rounded, plus y, rounded
-unfoldable pub plusProduct : Float → Float → Float → Float
-plusProduct a x y = add binary64 (mul binary64 a x) y
 
 -- the number v of row r with the product of turn k: minus the solved number of that turn, times what the matrix has for it in row r
 unfoldable pub withTurn : Bool → ℕ → Matrix → Column → ℕ → ℕ → Float → Float

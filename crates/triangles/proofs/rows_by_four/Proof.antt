@@ -1,8 +1,7 @@
 -- The fours that are left from four j on, on what the column holds then, give all of them. Assumes nothing.
-use Prim.Native.Nat.{_+_, _-_, _*_, _≤_, _<_}
+use Prim.Native.Nat.{_+_, _-_, _*_, _≤_}
 use mathlib.Core.Path.{_≡_, sym, _∙_}
 use native.Mathlib.Omega.{arith}
-use borrow.Author.Needs.{needs}
 use lib.ListN.{length}
 use Rattle.blas.specs.Each.{turnsFrom}
 use Rattle.store.specs.Columns.{columns}

@@ -1,13 +1,11 @@
 -- The turns that are left from turn k on, on what the column holds then, give the first turns. Assumes nothing.
-use Prim.Native.Nat.{_+_, _-_, _*_, _≤_, _<_}
+use Prim.Native.Nat.{_-_}
 use mathlib.Core.Path.{_≡_, sym, _∙_}
 use native.Mathlib.Omega.{arith}
-use borrow.Author.Needs.{needs}
 use lib.ListN.{length}
 use Rattle.blas.specs.Each.{turnsFrom}
 use Rattle.blas.proofs.Each.{turns-begin, turns-next, turns-done}
 use Rattle.store.specs.Columns.{columns}
-use Rattle.store.proofs.Columns.{sized}
 use Rattle.triangles.specs.Rows.{rowDone}
 use Rattle.triangles.proofs.single_rows.Statement.{statement}
 use Rattle.triangles.proofs.single_rows.Tie as tie
