@@ -3,9 +3,10 @@
 use mathlib.Core.Path.{_≡_, refl, sym, ap, _∙_}
 use mathlib.Core.Bool.{Bool, true, false}
 use mathlib.Core.List.{List, [], _∷_}
-use Prim.Native.Nat.{ℕ, _*_, _≤_, _<_}
+use Prim.Native.Nat.{ℕ, _+_, _-_, _*_, _/_, _≤_, _<_}
 use native.Mathlib.Omega.{arith}
-use lib.ListN.{length, getD, drop}
+use lib.ListN.{length, getD, take, drop, length-drop}
+use lib.Seq.{take-all}
 use lib.Ieee.{Float}
 use Rattle.blas.specs.Column.{Column}
 use Rattle.blas.proofs.Choice.{test-cases}
@@ -16,8 +17,8 @@ use Rattle.store.proofs.Columns.{sized, same-matrix, length-columns, columns-ro
 use Rattle.store.proofs.Steps.{range-all, length-swapInAll, rows-swapInAll}
 use Rattle.permutation_sequence.specs.SwapList.{Swaps, pairsOf, held}
 use Rattle.permutation_sequence.specs.Permute.{permutedBy, exchangeOf, inOrder}
-use Rattle.permutation_sequence.proofs.SwapList.{held-all, held-none}
-use Rattle.permutation_sequence.proofs.Permute.{permuted-nothing, permuted-end}
+use Rattle.permutation_sequence.proofs.SwapList.{pairs-split, held-all, held-none}
+use Rattle.permutation_sequence.proofs.Permute.{permuted-append, permuted-nothing, permuted-end}
 
 -- n columns of m entries each
 abbrev pub Shape : {A : Type 0} → ℕ → ℕ → List (List A) → Type 0
@@ -87,6 +88,41 @@ module _ (m n : ℕ) (exchange : ℕ → ℕ → Matrix → Matrix) (keeps : Kee
   permuted-on [] s = sym (on-nothing m n (permutedBy exchange []) s (λ cs g. refl))
   permuted-on (p ∷ swaps) s =
       permuted-on swaps (onColumns m n (exchange (p .0) (p .1)) s) ∙ on-on m n (exchange (p .0) (p .1)) (keeps (p .0) (p .1)) (permutedBy exchange swaps) s
+
+  -- no pairs of a store, and the first pairs with those behind them
+  pub pairs-none : (store : List ℕ) (s : Column) → s ≡ onColumns m n (permutedBy exchange (pairsOf 0 store)) s
+  unfolding pairsOf permutedBy
+  pairs-none store s = permuted-on [] s
+
+  pub pairs-more : (a b : ℕ) (store : List ℕ) (s u t : Column) → u ≡ onColumns m n (permutedBy exchange (pairsOf a store)) s
+      → t ≡ onColumns m n (permutedBy exchange (pairsOf b (drop (2 * a) store))) u → t ≡ onColumns m n (permutedBy exchange (pairsOf (a + b) store)) s
+  pairs-more a b store s u t first second =
+      let more = pairsOf b (drop (2 * a) store) in
+      second
+      ∙ sym (permuted-on more u)
+      ∙ ap (permutedBy (onSlice exchange m n) more) (first ∙ sym (permuted-on (pairsOf a store) s))
+      ∙ sym (permuted-append (onSlice exchange m n) (pairsOf a store) more s)
+      ∙ ap (λ (swaps : Swaps). permutedBy (onSlice exchange m n) swaps s) (sym (pairs-split a b store))
+      ∙ permuted-on (pairsOf (a + b) store) s
+
+  -- as many fours as there are, and then the rest
+  pub fours-applied : (pairs : ℕ) (store : List ℕ) (s u t : Column) → 2 * pairs ≤ length store
+      → u ≡ onColumns m n (permutedBy exchange (pairsOf (4 * (pairs / 4)) store)) s
+      → t ≡ onColumns m n (permutedBy exchange (inOrder false (held (pairs - 4 * (pairs / 4)) (take (length store - 8 * (pairs / 4)) (drop (8 * (pairs / 4)) store))))) u
+      → t ≡ onColumns m n (permutedBy exchange (inOrder false (held pairs store))) s
+  unfolding inOrder
+  fours-applied pairs store s u t h first second =
+      let done = 4 * (pairs / 4) in
+      let rest = pairs - done in
+      let from = 8 * (pairs / 4) in
+      let place : from ≡ 2 * done = omega arith in
+      let part : take (length store - from) (drop from store) ≡ drop from store = take-all (length store - from) (drop from store) (rw length-drop (omega arith)) in
+      let all : done + rest ≡ pairs = omega arith in
+      let work : Swaps → Column → Column = λ swaps x. onColumns m n (permutedBy exchange swaps) x in
+      pairs-more done rest store s u t first
+      (second
+      ∙ ap (λ (swaps : Swaps). work swaps u) (ap (held rest) part ∙ held-all rest (drop from store) (rw length-drop (omega arith)) ∙ ap (λ (a : ℕ). pairsOf rest (drop a store)) place))
+      ∙ ap (λ (swaps : Swaps). work swaps s) (ap (λ (i : ℕ). pairsOf i store) all ∙ sym (held-all pairs store h))
 
   -- what the loop over the pairs of a store leaves: nothing is done where the store does not hold them, and all is done at its end
   module _ (backwards : Bool) (pairs : ℕ) (store : List ℕ) (s : Column) where

@@ -20,7 +20,7 @@ use Rattle.blas.proofs.Walk.{drop-next}
 use Rattle.store.specs.Steps.{Matrix, swapInAll}
 use Rattle.permutation_sequence.specs.SwapList.{Swaps, pairsOf}
 use Rattle.permutation_sequence.specs.Permute.{permutedBy, permute, rowsPermuted, inOrder, pairOfTurn}
-use Rattle.permutation_sequence.proofs.SwapList.{length-pairs, pairAt, pairs-at}
+use Rattle.permutation_sequence.proofs.SwapList.{length-pairs, pairAt, pairs-at, four-pairs}
 
 module _ {X : Type 0} (exchange : ℕ → ℕ → X → X) where
   -- one list behind another
@@ -110,6 +110,10 @@ module _ (backwards : Bool) (pairs : ℕ) (store : List ℕ) where
 
 pub permute-append : (swaps more : Swaps) (c : Column) → permute (swaps ++ more) c ≡ permute more (permute swaps c)
 permute-append = permuted-append swapRows
+
+-- four pairs as they were read
+pub permute-four : (store : List ℕ) (c new : Column) → new ≡ permute (pairAt store 0 ∷ pairAt store 1 ∷ pairAt store 2 ∷ pairAt store 3 ∷ []) c → new ≡ permute (pairsOf 4 store) c
+permute-four store c new e = e ∙ ap (λ (swaps : Swaps). permute swaps c) (sym (four-pairs store))
 
 pub length-permute : (swaps : Swaps) (c : Column) → length (permute swaps c) ≡ length c
 length-permute swaps c = permuted-keeps swapRows (λ x. length x ≡ length c) (λ i j x e. length-exchanged nan i j x ∙ e) swaps c refl

@@ -3,14 +3,14 @@
 use mathlib.Core.Path.{_≡_, refl, sym, ap, ap₂, _∙_}
 use mathlib.Core.Bool.{Bool, true, _&&_}
 use mathlib.Core.List.{List, [], _∷_, _++_}
-use Prim.Native.Nat.{ℕ, zero, suc, _+_, _*_, _≤_, _<_}
-use native.Mathlib.Nat.{le-of-suc-le-suc, not-suc-le-zero}
+use Prim.Native.Nat.{ℕ, zero, suc, _+_, _-_, _*_, _≤_, _<_}
+use native.Mathlib.Nat.{le-of-suc-le-suc, not-suc-le-zero, zero-add, suc-add}
 use native.Mathlib.Numerals.{add-one}
 use native.Mathlib.Omega.{arith}
 use borrow.Author.Tests.{leb-true, le-leb, lt-leb}
 use lib.Dec.{leb}
-use lib.ListN.{length, getD, drop, set, drop-of-length-le, length-set}
-use lib.Seq.{getD-drop, getD-set-same, getD-set-other, ext-getD}
+use lib.ListN.{length, getD, take, drop, set, drop-of-length-le, length-set}
+use lib.Seq.{drop-drop, getD-take, getD-drop, getD-set-same, getD-set-other, ext-getD}
 use Rattle.blas.proofs.Choice.{and-first, and-second, and-both}
 use Rattle.blas.proofs.Walk.{drop-next}
 use Rattle.permutation_sequence.specs.SwapList.{Swaps, pairsOf, holds, held, withPair, goodPair, goodPairs, goodList}
@@ -57,6 +57,32 @@ pairs-last zero store = refl
 pairs-last (suc pairs) store =
     ap (λ (s : Swaps). (getD store 0 0, getD store 1 0) ∷ s)
     (pairs-last pairs (drop 2 store) ∙ ap (λ (p : ℕ × ℕ). pairsOf pairs (drop 2 store) ++ p ∷ []) (pair-drop store pairs))
+
+-- four pairs by their places
+pub four-pairs : (store : List ℕ) → pairsOf 4 store ≡ pairAt store 0 ∷ pairAt store 1 ∷ pairAt store 2 ∷ pairAt store 3 ∷ []
+unfolding pairsOf
+four-pairs store =
+    let behind : ℕ → Swaps → Swaps = λ k s. s ++ pairAt store k ∷ [] in
+    pairs-last 3 store ∙ ap (behind 3) (pairs-last 2 store ∙ ap (behind 2) (pairs-last 1 store ∙ ap (behind 1) (pairs-last 0 store)))
+
+-- the first pairs, and those behind them
+pub pairs-split : (a b : ℕ) (store : List ℕ) → pairsOf (a + b) store ≡ pairsOf a store ++ pairsOf b (drop (2 * a) store)
+unfolding pairsOf
+pairs-split zero b store =
+    let none : 0 ≡ 2 * 0 = omega arith in ap₂ (λ (n k : ℕ). pairsOf n (drop k store)) (zero-add b) none
+pairs-split (suc a) b store =
+    let two-more : 2 + 2 * a ≡ 2 * suc a = omega arith in
+    ap (λ (n : ℕ). pairsOf n store) (suc-add a b)
+    ∙ ap (λ (s : Swaps). (getD store 0 0, getD store 1 0) ∷ s)
+    (pairs-split a b (drop 2 store)
+    ∙ ap (λ (l : List ℕ). pairsOf a (drop 2 store) ++ pairsOf b l) (drop-drop (2 * a) 2 store ∙ ap (λ (k : ℕ). drop k store) two-more))
+
+-- the four pairs behind the first k times four, lent as a part
+pub part-pairs : (k : ℕ) (store : List ℕ) → pairsOf 4 (take (8 * k + 8 - 8 * k) (drop (8 * k) store)) ≡ pairsOf 4 (drop (2 * (4 * k)) store)
+part-pairs k store =
+    let same : 8 * k ≡ 2 * (4 * k) = omega arith in
+    pairs-same 4 (take (8 * k + 8 - 8 * k) (drop (8 * k) store)) (drop (2 * (4 * k)) store) λ i h.
+    getD-take (8 * k + 8 - 8 * k) (drop (8 * k) store) i 0 (omega arith) ∙ ap (λ (a : ℕ). getD (drop a store) i 0) same
 
 -- a pair written behind the last is the new last pair
 module _ (pairs i j : ℕ) (store : List ℕ) where

@@ -3,11 +3,13 @@
 use refusals::Answer;
 ghost use mathlib.Core.Path.{_≡_};
 ghost use mathlib.Core.Bool.{true, false};
-ghost use Prim.Native.Nat.{_<_};
+ghost use mathlib.Core.List.{[], _∷_};
+ghost use Prim.Native.Nat.{_*_, _≤_, _<_};
+ghost use lib.ListN.{length};
 ghost use Rattle.refusals.specs.Refusals.{answerOf as answerFor};
-ghost use Rattle.store.specs.Columns.{onColumns};
-ghost use Rattle.permutation_sequence.specs.SwapList.{goodPair, goodList, held};
-ghost use Rattle.permutation_sequence.specs.Permute.{permutedBy, rowsPermuted, exchangeOf, inOrder, pairOfTurn, signOf};
+ghost use Rattle.store.specs.Columns.{isMatrix, onColumns};
+ghost use Rattle.permutation_sequence.specs.SwapList.{pairsOf, goodPair, goodList, held};
+ghost use Rattle.permutation_sequence.specs.Permute.{permutedBy, permute, rowsPermuted, exchangeOf, inOrder, pairOfTurn, signOf};
 ghost use Rattle.permutation_sequence.specs.Calls.{permutingRefusal, permuting, permutingRows, permutingColumns, appendingRefusal, appending, answerOf};
 
 // What appending answers: the new count, or a refusal's number and the old count.
@@ -166,7 +168,63 @@ fn apply(
     }
 }
 
-// The list applied to the rows of s with no refusal but the store's: for calls that have tested their list.
+// Exchanges the entries of one column by four pairs in turn.
+fn swap_four(
+    col: &mut [f64],
+    i0: usize,
+    j0: usize,
+    i1: usize,
+    j1: usize,
+    i2: usize,
+    j2: usize,
+    i3: usize,
+    j3: usize,
+)
+    ensures { λ _. ⌜ now (col .exit) ≡ permute ((i0, j0) ∷ (i1, j1) ∷ (i2, j2) ∷ (i3, j3) ∷ []) (now (col .entry)) ⌝ }
+{
+    blas::swap(col, i0, j0);
+    blas::swap(col, i1, j1);
+    blas::swap(col, i2, j2);
+    blas::swap(col, i3, j3);
+}
+
+// Exchanges the rows of four pairs, all four in a column before the next: so their numbers are read once, and a column's entries are near each other.
+fn exchange_four(s: &mut [f64], m: usize, n: usize, four: &[usize])
+    requires { ⌜ (isMatrix m n (now s) ≡ true) × (length (now four) ≡ 8) ⌝ }
+    ensures { λ _. ⌜ now (s .exit) ≡ onColumns m n (rowsPermuted (pairsOf 4 (now (four .entry)))) (now (s .entry)) ⌝ }
+{
+    let i0 = four[0];
+    let j0 = four[1];
+    let i1 = four[2];
+    let j1 = four[3];
+    let i2 = four[4];
+    let j2 = four[5];
+    let i3 = four[6];
+    let j3 = four[7];
+    let mut j = 0;
+    while j < n {
+        let a = j * m;
+        let e = a + m;
+        swap_four(&mut s[a..e], i0, j0, i1, j1, i2, j2, i3, j3);
+        j += 1;
+    }
+}
+
+// Exchanges the rows of the first pairs, `fours` times four of them.
+fn exchange_in_fours(s: &mut [f64], m: usize, n: usize, swaps: &[usize], fours: usize)
+    requires { ⌜ (isMatrix m n (now s) ≡ true) × (8 * fours ≤ length (now swaps)) ⌝ }
+    ensures { λ _. ⌜ now (s .exit) ≡ onColumns m n (rowsPermuted (pairsOf (4 * fours) (now (swaps .entry)))) (now (s .entry)) ⌝ }
+{
+    let mut k = 0;
+    while k < fours {
+        let a = 8 * k;
+        let e = a + 8;
+        exchange_four(s, m, n, &swaps[a..e]);
+        k += 1;
+    }
+}
+
+// The list applied to the rows of s with no refusal but the store's: for calls that have tested their list. First pair first it goes by fours, then by ones.
 pub fn apply_to_rows(
     s: &mut [f64],
     m: usize,
@@ -177,7 +235,20 @@ pub fn apply_to_rows(
 )
     ensures { λ _. ⌜ now (s .exit) ≡ onColumns m n (rowsPermuted (inOrder reverse (held pairs (now (swaps .entry))))) (now (s .entry)) ⌝ }
 {
-    apply(s, m, n, swaps, pairs, false, reverse)
+    if reverse {
+        apply(s, m, n, swaps, pairs, false, true);
+        return;
+    }
+    if swaps.len() / 2 < pairs {
+        return;
+    }
+    if !store::is_matrix(s, m, n) {
+        return;
+    }
+    let fours = pairs / 4;
+    let done = 8 * fours;
+    exchange_in_fours(s, m, n, swaps, fours);
+    apply(s, m, n, &swaps[done..], pairs - 4 * fours, false, false);
 }
 
 // Permutes, or refuses; the bound is the row count, for columns the column count.

@@ -1,0 +1,54 @@
+-- In reverse by ones. Else the fours, and then the rest by ones. Assumes nothing.
+use mathlib.Core.Path.{sym, _∙_}
+use mathlib.Core.Bool.{false}
+use native.Mathlib.Omega.{arith}
+use borrow.Author.Needs.{needs}
+use borrow.Author.Tests.{not-true, not-false}
+use Rattle.store.specs.Steps.{swapInAll}
+use Rattle.store.proofs.Columns.{on-none}
+use Rattle.permutation_sequence.proofs.OnColumns.{exchange-keeps, applied-none, fours-applied}
+use Rattle.permutation_sequence.proofs.apply_to_rows.Statement.{statement}
+use Rattle.permutation_sequence.proofs.apply_to_rows.Tie as tie
+
+returns : tie.Need-returns
+returns c = rw (c .before .before .before .before .if1 .taken) (c .before .before .apply .ensures)
+
+returns-2 : tie.Need-returns-2
+returns-2 c =
+    let a = c .before .before .before .before .args in
+    rw (c .before .if1 .left) (applied-none _ _ swapInAll (exchange-keeps false _ _) false (a .pairs) (a .swaps .now) (a .s .now) (omega arith))
+
+returns-3 : tie.Need-returns-3
+returns-3 c = on-none _ _ _ _ (sym (c .before .is-matrix .ensures) ∙ not-true _ (c .if3 .taken))
+
+exchange-in-fours-requires : tie.Need-exchange-in-fours-requires
+exchange-in-fours-requires c κs = (sym (c .before .before .is-matrix .ensures) ∙ not-false _ (c .before .if3 .left), omega arith)
+
+returns-4 : tie.Need-returns-4
+returns-4 c =
+    let at-fours = c .before .before .before .before .before .before .before in
+    let a = at-fours .before .before .before .before .before .before .before .before .before .args in
+    rw (at-fours .before .before .before .before .before .before .if1 .left) (fours-applied (a .m) (a .n) swapInAll (exchange-keeps false (a .m) (a .n)) (a .pairs) (a .swaps .now) (a .s .now) _ _ (omega arith) (at-fours .exchange-in-fours .ensures) (c .before .before .apply2 .ensures))
+
+pub apply-to-rows-spec : {M : Type 1} → statement M
+apply-to-rows-spec =
+    tie.close
+    (tie.spec
+    (λ c κs. search needs)
+    (λ c. search needs)
+    returns
+    returns-2
+    (λ c κs. search needs)
+    (λ c. search needs)
+    returns-3
+    (λ c. search needs)
+    exchange-in-fours-requires
+    (λ c. search needs)
+    (λ c. search needs)
+    (λ c. search needs)
+    (λ c. search needs)
+    (λ c. search needs)
+    (λ c. search needs)
+    (λ c κs. search needs)
+    (λ c. search needs)
+    returns-4)
