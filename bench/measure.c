@@ -9,7 +9,7 @@
 #include <string.h>
 #include <time.h>
 
-enum { INPUTS = 8, SWAPS = 128, RANDOM_MATRICES = 600, LEAST_NANOSECONDS = 40000 };
+enum { INPUTS = 8, SWAPS = 128, RANDOM_MATRICES = 600, LEAST_NANOSECONDS = 400000 };
 
 // original/src/lib.rs
 struct original;
