@@ -4,14 +4,15 @@ use mathlib.Core.Path.{_≡_, refl, sym, ap, ap₂, _∙_, subst}
 use mathlib.Core.Bool.{Bool, true, false, cond, _&&_, and-assoc}
 use mathlib.Core.List.{List, [], _∷_, _++_}
 use Prim.Native.Nat.{ℕ, zero, suc, _+_, _-_, _*_, _/_, _%_, _^_, _≤_, _<_, compare, compare·zero-zero, compare·zero-suc}
-use native.Mathlib.Nat.{zero-mod, zero-div, zero-mul}
+use native.Mathlib.Nat.{zero-mod, zero-div, zero-mul, add-sub-cancel-left}
 use native.Mathlib.Omega.{arith}
 use lib.Dec.{T, ltb}
 use lib.IntN.{ℤ}
-use lib.ListN.{length, drop}
-use lib.Seq.{drop-cons}
+use lib.ListN.{length, take, drop, take-append-drop}
+use lib.Seq.{drop-cons, drop-drop}
 use lib.Ieee.{Float, nan, inf, fin, binary64, mul, eq, round, units, odd, isNan, low, emax, prec, up, down, unlike, nearest, size}
 use lib.Ieee.Scale.{finite}
+use Rattle.blas.specs.Each.{eachFrom}
 use Rattle.blas.specs.Column.{Column, entry, allFinite}
 use Rattle.blas.proofs.Choice.{and-first, and-second, and-both, and-true}
 use Rattle.blas.proofs.Finite.{finite-append}
@@ -110,14 +111,15 @@ four true false false d = refl
 four false b c d = refl
 
 -- each times the factor at its own place
-unfoldable pub paired : List Float → List Float → List Float
-paired [] xs = []
-paired (t ∷ ts) [] = []
-paired (t ∷ ts) (x ∷ xs) = mul binary64 t x ∷ paired ts xs
+abbrev pub byEntry : Column → ℕ → Float → Float
+byEntry xs k t = mul binary64 t (entry xs k)
+
+abbrev pub paired : List Float → List Float → List Float
+paired ts xs = eachFrom (byEntry xs) 0 ts
 
 pub paired-tell : (ts xs : List Float) → length ts ≡ length xs → every calm ts ≡ true
     → (every calm (paired ts xs) ≡ true) × (every naught (paired ts xs) ≡ (every naught ts && allFinite xs))
-unfolding every paired allFinite
+unfolding every eachFrom allFinite
 paired-tell [] [] e c = (refl, refl)
 paired-tell [] (x ∷ xs) e c = absurd (omega (arith, e))
 paired-tell (t ∷ ts) [] e c = absurd (omega (arith, e))
@@ -126,7 +128,7 @@ paired-tell (t ∷ ts) (x ∷ xs) e c =
     let rest = paired-tell ts xs (omega (arith, e)) (and-second (calm t) (every calm ts) c) in
     (and-both _ _ (one .0) (rest .0), ap₂ _&&_ (one .1) (rest .1) ∙ four (naught t) (finite x) (every naught ts) (allFinite xs))
 
-calm-all : (ts : List Float) → every calm ts ≡ true → allFinite ts ≡ every naught ts
+pub calm-all : (ts : List Float) → every calm ts ≡ true → allFinite ts ≡ every naught ts
 unfolding every allFinite
 calm-all [] c = refl
 calm-all (t ∷ ts) c = ap₂ _&&_ (calm-finite t (and-first (calm t) (every calm ts) c)) (calm-all ts (and-second (calm t) (every calm ts) c))
@@ -138,7 +140,7 @@ halves ts us e c =
     let told = paired-tell ts us e (and-first (every calm ts) (every calm us) both) in
     (told .0, told .1 ∙ ap (λ (b : Bool). every naught ts && b) (calm-all us (and-second (every calm ts) (every calm us) both)) ∙ sym (every-append naught ts us))
 
--- ---- eight of them, as `all_finite` has them
+-- ---- eight of them, as `finite_by_eight` has them
 module _ (t0 t1 t2 t3 t4 t5 t6 t7 : Float) where
   abbrev pub eight : List Float
   eight = t0 ∷ t1 ∷ t2 ∷ t3 ∷ t4 ∷ t5 ∷ t6 ∷ t7 ∷ []
@@ -147,14 +149,30 @@ module _ (t0 t1 t2 t3 t4 t5 t6 t7 : Float) where
   together = mul binary64 (mul binary64 (mul binary64 t0 t4) (mul binary64 t2 t6)) (mul binary64 (mul binary64 t1 t5) (mul binary64 t3 t7))
 
   pub eight-tell : every calm eight ≡ true → eq together together ≡ every naught eight
-  unfolding every paired
+  unfolding every eachFrom
   eight-tell c =
       let four-left = halves (t0 ∷ t1 ∷ t2 ∷ t3 ∷ []) (t4 ∷ t5 ∷ t6 ∷ t7 ∷ []) refl c in
       let two-left = halves (mul binary64 t0 t4 ∷ mul binary64 t1 t5 ∷ []) (mul binary64 t2 t6 ∷ mul binary64 t3 t7 ∷ []) refl (four-left .0) in
       let one-left = halves (mul binary64 (mul binary64 t0 t4) (mul binary64 t2 t6) ∷ []) (mul binary64 (mul binary64 t1 t5) (mul binary64 t3 t7) ∷ []) refl (two-left .0) in
       calm-self together (and-first (calm together) true (one-left .0)) ∙ sym (and-true (naught together)) ∙ one-left .1 ∙ two-left .1 ∙ four-left .1
 
--- ---- a turn of `all_finite`: eight entries more, one to each
+-- ---- a turn: as many entries more, one to each
+pub block-more : (ts xs rest whole : List Float) → length ts ≡ length xs → every calm ts ≡ true → whole ≡ xs ++ rest
+    → (every calm (paired ts xs) ≡ true) × ((every naught (paired ts xs) && allFinite rest) ≡ (every naught ts && allFinite whole))
+block-more ts xs rest whole e c split =
+    let told = paired-tell ts xs e c in (
+      told .0,
+      ap (λ (b : Bool). b && allFinite rest) (told .1)
+          ∙ and-assoc (every naught ts) (allFinite xs) (allFinite rest)
+          ∙ ap (λ (b : Bool). every naught ts && b) (sym (finite-append xs rest) ∙ ap allFinite (sym split)),
+    )
+
+-- the block lent as the part from k to k + c
+pub part-first : (s : Column) (k c : ℕ) → drop k s ≡ take (k + c - k) (drop k s) ++ drop (k + c) s
+part-first s k c =
+    sym (take-append-drop c (drop k s)) ∙ ap₂ (λ (i : ℕ) (rest : Column). take i (drop k s) ++ rest) (sym (add-sub-cancel-left k c)) (drop-drop c k s)
+
+-- eight entries by name
 module _ (s : Column) where
   front : (i j : ℕ) (l : Column) → suc i ≡ j → i < length s → drop j s ≡ l → drop i s ≡ entry s i ∷ l
   front i j l n h e = drop-cons s i nan h ∙ ap (λ (k : ℕ). entry s i ∷ drop k s) n ∙ ap (λ (r : Column). entry s i ∷ r) e
@@ -163,7 +181,7 @@ module _ (s : Column) where
     abbrev pub entries : Column
     entries = entry s k ∷ entry s (k + 1) ∷ entry s (k + 2) ∷ entry s (k + 3) ∷ entry s (k + 4) ∷ entry s (k + 5) ∷ entry s (k + 6) ∷ entry s (k + 7) ∷ []
 
-    eight-first : drop k s ≡ entries ++ drop (k + 8) s
+    pub eight-first : drop k s ≡ entries ++ drop (k + 8) s
     eight-first =
         front k (k + 1) _ (omega arith) (omega arith)
         (front (k + 1) (k + 2) _ (omega arith) (omega arith)
@@ -173,13 +191,3 @@ module _ (s : Column) where
         (front (k + 5) (k + 6) _ (omega arith) (omega arith)
         (front (k + 6) (k + 7) _ (omega arith) (omega arith)
         (front (k + 7) (k + 8) _ (omega arith) (omega arith) refl)))))))
-
-    pub eight-more : (ts : List Float) → length ts ≡ 8 → every calm ts ≡ true
-        → (every calm (paired ts entries) ≡ true) × ((every naught (paired ts entries) && allFinite (drop (k + 8) s)) ≡ (every naught ts && allFinite (drop k s)))
-    eight-more ts e c =
-        let told = paired-tell ts entries e c in (
-          told .0,
-          ap (λ (b : Bool). b && allFinite (drop (k + 8) s)) (told .1)
-              ∙ and-assoc (every naught ts) (allFinite entries) (allFinite (drop (k + 8) s))
-              ∙ ap (λ (b : Bool). every naught ts && b) (sym (finite-append entries (drop (k + 8) s)) ∙ ap allFinite (sym eight-first)),
-        )

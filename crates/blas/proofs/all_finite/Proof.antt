@@ -1,45 +1,54 @@
--- Fewer than eight entries are all rest. Else eight products take eight entries a turn: what they tell and what is left from row k on give the answer. Assumes nothing.
-use Prim.Native.Nat.{_-_, _≤_}
-use mathlib.Core.Path.{_≡_, refl, ap₂, _∙_}
+-- Fewer than 128 entries go by eight. Else the products take a block a turn: what they tell, being finite themselves or not, and what is left from row k on
+-- give the answer. Assumes nothing.
+use Prim.Native.Nat.{_+_, _-_, _≤_}
+use mathlib.Core.Path.{_≡_, refl, sym, ap₂, _∙_}
 use mathlib.Core.Bool.{true, _&&_}
 use native.Mathlib.Omega.{arith}
 use borrow.Author.Needs.{needs}
-use lib.ListN.{length, drop}
+use lib.ListN.{length, take, drop, length-take, length-drop}
 use lib.Ieee.{ofBits}
 use Rattle.blas.specs.Column.{allFinite}
-use Rattle.blas.proofs.Product.{naught, calm, every, paired, eight, eight-tell, eight-more}
+use Rattle.blas.proofs.Product.{naught, calm, every, calm-all, block-more, part-first}
 use Rattle.blas.proofs.all_finite.Statement.{statement}
 use Rattle.blas.proofs.all_finite.Tie as tie
 
 abbrev Inv-loop : tie.InvT-loop
-Inv-loop s t0₀ t1₀ t2₀ t3₀ t4₀ t5₀ t6₀ t7₀ k₀ t0 t1 t2 t3 t4 t5 t6 t7 k =
-    let ts = eight t0 t1 t2 t3 t4 t5 t6 t7 in
-    (k ≤ length s) × (every calm ts ≡ true) × ((every naught ts && allFinite (drop k s)) ≡ allFinite s)
+Inv-loop s products₀ k₀ products k =
+    (k ≤ length s) × (length products ≡ 24) × (every calm products ≡ true) × ((every naught products && allFinite (drop k s)) ≡ allFinite s)
 
 abbrev μ-loop : tie.MeasureT-loop
-μ-loop s t0₀ t1₀ t2₀ t3₀ t4₀ t5₀ t6₀ t7₀ k₀ t0 t1 t2 t3 t4 t5 t6 t7 k = length s - k
+μ-loop s products₀ k₀ products k = length s - k
 
 returns : tie.Need-returns Inv-loop μ-loop
-returns c = c .rest-finite .ensures
+returns c = c .finite-by-eight .ensures
 
 loop-holds : tie.Need-loop-holds Inv-loop μ-loop
 unfolding every calm naught ofBits
-loop-holds c = (omega arith, refl, refl)
+loop-holds c = (omega arith, refl, refl, refl)
+
+slice-aggregate-times-block : tie.Need-slice-aggregate-times-block Inv-loop μ-loop
+slice-aggregate-times-block c = search needs
+
+times-block-requires : tie.Need-times-block-requires Inv-loop μ-loop
+times-block-requires c κs = simp (length-take, length-drop) (omega arith)
 
 loop-again : tie.Need-loop-again Inv-loop μ-loop
-unfolding paired
 loop-again c =
-    let at-loop-test = c .before .before .before .before .before .before .before .before in
-    let at-loop = at-loop-test .before in
+    let called = c .before .times-block in
+    let at-loop = c .before .before .before .before .before in
     let l = at-loop .loop in
-    let h = at-loop-test .loop-test .taken in
-    let more = eight-more (at-loop .before .before .before .args .s .now) (l .k) (omega arith) (eight (l .t0) (l .t1) (l .t2) (l .t3) (l .t4) (l .t5) (l .t6) (l .t7)) refl (l .inv .1) in
-    (omega arith, more .0, more .1 ∙ l .inv .2)
+    let s = at-loop .before .before .before .args .s .now in
+    let fits : length (l .products) ≡ length (take (l .k + 24 - l .k) (drop (l .k) s)) = simp (length-take, length-drop) (omega arith) in
+    let more = block-more (l .products) (take (l .k + 24 - l .k) (drop (l .k) s)) _ _ fits (l .inv .2) (part-first s (l .k) 24) in
+    (omega arith, called .kept .0 ∙ l .inv .1, rw (called .ensures) (more .0), rw (called .ensures) (more .1 ∙ l .inv .3))
+
+slice-aggregate-finite-by-eight : tie.Need-slice-aggregate-finite-by-eight Inv-loop μ-loop
+slice-aggregate-finite-by-eight c = search needs
 
 returns-2 : tie.Need-returns-2 Inv-loop μ-loop
 returns-2 c =
-    let l = c .before .before .loop in
-    ap₂ _&&_ (eight-tell (l .t0) (l .t1) (l .t2) (l .t3) (l .t4) (l .t5) (l .t6) (l .t7) (l .inv .1)) (c .rest-finite2 .ensures) ∙ l .inv .2
+    let l = c .before .before .before .before .loop in
+    ap₂ _&&_ (c .before .finite-by-eight2 .ensures ∙ calm-all (l .products) (l .inv .2)) (c .finite-by-eight3 .ensures) ∙ l .inv .3
 
 pub all-finite-spec : {M : Type 1} → statement M
 all-finite-spec =
@@ -47,35 +56,20 @@ all-finite-spec =
     (tie.spec
     Inv-loop
     μ-loop
-    (λ c κs. search needs)
+    (λ c κs. omega arith)
     returns
     loop-holds
     (λ c. omega arith)
     (λ c. omega arith)
+    slice-aggregate-times-block
     (λ c. omega arith)
     (λ c. omega arith)
     (λ c. omega arith)
     (λ c. omega arith)
-    (λ c. omega arith)
-    (λ c. omega arith)
-    (λ c. omega arith)
-    (λ c. omega arith)
-    (λ c. omega arith)
-    (λ c. omega arith)
-    (λ c. omega arith)
-    (λ c. omega arith)
-    (λ c. omega arith)
-    (λ c. omega arith)
-    (λ c. omega arith)
-    (λ c. omega arith)
-    (λ c. omega arith)
-    (λ c. omega arith)
-    (λ c. omega arith)
-    (λ c. omega arith)
-    (λ c. omega arith)
-    (λ c. omega arith)
-    (λ c. omega arith)
+    times-block-requires
     (λ c. omega arith)
     loop-again
-    (λ c κs. search needs)
+    slice-aggregate-finite-by-eight
+    (λ c κs. omega arith)
+    (λ c κs. omega arith)
     returns-2)
