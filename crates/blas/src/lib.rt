@@ -225,8 +225,15 @@ fn times_block(products: &mut [f64], x: &[f64])
     }
 }
 
-// Whether no entry is an infinity or a NaN. From 128 entries on by 24 such products, as many as keep the processor busy while each waits for its last factor.
+// Whether no entry is an infinity or a NaN.
 pub fn all_finite(s: &[f64]) -> bool
+    ensures { λ r. ⌜ r ≡ allFinite (now (s .entry)) ⌝ }
+{
+    finite_by_eight(s, 0)
+}
+
+// The same, for slices that may be long: from 128 entries on by 24 such products, as many as keep the processor busy while each waits for its last factor.
+pub fn all_finite_long(s: &[f64]) -> bool
     ensures { λ r. ⌜ r ≡ allFinite (now (s .entry)) ⌝ }
 {
     if s.len() < 128 {

@@ -45,7 +45,7 @@ pub fn taken_refusal(asks: Asks, told: Record, factors: &[f64], swaps: &[usize])
     let shape = asks.square & (m != n);
     let lengths = store::is_matrix(factors, m, n) & (swaps.len() == 128) & asks.lengths;
     let list = permutation_sequence::is_good_list(swaps, told.pairs, m, store::min(m, n));
-    let numbers = blas::all_finite(factors) & asks.numbers;
+    let numbers = blas::all_finite_long(factors) & asks.numbers;
     let singular = asks.solves & solve::zero_on_diagonal(factors, m);
     let from4 = refusals::first(
         4,

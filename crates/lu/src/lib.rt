@@ -411,7 +411,7 @@ pub fn add_column(s: &mut [f64], c: &[f64], swaps: &mut [usize], told: Record) -
     }
     let a = n * m;
     let e = a + m;
-    let finite = blas::all_finite(&s[..a]) & blas::all_finite(c);
+    let finite = blas::all_finite_long(&s[..a]) & blas::all_finite(c);
     if !finite {
         return Added::Refused { number: 5, told };
     }

@@ -29,16 +29,16 @@ within c =
 returns : tie.Need-returns
 returns c = promise-early _ _ _ _ _ (c .before .adding-refusal .ensures) (c .if1 .taken)
 
-slice-aggregate-all-finite : tie.Need-slice-aggregate-all-finite
-slice-aggregate-all-finite c = let w = within (c .before) in sym (length-take-le _ _ (omega arith))
+slice-aggregate-all-finite-long : tie.Need-slice-aggregate-all-finite-long
+slice-aggregate-all-finite-long c = let w = within (c .before) in sym (length-take-le _ _ (omega arith))
 
 returns-2 : tie.Need-returns-2
 returns-2 c =
-    let at-all-finite2 = c .before in
-    let at-all-finite = at-all-finite2 .before in
-    let at-if1 = at-all-finite .before .before in
+    let at-all-finite = c .before in
+    let at-all-finite-long = at-all-finite .before in
+    let at-if1 = at-all-finite-long .before .before in
     let at-adding-refusal = at-if1 .before in
-    promise-five _ _ _ _ _ (at-adding-refusal .adding-refusal .ensures) (at-if1 .if1 .left) _ (ap₂ (λ (a b : Bool). a && b) (at-all-finite .all-finite .ensures) (at-all-finite2 .all-finite2 .ensures)) (not-true _ (c .if2 .taken))
+    promise-five _ _ _ _ _ (at-adding-refusal .adding-refusal .ensures) (at-if1 .if1 .left) _ (ap₂ (λ (a b : Bool). a && b) (at-all-finite-long .all-finite-long .ensures) (at-all-finite .all-finite .ensures)) (not-true _ (c .if2 .taken))
 
 reduce-column-requires : tie.Need-reduce-column-requires
 reduce-column-requires c κs =
@@ -60,15 +60,15 @@ returns-3 : tie.Need-returns-3
 returns-3 c =
     let at-fill-zero = c .before .before in
     let at-if3 = at-fill-zero .before .before in
-    let at-all-finite3 = at-if3 .before in
-    let at-own-step = at-all-finite3 .before .before .before .before .before .before in
+    let at-all-finite2 = at-if3 .before in
+    let at-own-step = at-all-finite2 .before .before .before .before .before .before in
     let at-reduce-column = at-own-step .before .before .before .before in
     let at-if2 = at-reduce-column .before .before .before in
-    let at-all-finite2 = at-if2 .before in
-    let at-all-finite = at-all-finite2 .before in
-    let at-if1 = at-all-finite .before .before in
+    let at-all-finite = at-if2 .before in
+    let at-all-finite-long = at-all-finite .before in
+    let at-if1 = at-all-finite-long .before .before in
     let at-adding-refusal = at-if1 .before in
-    overflows _ _ _ _ _ (at-adding-refusal .adding-refusal .ensures) (at-if1 .if1 .left) _ (ap₂ (λ (a b : Bool). a && b) (at-all-finite .all-finite .ensures) (at-all-finite2 .all-finite2 .ensures)) (not-false _ (at-if2 .if2 .left)) _ _ _ (at-reduce-column .reduce-column .kept .0) (at-reduce-column .reduce-column .ensures) (at-own-step .own-step .kept .0) (at-own-step .own-step .ensures .0 .0) (at-own-step .own-step .ensures .1) _ (sym (at-all-finite3 .all-finite3 .ensures) ∙ not-true _ (at-if3 .if3 .taken)) (at-fill-zero .fill-zero .kept .0) (at-fill-zero .fill-zero .ensures)
+    overflows _ _ _ _ _ (at-adding-refusal .adding-refusal .ensures) (at-if1 .if1 .left) _ (ap₂ (λ (a b : Bool). a && b) (at-all-finite-long .all-finite-long .ensures) (at-all-finite .all-finite .ensures)) (not-false _ (at-if2 .if2 .left)) _ _ _ (at-reduce-column .reduce-column .kept .0) (at-reduce-column .reduce-column .ensures) (at-own-step .own-step .kept .0) (at-own-step .own-step .ensures .0 .0) (at-own-step .own-step .ensures .1) _ (sym (at-all-finite2 .all-finite2 .ensures) ∙ not-true _ (at-if3 .if3 .taken)) (at-fill-zero .fill-zero .kept .0) (at-fill-zero .fill-zero .ensures)
 
 record-swap-requires : tie.Need-record-swap-requires
 record-swap-requires c κs =
@@ -83,15 +83,15 @@ returns-4 c =
     let at-record-swap = c .before .before in
     let at-swap-rows = at-record-swap .before .before .before .before in
     let at-if3 = at-swap-rows .before .before in
-    let at-all-finite3 = at-if3 .before in
-    let at-own-step = at-all-finite3 .before .before .before .before .before .before in
+    let at-all-finite2 = at-if3 .before in
+    let at-own-step = at-all-finite2 .before .before .before .before .before .before in
     let at-reduce-column = at-own-step .before .before .before .before in
     let at-if2 = at-reduce-column .before .before .before in
-    let at-all-finite2 = at-if2 .before in
-    let at-all-finite = at-all-finite2 .before in
-    let at-if1 = at-all-finite .before .before in
+    let at-all-finite = at-if2 .before in
+    let at-all-finite-long = at-all-finite .before in
+    let at-if1 = at-all-finite-long .before .before in
     let at-adding-refusal = at-if1 .before in
-    joins _ _ _ _ _ (at-adding-refusal .adding-refusal .ensures) (at-if1 .if1 .left) _ (ap₂ (λ (a b : Bool). a && b) (at-all-finite .all-finite .ensures) (at-all-finite2 .all-finite2 .ensures)) (not-false _ (at-if2 .if2 .left)) _ _ _ (at-reduce-column .reduce-column .kept .0) (at-reduce-column .reduce-column .ensures) (at-own-step .own-step .kept .0) (at-own-step .own-step .ensures .0 .0) (at-own-step .own-step .ensures .1) _ _ _ _ _ (at-own-step .own-step .ensures .0 .1) (at-all-finite3 .before .before .before .count .ensures) (sym (at-all-finite3 .all-finite3 .ensures) ∙ not-false _ (at-if3 .if3 .left)) (at-swap-rows .swap-rows .kept .0) (at-swap-rows .swap-rows .ensures) (at-record-swap .record-swap .ensures)
+    joins _ _ _ _ _ (at-adding-refusal .adding-refusal .ensures) (at-if1 .if1 .left) _ (ap₂ (λ (a b : Bool). a && b) (at-all-finite-long .all-finite-long .ensures) (at-all-finite .all-finite .ensures)) (not-false _ (at-if2 .if2 .left)) _ _ _ (at-reduce-column .reduce-column .kept .0) (at-reduce-column .reduce-column .ensures) (at-own-step .own-step .kept .0) (at-own-step .own-step .ensures .0 .0) (at-own-step .own-step .ensures .1) _ _ _ _ _ (at-own-step .own-step .ensures .0 .1) (at-all-finite2 .before .before .before .count .ensures) (sym (at-all-finite2 .all-finite2 .ensures) ∙ not-false _ (at-if3 .if3 .left)) (at-swap-rows .swap-rows .kept .0) (at-swap-rows .swap-rows .ensures) (at-record-swap .record-swap .ensures)
 
 pub add-column-spec : {M : Type 1} → statement M
 add-column-spec =
@@ -104,7 +104,7 @@ add-column-spec =
     (λ c. omega (arith, within c))
     (λ c. omega (arith, within c))
     (λ c. omega (arith, within c))
-    slice-aggregate-all-finite
+    slice-aggregate-all-finite-long
     (λ c κs. search needs)
     (λ c κs. search needs)
     (λ c. search needs)

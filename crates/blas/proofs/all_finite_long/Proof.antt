@@ -9,8 +9,8 @@ use lib.ListN.{length, take, drop, length-take, length-drop}
 use lib.Ieee.{ofBits}
 use Rattle.blas.specs.Column.{allFinite}
 use Rattle.blas.proofs.Product.{naught, calm, every, calm-all, block-more, part-first}
-use Rattle.blas.proofs.all_finite.Statement.{statement}
-use Rattle.blas.proofs.all_finite.Tie as tie
+use Rattle.blas.proofs.all_finite_long.Statement.{statement}
+use Rattle.blas.proofs.all_finite_long.Tie as tie
 
 abbrev Inv-loop : tie.InvT-loop
 Inv-loop s products₀ k₀ products k =
@@ -50,8 +50,8 @@ returns-2 c =
     let l = c .before .before .before .before .loop in
     ap₂ _&&_ (c .before .finite-by-eight2 .ensures ∙ calm-all (l .products) (l .inv .2)) (c .finite-by-eight3 .ensures) ∙ l .inv .3
 
-pub all-finite-spec : {M : Type 1} → statement M
-all-finite-spec =
+pub all-finite-long-spec : {M : Type 1} → statement M
+all-finite-long-spec =
     tie.close
     (tie.spec
     Inv-loop
