@@ -10,7 +10,7 @@ use native.Mathlib.Omega.{arith}
 use borrow.Author.Tests.{ltb-true, ltb-false, lt-ltb, eqb-true, eq-eqb, ne-eqb}
 use lib.Dec.{eqb}
 use lib.ListN.{length, drop, drop-of-length-le}
-use lib.Ieee.{Float, nan, inf, fin, up, down, neg, lt, le, eq, ofBits}
+use lib.Ieee.{Float, nan, inf, fin, up, down, neg, lt, eq, ofBits}
 use lib.Ieee.Fits.{down-pos}
 use Rattle.blas.specs.Numbers.{zero64, magnitude, isZero}
 use Rattle.blas.specs.Column.{Column, entry, searchFrom, pivotRow}

@@ -3,7 +3,7 @@
 use mathlib.Core.Path.{_≡_, refl, sym, ap, ap₂, subst, _∙_}
 use mathlib.Core.Bool.{true, false}
 use mathlib.Core.List.{List, [], _∷_, _++_, append-nil}
-use Prim.Native.Nat.{ℕ, zero, suc, _+_, _-_, _*_, _≤_, _<_}
+use Prim.Native.Nat.{ℕ, zero, suc, _+_, _-_, _*_, _≤_}
 use native.Mathlib.Nat.{sub-zero, mul-le-mul-right, add-mul}
 use native.Mathlib.Omega.{arith}
 use borrow.Rule.Slice.PartMut.{midOf, putMid, same-len-mid}
@@ -13,8 +13,8 @@ use Rattle.blas.specs.Each.{eachFrom, turnsFrom}
 use Rattle.blas.specs.Column.{Column}
 use Rattle.blas.proofs.Each.{length-each, each-each, each-same}
 use Rattle.store.specs.Columns.{columns, HasRows, isMatrix, onColumns}
-use Rattle.store.specs.Steps.{Matrix, column}
-use Rattle.store.proofs.Columns.{sized, is-matrix, column-end, length-columns, columns-rows, columns-split, on-columns, each-rows}
+use Rattle.store.specs.Steps.{Matrix}
+use Rattle.store.proofs.Columns.{sized, is-matrix, length-columns, columns-rows, columns-split, on-columns, each-rows}
 use Rattle.permutation_sequence.specs.SwapList.{Swaps, pairsOf, held}
 use Rattle.permutation_sequence.specs.Permute.{permute, rowsPermuted, inOrder}
 use Rattle.permutation_sequence.proofs.Permute.{rows-each, length-permute}
@@ -27,7 +27,7 @@ use Rattle.lu.specs.Held.{Held, Stepped}
 use Rattle.lu.specs.Own.{afterPanel}
 use Rattle.lu.specs.TossUps.{tossFrom}
 use Rattle.lu.proofs.Panels.{extend, passed, panel-steps, panel-toss}
-use Rattle.lu.proofs.Step.{length-turns, swaps-turns}
+use Rattle.lu.proofs.Step.{swaps-turns}
 use Rattle.lu.proofs.Swaps.{length-store, pairs-store}
 use Rattle.lu.proofs.Updates.{updates-same}
 use Rattle.lu.proofs.Widen.{updates, afterSteps}

@@ -1,8 +1,8 @@
 -- A panel: the steps on the front columns alone, then their swaps and updates on each column behind them, are the steps on the whole matrix. Column by column
 -- by `steps-widen`. Assumes nothing.
-use mathlib.Core.Path.{_≡_, refl, sym, ap, ap₂, subst, _∙_}
+use mathlib.Core.Path.{_≡_, sym, ap, _∙_}
 use mathlib.Core.List.{List, [], _∷_, _++_, append-assoc, append-nil}
-use Prim.Native.Nat.{ℕ, suc, _+_, _≤_, _<_}
+use Prim.Native.Nat.{ℕ, suc, _+_, _≤_}
 use native.Mathlib.Omega.{arith}
 use borrow.Author.Tests.{ltb-true, ltb-false}
 use lib.Dec.{ltb}
@@ -13,10 +13,10 @@ use Rattle.blas.specs.Column.{Column}
 use Rattle.blas.proofs.Choice.{test-cases}
 use Rattle.blas.proofs.Each.{each-same}
 use Rattle.store.specs.Columns.{HasRows}
-use Rattle.store.specs.Steps.{Matrix, column}
+use Rattle.store.specs.Steps.{Matrix}
 use Rattle.permutation_sequence.specs.Permute.{permute}
 use Rattle.lu.specs.Elimination.{Factors, step}
-use Rattle.lu.specs.Adding.{widen, update}
+use Rattle.lu.specs.Adding.{widen}
 use Rattle.lu.specs.TossUps.{tossFrom}
 use Rattle.lu.proofs.Step.{length-turns}
 use Rattle.lu.proofs.Tossing.{toss-front}

@@ -1,28 +1,25 @@
 -- The slot behind n columns, as the code of adding works in it: lent as a part it is the last column, its updates by the older columns are those of
 -- the definition, and an exchange of rows in the older columns leaves it. Assumes nothing.
-use mathlib.Core.Path.{_≡_, refl, sym, ap, ap₂, _∙_}
+use mathlib.Core.Path.{_≡_, sym, ap, ap₂, _∙_}
 use mathlib.Core.Bool.{true, false, cond}
 use mathlib.Core.List.{List, [], _∷_, _++_, append-nil}
-use Prim.Native.Nat.{ℕ, zero, suc, _+_, _-_, _*_, _≤_, _<_, min}
+use Prim.Native.Nat.{ℕ, _+_, _-_, _*_, _≤_, min}
 use native.Mathlib.Nat.{suc-mul, one-mul}
 use native.Mathlib.Numerals.{add-one}
 use native.Mathlib.Omega.{arith}
 use borrow.Author.Tests.{lt-ltb, le-ltb}
 use borrow.Rule.Slice.PartMut.{midOf, putMid, same-len-mid}
 use lib.Dec.{ltb}
-use lib.ListN.{length, getD, set, take, drop, length-drop, take-append-drop, List·getD-append}
-use lib.Seq.{set-at, getD-at, set-getD, take-all, length-take-le}
-use lib.Ieee.{Float, nan}
+use lib.ListN.{length, getD, set, take, drop, length-drop, take-append-drop}
+use lib.Seq.{set-at, getD-at, take-all, length-take-le}
 use Rattle.blas.specs.Each.{eachFrom, turnsFrom}
-use Rattle.blas.specs.Numbers.{isZero}
-use Rattle.blas.specs.Column.{Column, entry, swapRows, copied}
+use Rattle.blas.specs.Column.{Column, swapRows, copied}
 use Rattle.blas.proofs.Each.{each-snoc, each-same}
 use Rattle.blas.proofs.Rows.{copied-whole}
 use Rattle.store.specs.Columns.{columns, flat, isMatrix, onColumns}
-use Rattle.store.specs.Steps.{Matrix, column, swapInAll, rowsSwapped, stepColumn}
-use Rattle.store.proofs.Columns.{sized, is-matrix, length-columns, columns-rows, flat-columns, columns-front, columns-snoc, part-column, column-length, column-lent, on-flat, on-columns, entry-at}
+use Rattle.store.specs.Steps.{Matrix, column, swapInAll, rowsSwapped}
+use Rattle.store.proofs.Columns.{sized, is-matrix, length-columns, columns-rows, flat-columns, columns-front, columns-snoc, part-column, column-length, column-lent, on-flat, on-columns}
 use Rattle.store.proofs.Steps.{length-rowsSwapped, rows-rowsSwapped}
-use Rattle.store.proofs.Within.{within-columns}
 use Rattle.permutation_sequence.specs.SwapList.{Swaps, pairsOf, held, goodList}
 use Rattle.permutation_sequence.specs.Permute.{permute, rowsPermuted, inOrder}
 use Rattle.permutation_sequence.proofs.Permute.{rows-each}

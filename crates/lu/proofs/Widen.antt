@@ -2,7 +2,6 @@
 -- the packed factors of k steps make of it; a step's exchange of rows below the earlier columns commutes with their updates (`axpy-swap`).
 -- Over all floats, finite or not. Assumes nothing.
 use Prim.Native.Nat.{ℕ, zero, suc, _+_, _≤_, _<_, min}
-use native.Mathlib.Nat.{zero-add}
 use native.Mathlib.Omega.{arith}
 use mathlib.Core.Path.{_≡_, refl, sym, ap, _∙_}
 use mathlib.Core.Bool.{Bool, true, false, cond}

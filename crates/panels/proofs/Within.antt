@@ -1,6 +1,6 @@
 -- Four steps on a column of the store that holds their columns too: the rows of the head written one after another, one turn of the loop below them,
 -- its end, and what the columns are afterwards, which is what factoring and adding cite. Assumes nothing.
-use mathlib.Core.Path.{_≡_, refl, sym, ap, ap₂, _∙_}
+use mathlib.Core.Path.{_≡_, refl, sym, ap, _∙_}
 use mathlib.Core.Bool.{true, _&&_}
 use mathlib.Core.List.{List, []}
 use Prim.Native.Nat.{ℕ, _+_, _*_, _≤_, _<_, min}

@@ -1,7 +1,7 @@
 // The unit lower and the upper solve of `solve`, row by row and four rows at a time: the same operations on each number in the same order, so the same
 // bits, with a row's number held while it takes its products. The first turns are single rows, as many as four does not divide.
 ghost use mathlib.Core.Path.{_≡_};
-ghost use mathlib.Core.Bool.{Bool, true, false};
+ghost use mathlib.Core.Bool.{true, false};
 ghost use Prim.Native.Nat.{_+_, _*_, _≤_, _<_};
 ghost use lib.ListN.{length};
 ghost use Rattle.blas.specs.Each.{turnsFrom};

@@ -1,7 +1,7 @@
 -- Fewer than 128 entries go by eight. Else the products take a block a turn: what they tell, being finite themselves or not, and what is left from row k on
 -- give the answer. Assumes nothing.
 use Prim.Native.Nat.{_+_, _-_, _≤_}
-use mathlib.Core.Path.{_≡_, refl, sym, ap₂, _∙_}
+use mathlib.Core.Path.{_≡_, refl, ap₂, _∙_}
 use mathlib.Core.Bool.{true, _&&_}
 use native.Mathlib.Omega.{arith}
 use borrow.Author.Needs.{needs}

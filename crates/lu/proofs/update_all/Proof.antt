@@ -3,7 +3,6 @@ use Prim.Native.Nat.{ℕ, _+_, _-_, _*_, _/_, _≤_, min}
 use mathlib.Core.Path.{_≡_, ap, _∙_}
 use native.Mathlib.Omega.{arith}
 use borrow.Author.Needs.{needs}
-use lib.ListN.{length}
 use Rattle.blas.specs.Each.{turnsFrom}
 use Rattle.store.specs.Columns.{columns}
 use Rattle.store.proofs.Columns.{sized, same-matrix}

@@ -5,7 +5,6 @@ use mathlib.Core.Bool.{true}
 use native.Mathlib.Omega.{arith}
 use borrow.Author.Needs.{needs}
 use borrow.Author.Tests.{not-true, not-false}
-use lib.ListN.{length}
 use Rattle.store.specs.Columns.{isMatrix}
 use Rattle.store.proofs.Columns.{sized, on-none, on-done}
 use Rattle.panels.proofs.Within.{stepped-is, not-stepped}

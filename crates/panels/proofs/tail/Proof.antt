@@ -1,6 +1,6 @@
 -- What is left of the rows from row k on gives the whole; the columns left of column j stay. Assumes nothing.
 use Prim.Native.Nat.{ℕ, _-_, _*_, _+_, _≤_, _<_}
-use mathlib.Core.Path.{_≡_, refl, sym, _∙_}
+use mathlib.Core.Path.{_≡_, refl, _∙_}
 use native.Mathlib.Omega.{arith}
 use borrow.Author.Needs.{needs}
 use lib.ListN.{length, set}

@@ -1,5 +1,4 @@
 -- The four exchanges one after the other. Assumes nothing.
-use mathlib.Core.Path.{ap, _∙_}
 use borrow.Author.Needs.{needs}
 use Rattle.permutation_sequence.specs.Permute.{permutedBy}
 use Rattle.permutation_sequence.proofs.swap_four.Statement.{statement}
