@@ -2,27 +2,27 @@
 -- the definition, and an exchange of rows in the older columns leaves it. Assumes nothing.
 use mathlib.Core.Path.{_≡_, sym, ap, ap₂, _∙_}
 use mathlib.Core.Bool.{true, false, cond}
-use mathlib.Core.List.{List, [], _∷_, _++_, append-nil}
+use mathlib.Core.List.{List, [], _∷_, _++_}
 use Prim.Native.Nat.{ℕ, _+_, _-_, _*_, _≤_, min}
-use native.Mathlib.Nat.{suc-mul, one-mul}
+use native.Mathlib.Nat.{suc-mul}
 use native.Mathlib.Numerals.{add-one}
 use native.Mathlib.Omega.{arith}
 use borrow.Author.Tests.{lt-ltb, le-ltb}
 use borrow.Rule.Slice.PartMut.{midOf, putMid, same-len-mid}
 use lib.Dec.{ltb}
 use lib.ListN.{length, getD, set, take, drop, length-drop, take-append-drop}
-use lib.Seq.{set-at, getD-at, take-all, length-take-le}
-use Rattle.blas.specs.Each.{eachFrom, turnsFrom}
+use lib.Seq.{set-at, getD-at, length-take-le}
+use Rattle.blas.specs.Each.{turnsFrom}
 use Rattle.blas.specs.Column.{Column, swapRows, copied}
 use Rattle.blas.proofs.Each.{each-snoc, each-same}
 use Rattle.blas.proofs.Rows.{copied-whole}
 use Rattle.store.specs.Columns.{columns, flat, isMatrix, onColumns}
 use Rattle.store.specs.Steps.{Matrix, column, swapInAll, rowsSwapped}
-use Rattle.store.proofs.Columns.{sized, is-matrix, length-columns, columns-rows, flat-columns, columns-front, columns-snoc, part-column, column-length, column-lent, on-flat, on-columns}
+use Rattle.store.proofs.Columns.{sized, length-columns, columns-rows, flat-columns, columns-front, columns-snoc, part-column, column-length, column-lent, on-columns}
 use Rattle.store.proofs.Steps.{length-rowsSwapped, rows-rowsSwapped}
 use Rattle.permutation_sequence.specs.SwapList.{Swaps, pairsOf, held, goodList}
 use Rattle.permutation_sequence.specs.Permute.{permute, rowsPermuted, inOrder}
-use Rattle.permutation_sequence.proofs.Permute.{rows-each}
+use Rattle.permutation_sequence.proofs.OnColumns.{one-column}
 use Rattle.permutation_sequence.proofs.SwapList.{held-good}
 use Rattle.lu.specs.Adding.{update, reduced, factorsIn}
 use Rattle.lu.specs.Own.{updatedAt}
@@ -67,16 +67,6 @@ slot-lent h m n s c x cs len wide is kept made =
 -- the slot as it is lent
 pub slot-part : (m n : ℕ) (s x : Column) (cs : Matrix) → length cs ≡ n → columns m (n + 1) s ≡ cs ++ x ∷ [] → midOf (n * m) (n * m + m - n * m) s ≡ x
 slot-part m n s x cs wide is = part-column m (n + 1) n s (omega arith) ∙ ap (λ (ds : Matrix). column ds n) is ∙ getD-at cs x [] [] n wide
-
--- ---- one column as a matrix of its own
-pub one-column : (m : ℕ) (swaps : Swaps) (x : Column) → m ≤ 64 → length x ≡ m → onColumns m 1 (rowsPermuted swaps) x ≡ permute swaps x
-unfolding columns flat eachFrom
-one-column m swaps x h len =
-    let fits : isMatrix m 1 x ≡ true = is-matrix m 1 x h (omega arith) (len ∙ sym (one-mul m)) in
-    on-flat m 1 (rowsPermuted swaps) x fits
-    ∙ ap flat (rows-each swaps (columns m 1 x))
-    ∙ append-nil (permute swaps (take m x))
-    ∙ ap (permute swaps) (take-all m x (omega arith))
 
 -- ---- rows exchanged in the older columns alone
 older-swapped : (i p : ℕ) (cs : Matrix) (x : Column) → rowsSwapped i p 0 (length cs) (cs ++ x ∷ []) ≡ swapInAll i p cs ++ x ∷ []

@@ -2,23 +2,25 @@
 -- join. By the test for a matrix. Assumes nothing.
 use mathlib.Core.Path.{_≡_, refl, sym, ap, _∙_}
 use mathlib.Core.Bool.{Bool, true, false}
-use mathlib.Core.List.{List, [], _∷_}
+use mathlib.Core.List.{List, [], _∷_, append-nil}
 use Prim.Native.Nat.{ℕ, _+_, _-_, _*_, _/_, _≤_, _<_}
+use native.Mathlib.Nat.{one-mul}
 use native.Mathlib.Omega.{arith}
 use lib.ListN.{length, getD, take, drop, length-drop}
 use lib.Seq.{take-all}
 use lib.Ieee.{Float}
+use Rattle.blas.specs.Each.{eachFrom}
 use Rattle.blas.specs.Column.{Column}
 use Rattle.blas.proofs.Choice.{test-cases}
 use Rattle.blas.proofs.Exchange.{other, other-range, exchanged-cases, length-exchanged, getD-exchanged}
 use Rattle.store.specs.Columns.{columns, flat, HasRows, isMatrix, onColumns}
 use Rattle.store.specs.Steps.{Matrix, swapInAll, rowsSwapped}
-use Rattle.store.proofs.Columns.{sized, same-matrix, length-columns, columns-rows, flat-columns, length-flat, on-none, on-flat, on-same, on-columns}
+use Rattle.store.proofs.Columns.{sized, is-matrix, same-matrix, length-columns, columns-rows, flat-columns, length-flat, on-none, on-flat, on-same, on-columns}
 use Rattle.store.proofs.Steps.{range-all, length-swapInAll, rows-swapInAll}
 use Rattle.permutation_sequence.specs.SwapList.{Swaps, pairsOf, held}
-use Rattle.permutation_sequence.specs.Permute.{permutedBy, exchangeOf, inOrder}
+use Rattle.permutation_sequence.specs.Permute.{permutedBy, permute, rowsPermuted, exchangeOf, inOrder}
 use Rattle.permutation_sequence.proofs.SwapList.{pairs-split, held-all, held-none}
-use Rattle.permutation_sequence.proofs.Permute.{permuted-append, permuted-nothing, permuted-end}
+use Rattle.permutation_sequence.proofs.Permute.{permuted-append, permuted-nothing, permuted-end, rows-each}
 
 -- n columns of m entries each
 abbrev pub Shape : {A : Type 0} → ℕ → ℕ → List (List A) → Type 0
@@ -140,3 +142,23 @@ module _ (m n : ℕ) (exchange : ℕ → ℕ → Matrix → Matrix) (keeps : Kee
         ∙ e
         ∙ permuted-on (inOrder backwards (pairsOf pairs store)) s
         ∙ ap (λ (swaps : Swaps). onColumns m n (permutedBy exchange (inOrder backwards swaps)) s) (sym (held-all pairs store h))
+
+-- ---- one column as a matrix of its own
+pub one-column : (m : ℕ) (swaps : Swaps) (x : Column) → m ≤ 64 → length x ≡ m → onColumns m 1 (rowsPermuted swaps) x ≡ permute swaps x
+unfolding columns flat eachFrom
+one-column m swaps x h len =
+    let fits : isMatrix m 1 x ≡ true = is-matrix m 1 x h (omega arith) (len ∙ sym (one-mul m)) in
+    on-flat m 1 (rowsPermuted swaps) x fits
+    ∙ ap flat (rows-each swaps (columns m 1 x))
+    ∙ append-nil (permute swaps (take m x))
+    ∙ ap (permute swaps) (take-all m x (omega arith))
+
+-- what the loop over a single column gives
+pub one-applied : (m n pairs : ℕ) (store : List ℕ) (s t : Column) → isMatrix m n s ≡ true → n ≡ 1 → 2 * pairs ≤ length store → t ≡ permute (pairsOf pairs store) s
+    → t ≡ onColumns m n (rowsPermuted (inOrder false (held pairs store))) s
+unfolding inOrder
+one-applied m n pairs store s t fits one room made =
+    made
+    ∙ ap (λ (p : Swaps). permute p s) (sym (held-all pairs store room))
+    ∙ sym (one-column m (held pairs store) s (sized m n s fits .rows-most) (sized m n s fits .size ∙ ap (λ (k : ℕ). k * m) one ∙ one-mul m))
+    ∙ ap (λ (k : ℕ). onColumns m k (rowsPermuted (held pairs store)) s) (sym one)

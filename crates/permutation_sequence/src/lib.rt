@@ -168,6 +168,20 @@ fn apply(
     }
 }
 
+// Exchanges the entries of one column by each pair of the list in turn.
+fn apply_to_column(col: &mut [f64], swaps: &[usize], pairs: usize)
+    requires { ⌜ 2 * pairs ≤ length (now swaps) ⌝ }
+    ensures { λ _. ⌜ now (col .exit) ≡ permute (pairsOf pairs (now (swaps .entry))) (now (col .entry)) ⌝ }
+{
+    let mut k = 0;
+    while k < pairs {
+        let i = swaps[2 * k];
+        let j = swaps[2 * k + 1];
+        blas::swap(col, i, j);
+        k += 1;
+    }
+}
+
 // Exchanges the entries of one column by four pairs in turn.
 fn swap_four(
     col: &mut [f64],
@@ -224,7 +238,8 @@ fn exchange_in_fours(s: &mut [f64], m: usize, n: usize, swaps: &[usize], fours: 
     }
 }
 
-// The list applied to the rows of s with no refusal but the store's: for calls that have tested their list. First pair first it goes by fours, then by ones.
+// The list applied to the rows of s with no refusal but the store's: for calls that have tested their list. First pair first it goes through a single column by ones,
+// and through several by fours, then by ones.
 pub fn apply_to_rows(
     s: &mut [f64],
     m: usize,
@@ -243,6 +258,10 @@ pub fn apply_to_rows(
         return;
     }
     if !store::is_matrix(s, m, n) {
+        return;
+    }
+    if n == 1 {
+        apply_to_column(s, swaps, pairs);
         return;
     }
     let fours = pairs / 4;

@@ -1,4 +1,4 @@
--- In reverse by ones. Else the fours, and then the rest by ones. Assumes nothing.
+-- In reverse by ones. Else a single column by ones (`one-applied`), or the fours, and then the rest by ones. Assumes nothing.
 use mathlib.Core.Path.{sym, _∙_}
 use mathlib.Core.Bool.{false}
 use native.Mathlib.Omega.{arith}
@@ -6,7 +6,7 @@ use borrow.Author.Needs.{needs}
 use borrow.Author.Tests.{not-true, not-false}
 use Rattle.store.specs.Steps.{swapInAll}
 use Rattle.store.proofs.Columns.{on-none}
-use Rattle.permutation_sequence.proofs.OnColumns.{exchange-keeps, applied-none, fours-applied}
+use Rattle.permutation_sequence.proofs.OnColumns.{exchange-keeps, applied-none, one-applied, fours-applied}
 use Rattle.permutation_sequence.proofs.apply_to_rows.Statement.{statement}
 use Rattle.permutation_sequence.proofs.apply_to_rows.Tie as tie
 
@@ -21,14 +21,25 @@ returns-2 c =
 returns-3 : tie.Need-returns-3
 returns-3 c = on-none _ _ _ _ (sym (c .before .is-matrix .ensures) ∙ not-true _ (c .if3 .taken))
 
-exchange-in-fours-requires : tie.Need-exchange-in-fours-requires
-exchange-in-fours-requires c κs = (sym (c .before .before .is-matrix .ensures) ∙ not-false _ (c .before .if3 .left), omega arith)
+apply-to-column-requires : tie.Need-apply-to-column-requires
+apply-to-column-requires c κs = omega arith
 
 returns-4 : tie.Need-returns-4
 returns-4 c =
+    let at-apply-to-column = c .before .before in
+    let at-if4 = at-apply-to-column .before .before in
+    let at-is-matrix = at-if4 .before .before in
+    let a = at-is-matrix .before .before .before .before .before .before .args in
+    rw (at-is-matrix .before .before .before .if1 .left) (one-applied _ _ (a .pairs) (a .swaps .now) _ _ (sym (at-is-matrix .is-matrix .ensures) ∙ not-false _ (at-if4 .before .if3 .left)) (at-if4 .if4 .taken) (omega arith) (at-apply-to-column .apply-to-column .ensures))
+
+exchange-in-fours-requires : tie.Need-exchange-in-fours-requires
+exchange-in-fours-requires c κs = (sym (c .before .before .before .is-matrix .ensures) ∙ not-false _ (c .before .before .if3 .left), omega arith)
+
+returns-5 : tie.Need-returns-5
+returns-5 c =
     let at-fours = c .before .before .before .before .before .before .before in
-    let a = at-fours .before .before .before .before .before .before .before .before .before .args in
-    rw (at-fours .before .before .before .before .before .before .if1 .left) (fours-applied (a .m) (a .n) swapInAll (exchange-keeps false (a .m) (a .n)) (a .pairs) (a .swaps .now) (a .s .now) _ _ (omega arith) (at-fours .exchange-in-fours .ensures) (c .before .before .apply2 .ensures))
+    let a = at-fours .before .before .before .before .before .before .before .before .before .before .args in
+    rw (at-fours .before .before .before .before .before .before .before .if1 .left) (fours-applied (a .m) (a .n) swapInAll (exchange-keeps false (a .m) (a .n)) (a .pairs) (a .swaps .now) (a .s .now) _ _ (omega arith) (at-fours .exchange-in-fours .ensures) (c .before .before .apply2 .ensures))
 
 pub apply-to-rows-spec : {M : Type 1} → statement M
 apply-to-rows-spec =
@@ -41,6 +52,9 @@ apply-to-rows-spec =
     (λ c κs. search needs)
     (λ c. search needs)
     returns-3
+    apply-to-column-requires
+    (λ c. search needs)
+    returns-4
     (λ c. search needs)
     exchange-in-fours-requires
     (λ c. search needs)
@@ -51,4 +65,4 @@ apply-to-rows-spec =
     (λ c. search needs)
     (λ c κs. search needs)
     (λ c. search needs)
-    returns-4)
+    returns-5)
