@@ -18,7 +18,7 @@ use Rattle.blas.specs.declared.FoundPivot.{FoundPivot}
 use Rattle.blas.specs.Dot.{addProduct, addBlock, eightSums, pairSums, dotOf}
 use Rattle.store.specs.Columns.{columns, flat, isMatrix, onColumns}
 use Rattle.store.specs.Steps.{column, swapInAll, rowsSwapped, columnsSwapped, stepColumn, stepColumns, eliminated}
-use Rattle.panels.specs.Panel.{stepBy, fourSteps, fourStepped, fourSteppedRight}
+use Rattle.panels.specs.Panel.{stepBy, fourSteps, fourStepped}
 use Rattle.refusals.specs.declared.Answer.{Answer}
 use Rattle.refusals.specs.declared.Answer.the-variants.{Done, Refused}
 use Rattle.refusals.specs.Refusals.{firstOf, outside, answerOf, numberOf, Outcome, seventh}
@@ -27,7 +27,7 @@ use Rattle.figures.proofs.Outcomes.{TwoShutOut, two}
 
 -- a name for all that has to unfold for these calls to compute
 runs : Type 0
-unfolding add sub mul div neg eq lt ofBits eachFrom turnsFrom isZero magnitude searchFrom pivotRow exchanged scaleFrom axpyFrom allFinite copied addProduct addBlock eightSums pairSums dotOf columns flat isMatrix onColumns swapInAll rowsSwapped stepColumn stepColumns eliminated stepBy fourSteps fourStepped fourSteppedRight firstOf outside answerOf numberOf seventh
+unfolding add sub mul div neg eq lt ofBits eachFrom turnsFrom isZero magnitude searchFrom pivotRow exchanged scaleFrom axpyFrom allFinite copied addProduct addBlock eightSums pairSums dotOf columns flat isMatrix onColumns swapInAll rowsSwapped stepColumn stepColumns eliminated stepBy fourSteps fourStepped firstOf outside answerOf numberOf seventh
 runs = Unit {0}
 
 abbrev -n1 : Float
@@ -55,9 +55,6 @@ some-none x c d = let z : _≡_ {A = ℕ} 0 1 = cc in omega arith
 
 first-differs : n0 ∷ [] ≡ n1 ∷ [] → ⊥
 first-differs d = let z : _≡_ {A = ℕ} 0 1 = cc in omega arith
-
-second-differs : n1 ∷ -n1 ∷ [] ≡ n1 ∷ n0 ∷ [] → ⊥
-second-differs d = let z : _≡_ {A = ℕ} 0 1 = cc in omega arith
 
 -- ---- blas
 
@@ -179,23 +176,6 @@ pub swap-columns : TwoShutOut exchanges (λ x. x .1 .1 .1)
 unfolding runs
 swap-columns = two exchanges (λ x. x .1 .1 .1) ((0, 1), (1, (2, n1 ∷ n2 ∷ []))) ((0, 1), (1, (2, n1 ∷ n2 ∷ []))) ((0, 0), (0, (0, []))) two-one (some-none n2 (n1 ∷ []))
 
--- column (1, 0) and multipliers (0, 1): row 1 becomes -1
-abbrev steps : ℕ × (Column × Column) → Column
-steps x = stepColumn (x .0) (x .1 .0) (x .1 .1)
-
-pub step-column : TwoShutOut steps (λ x. x .1 .1)
-unfolding runs
-step-column = two steps (λ x. x .1 .1) (0, (n0 ∷ n1 ∷ [], n1 ∷ n0 ∷ [])) (0, (n0 ∷ n1 ∷ [], n1 ∷ n0 ∷ [])) (0, ([], [])) second-differs (some-none n1 (-n1 ∷ []))
-
-abbrev stepsAll : (ℕ × (Column × ℕ)) × Sized → Column
-stepsAll x = onColumns (x .1 .0) (x .1 .1 .0) (stepColumns (x .0 .0) (x .0 .1 .0) (x .0 .1 .1)) (x .1 .1 .1)
-
-pub step-columns : TwoShutOut stepsAll (λ x. x .1 .1 .1)
-unfolding runs
-step-columns =
-    two stepsAll (λ x. x .1 .1 .1) ((0, (n0 ∷ n1 ∷ [], 0)), (2, (1, n1 ∷ n0 ∷ []))) ((0, (n0 ∷ n1 ∷ [], 0)), (2, (1, n1 ∷ n0 ∷ []))) ((0, ([], 0)), (0, (0, []))) second-differs
-    (some-none n1 (-n1 ∷ []))
-
 -- columns (1, 1) and (1, 0): the multiplier is 1, and the last entry becomes -1
 abbrev stepsWithin : ℕ × (ℕ × Sized) → Column
 stepsWithin x = onColumns (x .1 .1 .0) (x .1 .1 .1 .0) (λ cs. set cs (x .1 .0) (stepColumn (x .0) (column cs (x .0)) (column cs (x .1 .0)))) (x .1 .1 .1 .1)
@@ -231,13 +211,6 @@ fours x = onColumns (x .1 .0) (x .1 .1 .0) (fourStepped (x .1 .0) (x .0 .0) (x .
 pub four-steps : TwoShutOut fours (λ x. x .1 .1 .1)
 unfolding runs
 four-steps = two fours (λ x. x .1 .1 .1) ((0, 4), (4, (5, fiveBefore))) ((0, 0), (1, (1, n1 ∷ []))) ((0, 0), (0, (0, []))) five-differ (some-none n1 [])
-
-abbrev foursRight : ℕ × Sized → Column
-foursRight x = onColumns (x .1 .0) (x .1 .1 .0) (fourSteppedRight (x .1 .0) (x .0)) (x .1 .1 .1)
-
-pub four-steps-right : TwoShutOut foursRight (λ x. x .1 .1 .1)
-unfolding runs
-four-steps-right = two foursRight (λ x. x .1 .1 .1) (0, (4, (5, fiveBefore))) (0, (1, (1, n1 ∷ []))) (0, (0, (0, []))) five-differ (some-none n1 [])
 
 -- ---- refusals
 

@@ -112,7 +112,7 @@ module _ (m n i : ℕ) (s : Column) (store : List ℕ) (counts r : Counts) (fits
     -- the rest with the panel's swaps, and the whole with it
     module _ (c1 u : Column) (lc : length c1 ≡ length (midOf z (length t - z) t))
         (e1 : c1 ≡ onColumns m (n - e) (rowsPermuted (inOrder false (held (r .pairs - counts .pairs) (midOf (2 * counts .pairs) (length store1 - 2 * counts .pairs) store1)))) (midOf z (length t - z) t))
-        (lu : length u ≡ length (putMid z (length t - z) t c1)) (eu : columns m n u ≡ afterPanel i (columns m n (putMid z (length t - z) t c1))) where
+        (lu : length u ≡ length (putMid z (length t - z) t c1)) (eu : columns m n u ≡ afterPanel i (e - i) e (columns m n (putMid z (length t - z) t c1))) where
       abbrev v : Column
       v = putMid z (length t - z) t c1
 
@@ -185,7 +185,8 @@ module _ (m n i : ℕ) (s : Column) (store : List ℕ) (counts r : Counts) (fits
         u-columns =
             let ds = g .columns ++ swapped in
             eu
-            ∙ ap (afterPanel i) v-columns
+            ∙ ap (λ (k : ℕ). afterPanel i k e (columns m n v)) four
+            ∙ ap (afterPanel i 4 e) v-columns
             ∙ ap (λ (k : ℕ). eachFrom (λ j c. turnsFrom (update ds) i 4 c) k ds) (sym wide)
             ∙ each-same _ (λ j c. turnsFrom (update (g .columns)) i 4 c) (length (g .columns)) ds
             (λ j c l x. updates-same ds (g .columns) i 4 c (λ q y. List·getD-append (g .columns) swapped [] q (rw wide y)))

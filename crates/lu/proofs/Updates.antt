@@ -12,13 +12,13 @@ use lib.Ieee.{Float, nan}
 use Rattle.blas.specs.Each.{eachFrom, turnsFrom}
 use Rattle.blas.specs.Numbers.{isZero}
 use Rattle.blas.specs.Column.{Column, entry}
-use Rattle.blas.proofs.Each.{each-step, each-same}
+use Rattle.blas.proofs.Each.{each-step, each-stop, each-same}
 use Rattle.store.specs.Columns.{columns, isMatrix, onColumns}
 use Rattle.store.specs.Steps.{Matrix, column, stepColumn}
 use Rattle.store.proofs.Columns.{length-columns, entry-at}
 use Rattle.store.proofs.Within.{within-columns}
-use Rattle.panels.specs.Panel.{stepBy, fourSteps, fourStepped, fourSteppedRight}
-use Rattle.panels.proofs.Within.{four-columns, right-columns}
+use Rattle.panels.specs.Panel.{stepBy, fourSteps, fourStepped}
+use Rattle.panels.proofs.Within.{stepped-columns}
 use Rattle.refusals.proofs.Tests.{neither}
 use Rattle.lu.specs.Adding.{update}
 use Rattle.lu.specs.Own.{updatedAt, live, afterPanel}
@@ -116,32 +116,32 @@ module _ (i : ℕ) (cs : Matrix) (ok : live i cs ≡ true) where
       ∙ made (i + 3) _ (alive .3)
       ∙ ap (stepBy cs (i + 3)) (made (i + 2) _ (alive .2) ∙ ap (stepBy cs (i + 2)) (made (i + 1) _ (alive .1) ∙ ap (stepBy cs (i + 1)) (made i c (alive .0))))
 
-module _ (m n i j : ℕ) (s : Column) (fits : isMatrix m n s ≡ true) (four : i + 4 ≤ m) (right : i + 4 ≤ j) (hj : j < n) where
-  -- by the call of four steps
-  pub four-done : (t : Column) → live i (columns m n s) ≡ true → t ≡ onColumns m n (fourStepped m i j) s → columns m n t ≡ turnsFrom (updatedAt j) i 4 (columns m n s)
-  four-done t ok made =
-      let cs = columns m n s in
-      four-columns i j m n s t fits four right hj made
-      ∙ ap (set cs j) (sym (live-four i cs ok (column cs j)))
-      ∙ sym (updates-at cs j i 4 right (rw length-columns hj))
-
--- by the call of four steps on every column right of theirs
-pub right-done : (m n i : ℕ) (s : Column) → isMatrix m n s ≡ true → i + 4 ≤ m → i + 4 ≤ n → (t : Column) → live i (columns m n s) ≡ true
-    → t ≡ onColumns m n (fourSteppedRight m i) s → columns m n t ≡ afterPanel i (columns m n s)
+-- by the call of four steps
+pub four-done : (m n i from : ℕ) (s : Column) → isMatrix m n s ≡ true → i + 4 ≤ m → i + 4 ≤ from → (t : Column) → live i (columns m n s) ≡ true
+    → t ≡ onColumns m n (fourStepped m i from) s → columns m n t ≡ afterPanel i 4 from (columns m n s)
 unfolding afterPanel
-right-done m n i s fits hm hn t ok made =
-    right-columns i m n s t fits hm hn made ∙ each-same _ _ (i + 4) (columns m n s) (λ j c h l. sym (live-four i (columns m n s) ok c))
+four-done m n i from s fits hm hf t ok made =
+    stepped-columns i from m n s t fits hm hf made ∙ each-same _ _ from (columns m n s) (λ j c h l. sym (live-four i (columns m n s) ok c))
+
+-- on the last column alone
+pub panel-last : (i k n : ℕ) (cs : Matrix) → length cs ≡ n + 1 → i + k ≤ n → afterPanel i k n cs ≡ turnsFrom (updatedAt n) i k cs
+unfolding afterPanel
+panel-last i k n cs len right =
+    let f : ℕ → Column → Column = λ j c. turnsFrom (update cs) i k c in
+    sym (each-step f n cs [] (omega (arith, len)))
+    ∙ each-stop f (n + 1) (set cs n (f n (column cs n))) (omega (arith, len, length-set cs n (f n (column cs n))))
+    ∙ sym (updates-at cs n i k right (omega (arith, len)))
 
 -- ---- every column right of a panel: one turn of the loop, its end, and the columns of the panel
-module _ (m n i j : ℕ) (s t : Column) (cs : Matrix) (right : i + 4 ≤ j) (hj : j < n) (same : (q : ℕ) → q < i + 4 → column (columns m n s) q ≡ column cs q)
-    (stepped : columns m n t ≡ turnsFrom (updatedAt j) i 4 (columns m n s)) where
-  now-is : columns m n t ≡ set (columns m n s) j (turnsFrom (update cs) i 4 (column (columns m n s) j))
+module _ (m n i k j : ℕ) (s t : Column) (cs : Matrix) (right : i + k ≤ j) (hj : j < n) (same : (q : ℕ) → q < i + k → column (columns m n s) q ≡ column cs q)
+    (stepped : columns m n t ≡ turnsFrom (updatedAt j) i k (columns m n s)) where
+  now-is : columns m n t ≡ set (columns m n s) j (turnsFrom (update cs) i k (column (columns m n s) j))
   now-is =
       let ds = columns m n s in
-      stepped ∙ updates-at ds j i 4 right (rw length-columns hj) ∙ ap (set ds j) (updates-same ds cs i 4 (column ds j) same)
+      stepped ∙ updates-at ds j i k right (rw length-columns hj) ∙ ap (set ds j) (updates-same ds cs i k (column ds j) same)
 
-  pub panel-stays : (q : ℕ) → q < i + 4 → column (columns m n t) q ≡ column cs q
+  pub panel-stays : (q : ℕ) → q < i + k → column (columns m n t) q ≡ column cs q
   panel-stays q h = ap (λ (ds : Matrix). column ds q) now-is ∙ getD-set-other (columns m n s) j q _ [] (λ e. omega arith) ∙ same q h
 
-  pub panel-turn : eachFrom (λ k c. turnsFrom (update cs) i 4 c) (j + 1) (columns m n t) ≡ eachFrom (λ k c. turnsFrom (update cs) i 4 c) j (columns m n s)
-  panel-turn = ap (eachFrom (λ k c. turnsFrom (update cs) i 4 c) (j + 1)) now-is ∙ each-step (λ k c. turnsFrom (update cs) i 4 c) j (columns m n s) [] (rw length-columns hj)
+  pub panel-turn : eachFrom (λ q c. turnsFrom (update cs) i k c) (j + 1) (columns m n t) ≡ eachFrom (λ q c. turnsFrom (update cs) i k c) j (columns m n s)
+  panel-turn = ap (eachFrom (λ q c. turnsFrom (update cs) i k c) (j + 1)) now-is ∙ each-step (λ q c. turnsFrom (update cs) i k c) j (columns m n s) [] (rw length-columns hj)

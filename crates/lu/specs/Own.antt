@@ -20,9 +20,9 @@ live i cs =
     let dead : ℕ → Bool = λ k. isZero (entry (column cs k) k) in
     not ((dead i || dead (i + 1)) || (dead (i + 2) || dead (i + 3)))
 
--- the updates by the columns i to i + 3 on every column right of them
-unfoldable pub afterPanel : ℕ → Matrix → Matrix
-afterPanel i cs = eachFrom (λ j c. turnsFrom (update cs) i 4 c) (i + 4) cs
+-- the updates by the k columns from column i on, on every column from column `from` on
+unfoldable pub afterPanel : ℕ → ℕ → ℕ → Matrix → Matrix
+afterPanel i k from cs = eachFrom (λ j c. turnsFrom (update cs) i k c) from cs
 
 -- the row that row n is exchanged with: the pivot row, or row n itself where the step is skipped or there is no row n
 unfoldable pub ownRow : ℕ → Column → ℕ

@@ -194,40 +194,30 @@ fn are_live(s: &[f64], m: usize, n: usize, i: usize) -> bool
     !(dead | later_dead)
 }
 
-// Step 5 on column j by the columns i to i + 3, at once where all four steps were made.
-fn update_four(s: &mut [f64], m: usize, n: usize, i: usize, j: usize)
-    requires { ⌜ (isMatrix m n (now s) ≡ true) × (i + 4 ≤ m) × (i + 4 ≤ j) × (j < n) ⌝ }
-    ensures { λ _. ⌜ columns m n (now (s .exit)) ≡ turnsFrom (updatedAt j) i 4 (columns m n (now (s .entry))) ⌝ }
+// Step 5 on each column from `from` on by the columns from i up to but not `to`, which lie left of them, one by one.
+fn update_columns_each(s: &mut [f64], m: usize, n: usize, i: usize, to: usize, from: usize)
+    requires { ⌜ (isMatrix m n (now s) ≡ true) × (i ≤ to) × (to ≤ m) × (to ≤ from) × (from ≤ n) ⌝ }
+    ensures { λ _. ⌜ columns m n (now (s .exit)) ≡ afterPanel i (to - i) from (columns m n (now (s .entry))) ⌝ }
 {
-    if are_live(s, m, n, i) {
-        panels::four_steps(s, m, n, i, j);
-    } else {
-        update_each(s, m, n, i, i + 4, j);
-    }
-}
-
-// Step 5 on each column right of column i + 3 by those columns, one by one.
-fn update_columns_each(s: &mut [f64], m: usize, n: usize, i: usize)
-    requires { ⌜ (isMatrix m n (now s) ≡ true) × (i + 4 ≤ m) × (i + 4 ≤ n) ⌝ }
-    ensures { λ _. ⌜ columns m n (now (s .exit)) ≡ afterPanel i (columns m n (now (s .entry))) ⌝ }
-{
-    let mut j = i + 4;
+    let mut j = from;
     while j < n {
-        update_each(s, m, n, i, i + 4, j);
+        update_each(s, m, n, i, to, j);
         j += 1;
     }
 }
 
-// The same, at once where all four steps were made.
-fn update_columns(s: &mut [f64], m: usize, n: usize, i: usize)
-    requires { ⌜ (isMatrix m n (now s) ≡ true) × (i + 4 ≤ m) × (i + 4 ≤ n) ⌝ }
-    ensures { λ _. ⌜ columns m n (now (s .exit)) ≡ afterPanel i (columns m n (now (s .entry))) ⌝ }
+// The same, at once where it is four steps and all were made.
+fn update_columns(s: &mut [f64], m: usize, n: usize, i: usize, to: usize, from: usize)
+    requires { ⌜ (isMatrix m n (now s) ≡ true) × (i ≤ to) × (to ≤ m) × (to ≤ from) × (from ≤ n) ⌝ }
+    ensures { λ _. ⌜ columns m n (now (s .exit)) ≡ afterPanel i (to - i) from (columns m n (now (s .entry))) ⌝ }
 {
-    if are_live(s, m, n, i) {
-        panels::four_steps_right(s, m, n, i);
-    } else {
-        update_columns_each(s, m, n, i);
+    if to - i == 4 {
+        if are_live(s, m, n, i) {
+            panels::four_steps(s, m, n, i, from);
+            return;
+        }
     }
+    update_columns_each(s, m, n, i, to, from);
 }
 
 // The steps i to i + 3 as a panel: on their own columns first, then their swaps and updates on the columns to the right.
@@ -251,7 +241,7 @@ fn factor_panel(
     let first = 2 * pairs;
     let more = now.pairs - pairs;
     permutation_sequence::apply_to_rows(&mut s[z..], m, right, &swaps[first..], more, false);
-    update_columns(s, m, n, i);
+    update_columns(s, m, n, i, e, e);
     now
 }
 
@@ -334,27 +324,18 @@ fn adding_refusal(s: &[f64], c: &[f64], swaps: &[usize], told: Record) -> usize
     )
 }
 
-// Step 5 on the new column, number n, by the columns below 4 * fours, four at a time.
-fn update_in_fours(s: &mut [f64], m: usize, n: usize, fours: usize)
-    requires { ⌜ (isMatrix m (n + 1) (now s) ≡ true) × (4 * fours ≤ m) × (4 * fours ≤ n) ⌝ }
-    ensures { λ _. ⌜ columns m (n + 1) (now (s .exit)) ≡ turnsFrom (updatedAt n) 0 (4 * fours) (columns m (n + 1) (now (s .entry))) ⌝ }
-{
-    let mut k = 0;
-    while k < fours {
-        update_four(s, m, n + 1, 4 * k, n);
-        k += 1;
-    }
-}
-
-// That by each column i below min(m, n).
+// Step 5 on the new column, number n, by each column i below min(m, n), four at a time.
 fn update_all(s: &mut [f64], m: usize, n: usize)
     requires { ⌜ isMatrix m (n + 1) (now s) ≡ true ⌝ }
     ensures { λ _. ⌜ columns m (n + 1) (now (s .exit)) ≡ turnsFrom (updatedAt n) 0 (min m n) (columns m (n + 1) (now (s .entry))) ⌝ }
 {
-    let steps = store::min(m, n);
-    let fours = steps / 4;
-    update_in_fours(s, m, n, fours);
-    update_each(s, m, n + 1, 4 * fours, steps, n);
+    let all = store::min(m, n);
+    let mut i = 0;
+    while i < all {
+        let to = store::min(i + 4, all);
+        update_columns(s, m, n + 1, i, to, n);
+        i = to;
+    }
 }
 
 // The raw column c in the slot behind the n columns: permuted by the list, then updated by the older columns.

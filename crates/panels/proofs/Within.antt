@@ -1,25 +1,24 @@
 -- Four steps on a column of the store that holds their columns too: the rows of the head written one after another, one turn of the loop below them,
 -- its end, and what the columns are afterwards, which is what factoring and adding cite. Assumes nothing.
 use mathlib.Core.Path.{_≡_, refl, sym, ap, _∙_}
-use mathlib.Core.Bool.{true, _&&_}
+use mathlib.Core.Bool.{true}
 use mathlib.Core.List.{List, []}
 use Prim.Native.Nat.{ℕ, _+_, _*_, _≤_, _<_, min}
 use native.Mathlib.Omega.{arith}
-use borrow.Author.Tests.{le-leb, lt-ltb, leb-true, ltb-true}
-use lib.Dec.{leb, ltb}
+use borrow.Author.Tests.{le-leb, leb-true}
+use lib.Dec.{leb}
 use lib.ListN.{length, getD, set, length-set}
 use lib.Seq.{getD-set-same, getD-set-other, set-getD, set-set}
 use lib.Ieee.{Float, nan, neg, add, mul, binary64}
 use Rattle.blas.specs.Each.{eachFrom}
 use Rattle.blas.specs.Numbers.{plusProduct}
 use Rattle.blas.specs.Column.{Column, entry}
-use Rattle.blas.proofs.Choice.{cond-cases, and-first, and-second}
+use Rattle.blas.proofs.Choice.{cond-cases}
 use Rattle.blas.proofs.Each.{length-each, each-step, each-stop, each-same}
-use Rattle.store.specs.Columns.{columns, HasRows, isMatrix, onColumns}
+use Rattle.store.specs.Columns.{columns, isMatrix, onColumns}
 use Rattle.store.specs.Steps.{Matrix, column}
 use Rattle.store.proofs.Columns.{sized, length-columns, columns-rows, entry-at, written-at, on-columns, each-rows}
-use Rattle.store.proofs.Within.{set-cases}
-use Rattle.panels.specs.Panel.{stepBy, fourSteps, fourStepped, fourSteppedRight, multiplier, headOf, addFour, tailOf}
+use Rattle.panels.specs.Panel.{stepBy, fourSteps, fourStepped, multiplier, headOf, addFour, tailOf}
 use Rattle.panels.proofs.Four.{length-stepBy, four-rows}
 
 -- ---- the store's rows and columns
@@ -115,37 +114,11 @@ module _ (i j m n : ℕ) (s : List Float) (len : length s ≡ n * m) (four : i +
           each-same _ _ (i + 4) h
           (λ r v l t. rw (getD-set-other cs j i h [] (λ e. omega arith), getD-set-other cs j (i + 1) h [] (λ e. omega arith), getD-set-other cs j (i + 2) h [] (λ e. omega arith), getD-set-other cs j (i + 3) h [] (λ e. omega arith)) refl)
 
-  -- ---- what the call gives
-  pub stepped-is : fourStepped m i j cs ≡ set cs j (fourSteps i cs (column cs j))
-  unfolding fourStepped
-  stepped-is = rw (le-leb (i + 4) (min m j) (omega arith), lt-ltb j (length cs) (rw length-columns hj))
-
--- nothing is done
-pub not-stepped : (i j m n : ℕ) (s : List Float) → (i + 4 ≤ min m j → j < n → ⊥) → columns m n s ≡ fourStepped m i j (columns m n s)
-unfolding fourStepped
-not-stepped i j m n s out =
-    cond-cases (λ (x : Matrix). columns m n s ≡ x) (leb (i + 4) (min m j) && ltb j (length (columns m n s)))
-    (λ t. absurd (out (leb-true (i + 4) (min m j) (and-first (leb (i + 4) (min m j)) (ltb j (length (columns m n s))) t)) (rw length-columns at (ltb-true j (length (columns m n s)) (and-second (leb (i + 4) (min m j)) (ltb j (length (columns m n s))) t)))))
-    (λ t. refl)
-
 length-four : (i : ℕ) (cs : Matrix) (c : Column) → length (fourSteps i cs c) ≡ length c
 unfolding fourSteps
 length-four i cs c = length-stepBy cs (i + 3) _ ∙ length-stepBy cs (i + 2) _ ∙ length-stepBy cs (i + 1) _ ∙ length-stepBy cs i c
 
--- THE LAW of the call, for those above: column j has the four steps, and the others are as they were
-pub four-columns : (i j m n : ℕ) (s t : List Float) → isMatrix m n s ≡ true → i + 4 ≤ m → i + 4 ≤ j → j < n → t ≡ onColumns m n (fourStepped m i j) s
-    → columns m n t ≡ set (columns m n s) j (fourSteps i (columns m n s) (column (columns m n s) j))
-four-columns i j m n s t fits four right hj made =
-    let cs = columns m n s in
-    let size = sized m n s fits .size in
-    let c = fourSteps i cs (column cs j) in
-    let full : (k : ℕ) → k < n → length (column cs k) ≡ m = λ k h. columns-rows m n s size k (rw length-columns h) in
-    let long : length c ≡ m = length-four i cs (column cs j) ∙ full j hj in
-    let is : fourStepped m i j cs ≡ set cs j c = stepped-is i j m n s size four right hj in
-    let rows : HasRows m (set cs j c) = λ k h. set-cases (λ (x : Column). length x ≡ m) cs j k c [] (rw length-columns hj) (λ e. long) (λ d. full k (omega (arith, h, length-set cs j c, length-columns m n s))) in
-    ap (columns m n) made ∙ on-columns m n (fourStepped m i j) s fits (ap length is ∙ length-set cs j c ∙ length-columns m n s) (rw is rows) ∙ is
-
--- ---- every column right of the four
+-- ---- every column from one right of the four on
 -- they go by the columns that they read
 four-same : (i : ℕ) (a b : Matrix) (c : Column) → ((k : ℕ) → k < i + 4 → column a k ≡ column b k) → fourSteps i a c ≡ fourSteps i b c
 unfolding fourSteps stepBy
@@ -154,32 +127,30 @@ four-same i a b c e = rw (e i (omega arith), e (i + 1) (omega arith), e (i + 2) 
 -- one turn: column j was stepped, the columns left of it being those of ds as far as they are read
 module _ (i j m n : ℕ) (s t : List Float) (ds : Matrix) (right : i + 4 ≤ j) (hj : j < n) (same : (k : ℕ) → k < i + 4 → column (columns m n s) k ≡ column ds k)
     (made : columns m n t ≡ set (columns m n s) j (fourSteps i (columns m n s) (column (columns m n s) j))) where
-  pub right-turn : eachFrom (λ k c. fourSteps i ds c) (j + 1) (columns m n t) ≡ eachFrom (λ k c. fourSteps i ds c) j (columns m n s)
-  right-turn =
+  pub step-turn : eachFrom (λ k c. fourSteps i ds c) (j + 1) (columns m n t) ≡ eachFrom (λ k c. fourSteps i ds c) j (columns m n s)
+  step-turn =
       ap (eachFrom (λ k c. fourSteps i ds c) (j + 1)) (made ∙ ap (set (columns m n s) j) (four-same i (columns m n s) ds (column (columns m n s) j) same))
       ∙ each-step (λ k c. fourSteps i ds c) j (columns m n s) [] (rw length-columns hj)
 
-  pub right-left : (k : ℕ) → k < i + 4 → column (columns m n t) k ≡ column ds k
-  right-left k h = ap (λ (es : Matrix). column es k) made ∙ getD-set-other (columns m n s) j k _ [] (λ e. omega arith) ∙ same k h
+  pub step-left : (k : ℕ) → k < i + 4 → column (columns m n t) k ≡ column ds k
+  step-left k h = ap (λ (es : Matrix). column es k) made ∙ getD-set-other (columns m n s) j k _ [] (λ e. omega arith) ∙ same k h
 
-module _ (i m n : ℕ) (s : List Float) where
-  pub right-is : i + 4 ≤ m → i + 4 ≤ n → fourSteppedRight m i (columns m n s) ≡ eachFrom (λ j c. fourSteps i (columns m n s) c) (i + 4) (columns m n s)
-  unfolding fourSteppedRight
-  right-is hm hn = rw (le-leb (i + 4) (min m (length (columns m n s))) (omega (arith, length-columns m n s)))
+module _ (i from m n : ℕ) (s : List Float) where
+  pub stepped-is : i + 4 ≤ m → i + 4 ≤ from → fourStepped m i from (columns m n s) ≡ eachFrom (λ j c. fourSteps i (columns m n s) c) from (columns m n s)
+  unfolding fourStepped
+  stepped-is hm hf = rw (le-leb (i + 4) (min m from) (omega arith))
 
-  pub not-right : (i + 4 ≤ min m n → ⊥) → columns m n s ≡ fourSteppedRight m i (columns m n s)
-  unfolding fourSteppedRight
-  not-right out =
-      cond-cases (λ (x : Matrix). columns m n s ≡ x) (leb (i + 4) (min m (length (columns m n s))))
-      (λ t. absurd (out (rw length-columns at (leb-true (i + 4) (min m (length (columns m n s))) t)))) (λ t. refl)
+  pub not-stepped : (i + 4 ≤ min m from → ⊥) → columns m n s ≡ fourStepped m i from (columns m n s)
+  unfolding fourStepped
+  not-stepped out = cond-cases (λ (x : Matrix). columns m n s ≡ x) (leb (i + 4) (min m from)) (λ t. absurd (out (leb-true (i + 4) (min m from) t))) (λ t. refl)
 
-  -- THE LAW of that call, for those above
-  pub right-columns : (t : List Float) → isMatrix m n s ≡ true → i + 4 ≤ m → i + 4 ≤ n → t ≡ onColumns m n (fourSteppedRight m i) s
-      → columns m n t ≡ eachFrom (λ j c. fourSteps i (columns m n s) c) (i + 4) (columns m n s)
-  right-columns t fits hm hn made =
+  -- THE LAW of the call, for those above
+  pub stepped-columns : (t : List Float) → isMatrix m n s ≡ true → i + 4 ≤ m → i + 4 ≤ from → t ≡ onColumns m n (fourStepped m i from) s
+      → columns m n t ≡ eachFrom (λ j c. fourSteps i (columns m n s) c) from (columns m n s)
+  stepped-columns t fits hm hf made =
       let cs = columns m n s in
-      let is = right-is hm hn in
+      let is = stepped-is hm hf in
       ap (columns m n) made
-      ∙ on-columns m n (fourSteppedRight m i) s fits (ap length is ∙ length-each _ (i + 4) cs ∙ length-columns m n s)
-      (rw is (each-rows m (λ j c. fourSteps i cs c) (i + 4) cs (λ j c l. length-four i cs c ∙ l) (columns-rows m n s (sized m n s fits .size))))
+      ∙ on-columns m n (fourStepped m i from) s fits (ap length is ∙ length-each _ from cs ∙ length-columns m n s)
+      (rw is (each-rows m (λ j c. fourSteps i cs c) from cs (λ j c l. length-four i cs c ∙ l) (columns-rows m n s (sized m n s fits .size))))
       ∙ is

@@ -1,8 +1,8 @@
--- Four steps of the elimination on one column right of theirs: document 01, "Elimination", step 5, four times. And the same row by row, as the code goes.
-use mathlib.Core.Bool.{cond, _&&_}
+-- Four steps of the elimination on columns right of theirs: document 01, "Elimination", step 5, four times. And the same row by row, as the code goes.
+use mathlib.Core.Bool.{cond}
 use Prim.Native.Nat.{ℕ, _+_, min}
-use lib.Dec.{leb, ltb}
-use lib.ListN.{length, set}
+use lib.Dec.{leb}
+use lib.ListN.{set}
 use lib.Ieee.{Float, neg}
 use Rattle.blas.specs.Each.{eachFrom}
 use Rattle.blas.specs.Numbers.{plusProduct}
@@ -17,13 +17,9 @@ stepBy cs k c = stepColumn k (column cs k) c
 unfoldable pub fourSteps : ℕ → Matrix → Column → Column
 fourSteps i cs c = stepBy cs (i + 3) (stepBy cs (i + 2) (stepBy cs (i + 1) (stepBy cs i c)))
 
--- that for column j of a matrix with m rows, where it lies right of those columns and row i + 3 is there
+-- that for each column from column `from` on of a matrix with m rows, where these lie right of those four and row i + 3 is there
 unfoldable pub fourStepped : ℕ → ℕ → ℕ → Matrix → Matrix
-fourStepped m i j cs = cond (leb (i + 4) (min m j) && ltb j (length cs)) (set cs j (fourSteps i cs (column cs j))) cs
-
--- and for every column right of them
-unfoldable pub fourSteppedRight : ℕ → ℕ → Matrix → Matrix
-fourSteppedRight m i cs = cond (leb (i + 4) (min m (length cs))) (eachFrom (λ j c. fourSteps i cs c) (i + 4) cs) cs
+fourStepped m i from cs = cond (leb (i + 4) (min m from)) (eachFrom (λ j c. fourSteps i cs c) from cs) cs
 
 -- ---- row by row
 

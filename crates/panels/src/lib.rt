@@ -1,4 +1,4 @@
-// Four elimination steps at once on one column: what a panel of four columns does to a column right of it, number by number as the steps in turn do.
+// Four elimination steps at once: what a panel of four columns does to the columns right of it, number by number as the steps in turn do.
 // A slice that does not hold n columns of m entries, both at most 64, stays as it was.
 ghost use mathlib.Core.Path.{_≡_};
 ghost use mathlib.Core.Bool.{true};
@@ -6,7 +6,7 @@ ghost use Prim.Native.Nat.{_+_, _≤_, _<_};
 ghost use lib.ListN.{set};
 ghost use Rattle.store.specs.Columns.{columns, isMatrix, onColumns};
 ghost use Rattle.store.specs.Steps.{column};
-ghost use Rattle.panels.specs.Panel.{headOf, tailOf, fourSteps, fourStepped, fourSteppedRight};
+ghost use Rattle.panels.specs.Panel.{headOf, tailOf, fourSteps, fourStepped};
 
 // The rows i + 1 to i + 3 of column j after the four steps.
 fn head(s: &mut [f64], m: usize, n: usize, i: usize, j: usize)
@@ -67,41 +67,22 @@ fn steps_on(s: &mut [f64], m: usize, n: usize, i: usize, j: usize)
     tail(s, m, n, i, j);
 }
 
-// That, where column j lies right of those columns and there is a row i + 3.
-pub fn four_steps(s: &mut [f64], m: usize, n: usize, i: usize, j: usize)
-    ensures { λ _. ⌜ now (s .exit) ≡ onColumns m n (fourStepped m i j) (now (s .entry)) ⌝ }
+// That on each column from `from` on, where these lie right of those columns and there is a row i + 3. One function for factoring, which has many such columns, and
+// for adding, which has one: the compiler then keeps it apart, and its loops' bounds stay off the callers' stack.
+pub fn four_steps(s: &mut [f64], m: usize, n: usize, i: usize, from: usize)
+    ensures { λ _. ⌜ now (s .exit) ≡ onColumns m n (fourStepped m i from) (now (s .entry)) ⌝ }
 {
     if !store::is_matrix(s, m, n) {
         return;
     }
-    if n <= j {
-        return;
-    }
-    let most = store::min(m, j);
+    let most = store::min(m, from);
     if most < 4 {
         return;
     }
     if most - 4 < i {
         return;
     }
-    steps_on(s, m, n, i, j);
-}
-
-// The steps i to i + 3 on every column right of theirs, where these columns and a row i + 3 are there.
-pub fn four_steps_right(s: &mut [f64], m: usize, n: usize, i: usize)
-    ensures { λ _. ⌜ now (s .exit) ≡ onColumns m n (fourSteppedRight m i) (now (s .entry)) ⌝ }
-{
-    if !store::is_matrix(s, m, n) {
-        return;
-    }
-    let most = store::min(m, n);
-    if most < 4 {
-        return;
-    }
-    if most - 4 < i {
-        return;
-    }
-    let mut j = i + 4;
+    let mut j = from;
     while j < n {
         steps_on(s, m, n, i, j);
         j += 1;

@@ -5,7 +5,7 @@ ghost use mathlib.Core.Bool.{true};
 ghost use Prim.Native.Nat.{_*_, _<_, min};
 ghost use lib.ListN.{length, set};
 ghost use Rattle.store.specs.Columns.{columns, isMatrix, onColumns};
-ghost use Rattle.store.specs.Steps.{column, rowsSwapped, columnsSwapped, stepColumn, stepColumns, eliminated};
+ghost use Rattle.store.specs.Steps.{column, rowsSwapped, columnsSwapped, stepColumn, eliminated};
 
 // The smaller of two numbers.
 pub fn min(a: usize, b: usize) -> usize
@@ -87,33 +87,6 @@ pub fn swap_columns(s: &mut [f64], m: usize, n: usize, i: usize, j: usize)
     let mut x = [0.0f64; 64];
     let mut y = [0.0f64; 64];
     swap_columns_by(s, m, n, i, j, &mut x[0..m], &mut y[0..m]);
-}
-
-// Step i on one column, given the multipliers: each entry below row i takes minus the entry of row i times its multiplier.
-pub fn step_column(col: &mut [f64], l: &[f64], i: usize)
-    ensures { λ _. ⌜ now (col .exit) ≡ stepColumn i (now (l .entry)) (now (col .entry)) ⌝ }
-{
-    if col.len() <= i {
-        return;
-    }
-    let u = col[i];
-    blas::axpy(col, -u, l, i + 1);
-}
-
-// Step i on each column from column `from` on, l being the column of the multipliers.
-pub fn step_columns(s: &mut [f64], m: usize, n: usize, l: &[f64], i: usize, from: usize)
-    ensures { λ _. ⌜ now (s .exit) ≡ onColumns m n (stepColumns i (now (l .entry)) from) (now (s .entry)) ⌝ }
-{
-    if !is_matrix(s, m, n) {
-        return;
-    }
-    let mut j = from;
-    while j < n {
-        let a = j * m;
-        let e = a + m;
-        step_column(&mut s[a..e], l, i);
-        j += 1;
-    }
 }
 
 // Step i on column j, by column i of the same store: each entry below row i takes minus the entry of row i, the one number copied, times its multiplier.

@@ -61,7 +61,7 @@ update-columns-requires c κs =
     let g = at-start .args in
     let z = (g .i + 4) * g .m in
     let t = at-factor-steps .factor-steps .last .0 ++ drop z (g .s .now) in
-    (same-matrix _ _ (g .s .now) _ (same-len-mid z (length t - z) t (at-apply-to-rows .apply-to-rows .last .0) (at-apply-to-rows .apply-to-rows .kept .0) ∙ t-long at-factor-steps) ∙ pre .1 .0, pre .0 .0, pre .0 .1)
+    (same-matrix _ _ (g .s .now) _ (same-len-mid z (length t - z) t (at-apply-to-rows .apply-to-rows .last .0) (at-apply-to-rows .apply-to-rows .kept .0) ∙ t-long at-factor-steps) ∙ pre .1 .0, omega arith, pre .0 .0, omega arith, pre .0 .1)
 
 returns : tie.Need-returns
 returns c =

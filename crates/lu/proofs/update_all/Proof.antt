@@ -1,53 +1,91 @@
--- The updates in fours, then those that are left. Assumes nothing.
-use Prim.Native.Nat.{ℕ, _+_, _-_, _*_, _/_, _≤_, min}
-use mathlib.Core.Path.{_≡_, ap, _∙_}
+-- The updates that are left from column i on give the whole; a turn makes the next four of them, or those that are left. Assumes nothing.
+use Prim.Native.Nat.{_+_, _-_, _≤_, _<_, min}
+use mathlib.Core.Path.{_≡_, refl, sym, ap, _∙_}
 use native.Mathlib.Omega.{arith}
 use borrow.Author.Needs.{needs}
+use lib.ListN.{length}
 use Rattle.blas.specs.Each.{turnsFrom}
+use Rattle.blas.proofs.Each.{turns-done}
 use Rattle.store.specs.Columns.{columns}
-use Rattle.store.proofs.Columns.{sized, same-matrix}
+use Rattle.store.proofs.Columns.{sized, same-matrix, length-columns}
 use Rattle.lu.specs.Own.{updatedAt}
 use Rattle.lu.proofs.Step.{turns-join}
+use Rattle.lu.proofs.Updates.{panel-last}
 use Rattle.lu.proofs.update_all.Statement.{statement}
 use Rattle.lu.proofs.update_all.Tie as tie
 
--- a quarter of the steps, rounded down, and what is left
-quarters : (k : ℕ) → (4 * (k / 4) ≤ k)
-quarters k = omega arith
+abbrev Inv-loop : tie.InvT-loop
+Inv-loop s₀ m n all i₀ s i = (length s ≡ length s₀) × (turnsFrom (updatedAt n) i (all - i) (columns m (n + 1) s) ≡ turnsFrom (updatedAt n) 0 (min m n) (columns m (n + 1) s₀))
 
-add-update-each : tie.Need-add-update-each
-add-update-each c = omega (arith, sized _ _ _ (c .before .before .before .before .before .before .before .pre) .columns-most)
+abbrev μ-loop : tie.MeasureT-loop
+μ-loop s₀ m n all i₀ s i = all - i
 
-update-each-requires : tie.Need-update-each-requires
-update-each-requires c κs =
-    let at-min = c .before .before .before .before .before in
-    let e = at-min .min .ensures in
-    (same-matrix _ _ _ _ (c .before .before .before .update-in-fours .kept .0) ∙ (at-min .before .before .pre), quarters (at-min .min .result), omega arith, omega arith, omega arith)
+loop-holds : tie.Need-loop-holds Inv-loop μ-loop
+loop-holds c =
+    let g = c .before .before .args in
+    let all : c .min .result - 0 ≡ min (g .m) (g .n) = omega (arith, c .min .ensures) in
+    (refl, ap (λ k. turnsFrom (updatedAt (g .n)) 0 k (columns (g .m) (g .n + 1) (g .s .now))) all)
 
-returns : tie.Need-returns
+-- a turn makes some of the steps that are left, and there are few
+some : (c : tie.After-min2 Inv-loop μ-loop) → let g = c .before .before .before .before .before .args in
+    (c .before .before .loop .i < c .min2 .result) × (c .min2 .result ≤ c .before .before .before .min .result) × (c .before .before .before .min .result ≤ g .m) × (c .before .before .before .min .result ≤ g .n)
+some c =
+    let at-min = c .before .before .before in
+    let left = c .before .loop-test .taken in
+    let to = c .min2 .ensures in
+    let all = at-min .min .ensures in
+    (omega (arith, to, left), omega (arith, to), omega (arith, all), omega (arith, all))
+
+update-columns-requires : tie.Need-update-columns-requires Inv-loop μ-loop
+update-columns-requires c κs =
+    let at-loop = c .before .before .before in
+    let few = some (c .before) in
+    (same-matrix _ _ _ _ (at-loop .loop .inv .0) ∙ (at-loop .before .before .before .pre), omega (arith, few), omega (arith, few), omega (arith, few), omega arith)
+
+add-update-columns : tie.Need-add-update-columns Inv-loop μ-loop
+add-update-columns c = omega (arith, sized _ _ _ (c .before .before .before .before .before .before .pre) .columns-most)
+
+loop-less : tie.Need-loop-less Inv-loop μ-loop
+loop-less c = omega (arith, some (c .before .before .before .before), c .before .before .before .before .before .loop-test .taken)
+
+loop-again : tie.Need-loop-again Inv-loop μ-loop
+loop-again c =
+    let at-update-columns = c .before .before in
+    let at-min2 = at-update-columns .before .before in
+    let at-loop = at-min2 .before .before in
+    let l = at-loop .loop in
+    let k = at-update-columns .update-columns in
+    let g = at-loop .before .before .before .args in
+    let f = updatedAt (g .n) in
+    let cs = columns (g .m) (g .n + 1) (l .s) in
+    let to = at-min2 .min2 .result in
+    let rest = at-loop .before .min .result - to in
+    let few = some at-min2 in
+    let behind : to ≡ l .i + (to - l .i) = omega (arith, few) in
+    let left : to - l .i + rest ≡ at-loop .before .min .result - l .i = omega (arith, few) in (
+      k .kept .0 ∙ l .inv .0,
+      ap (turnsFrom f to rest) (k .ensures ∙ panel-last (l .i) (to - l .i) (g .n) cs (length-columns (g .m) (g .n + 1) (l .s)) (omega (arith, few)))
+          ∙ ap (λ q. turnsFrom f q rest (turnsFrom f (l .i) (to - l .i) cs)) behind ∙ turns-join f (l .i) (to - l .i) rest cs ∙ ap (λ q. turnsFrom f (l .i) q cs) left ∙ l .inv .1,
+    )
+
+returns : tie.Need-returns Inv-loop μ-loop
 returns c =
-    let at-update-each = c .before .before in
-    let at-update-in-fours = at-update-each .before .before .before .before in
-    let at-min = at-update-in-fours .before .before in
-    let g = at-min .before .before .args in
-    let k = at-min .min .result in
-    let cs = columns (g .m) (g .n + 1) (g .s .now) in
-    let first : 4 * (k / 4) ≡ 0 + 4 * (k / 4) = omega arith in
-    let whole : 4 * (k / 4) + (k - 4 * (k / 4)) ≡ min (g .m) (g .n) = let e = at-min .min .ensures in omega (arith, quarters k, e) in
-    at-update-each .update-each .ensures
-    ∙ ap (turnsFrom (updatedAt (g .n)) (4 * (k / 4)) (k - 4 * (k / 4))) (at-update-in-fours .update-in-fours .ensures)
-    ∙ ap (λ i. turnsFrom (updatedAt (g .n)) i (k - 4 * (k / 4)) (turnsFrom (updatedAt (g .n)) 0 (4 * (k / 4)) cs)) first
-    ∙ turns-join (updatedAt (g .n)) 0 (4 * (k / 4)) (k - 4 * (k / 4)) cs
-    ∙ ap (λ i. turnsFrom (updatedAt (g .n)) 0 i cs) whole
+    let at-loop = c .before in
+    sym (turns-done (updatedAt (at-loop .before .before .before .args .n)) _ _ _ (c .loop-test .left)) ∙ at-loop .loop .inv .1
 
 pub update-all-spec : {M : Type 1} → statement M
 update-all-spec =
     tie.close
     (tie.spec
+    Inv-loop
+    μ-loop
     (λ c κs. search needs)
+    loop-holds
+    (λ c. let all = c .before .before .min .ensures in omega (arith, sized _ _ _ (c .before .before .before .before .pre) .rows-most))
     (λ c κs. search needs)
-    add-update-each
-    (λ c. search needs)
-    update-each-requires
+    add-update-columns
+    update-columns-requires
+    loop-less
+    loop-again
     (λ c. search needs)
     returns)

@@ -1,26 +1,41 @@
--- By the test whether all four steps were made: at once (`right-done`), or one by one. Assumes nothing.
-use mathlib.Core.Path.{sym, _∙_}
+-- By the tests whether it is four steps and all were made: at once (`four-done`), or one by one. Assumes nothing.
+use mathlib.Core.Path.{sym, ap, _∙_}
+use native.Mathlib.Omega.{arith}
 use borrow.Author.Needs.{needs}
-use Rattle.lu.proofs.Updates.{right-done}
+use Rattle.store.specs.Columns.{columns}
+use Rattle.lu.specs.Own.{afterPanel}
+use Rattle.lu.proofs.Updates.{four-done}
 use Rattle.lu.proofs.update_columns.Statement.{statement}
 use Rattle.lu.proofs.update_columns.Tie as tie
 
+are-live-requires : tie.Need-are-live-requires
+are-live-requires c κs =
+    let at-if1 = c .before in
+    let four = at-if1 .if1 .taken in
+    let pre = at-if1 .before .before .pre in
+    (pre .0, omega (arith, pre .2, four), omega (arith, pre .3, pre .4, four))
+
 returns : tie.Need-returns
 returns c =
-    let at-four-steps-right = c .before .before in
-    let at-if1 = at-four-steps-right .before .before in
-    let at-are-live = at-if1 .before in
-    let pre = at-are-live .before .before .before .pre in
-    right-done _ _ _ _ (pre .0) (pre .1) (pre .2) _ (sym (at-are-live .are-live .ensures) ∙ (at-if1 .if1 .taken)) (at-four-steps-right .four-steps-right .ensures)
+    let at-four-steps = c .before .before in
+    let at-if2 = at-four-steps .before .before in
+    let at-are-live = at-if2 .before in
+    let at-if1 = at-are-live .before .before in
+    let four = at-if1 .if1 .taken in
+    let g = at-if1 .before .before .args in
+    let pre = at-if1 .before .before .pre in
+    four-done _ _ _ _ _ (pre .0) (omega (arith, pre .2, four)) (omega (arith, pre .3, four)) _ (sym (at-are-live .are-live .ensures) ∙ (at-if2 .if2 .taken)) (at-four-steps .four-steps .ensures)
+    ∙ ap (λ k. afterPanel (g .i) k (g .from) (columns (g .m) (g .n) (g .s .now))) (sym four)
 
 pub update-columns-spec : {M : Type 1} → statement M
 update-columns-spec =
     tie.close
     (tie.spec
-    (λ c κs. search needs)
-    (λ c κs. search needs)
+    (λ c. search needs)
+    are-live-requires
     (λ c κs. search needs)
     (λ c. search needs)
     returns
+    (λ c κs. search needs)
     (λ c. search needs)
     (λ c. c .before .before .update-columns-each .ensures))

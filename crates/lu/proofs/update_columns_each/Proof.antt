@@ -1,6 +1,6 @@
 -- The columns that are left from column j on give the whole; those of the panel stay. Assumes nothing.
 use Prim.Native.Nat.{ℕ, _+_, _-_, _≤_, _<_}
-use mathlib.Core.Path.{_≡_, refl, sym, ap, _∙_}
+use mathlib.Core.Path.{_≡_, refl, sym, _∙_}
 use native.Mathlib.Omega.{arith}
 use borrow.Author.Needs.{needs}
 use lib.ListN.{length}
@@ -9,34 +9,31 @@ use Rattle.store.specs.Columns.{columns}
 use Rattle.store.specs.Steps.{column}
 use Rattle.store.proofs.Columns.{sized, same-matrix, column-stop}
 use Rattle.lu.specs.Adding.{update}
-use Rattle.lu.specs.Own.{updatedAt, afterPanel}
+use Rattle.lu.specs.Own.{afterPanel}
 use Rattle.lu.proofs.Updates.{panel-stays, panel-turn}
 use Rattle.lu.proofs.update_columns_each.Statement.{statement}
 use Rattle.lu.proofs.update_columns_each.Tie as tie
 
 abbrev Inv-loop : tie.InvT-loop
-Inv-loop s₀ m n i j₀ s j = (length s ≡ length s₀) × (i + 4 ≤ j) × ((q : ℕ) → q < i + 4 → column (columns m n s) q ≡ column (columns m n s₀) q)
-    × (eachFrom (λ k c. turnsFrom (update (columns m n s₀)) i 4 c) j (columns m n s) ≡ afterPanel i (columns m n s₀))
+Inv-loop s₀ m n i to from j₀ s j = (length s ≡ length s₀) × (to ≤ j) × ((q : ℕ) → q < i + (to - i) → column (columns m n s) q ≡ column (columns m n s₀) q)
+    × (eachFrom (λ k c. turnsFrom (update (columns m n s₀)) i (to - i) c) j (columns m n s) ≡ afterPanel i (to - i) from (columns m n s₀))
 
 abbrev μ-loop : tie.MeasureT-loop
-μ-loop s₀ m n i j₀ s j = n - j
+μ-loop s₀ m n i to from j₀ s j = n - j
 
 loop-holds : tie.Need-loop-holds Inv-loop μ-loop
 unfolding afterPanel
-loop-holds c = (refl, omega arith, λ q h. refl, refl)
-
-small : (c : tie.Start Inv-loop μ-loop) → (c .args .i + 4 ≤ c .args .m) × (c .args .m ≤ 64)
-small c = (c .pre .1, sized _ _ _ (c .pre .0) .rows-most)
+loop-holds c = (refl, c .before .pre .3, λ q h. refl, refl)
 
 update-each-requires : tie.Need-update-each-requires Inv-loop μ-loop
 update-each-requires c κs =
     let at-loop = c .before .before in
     let at-start = at-loop .before .before in
     let inv = at-loop .loop .inv in
-    (same-matrix _ _ _ _ (inv .0) ∙ (at-start .pre .0), omega arith, inv .1, c .before .loop-test .taken, at-start .pre .1)
+    (same-matrix _ _ _ _ (inv .0) ∙ (at-start .pre .0), at-start .pre .1, inv .1, c .before .loop-test .taken, at-start .pre .2)
 
-add-j-2 : tie.Need-add-j-2 Inv-loop μ-loop
-add-j-2 c =
+add-j : tie.Need-add-j Inv-loop μ-loop
+add-j c =
     let at-start = c .before .before .before .before .before .before .before in
     omega (arith, sized _ _ _ (at-start .pre .0) .columns-most)
 
@@ -50,9 +47,8 @@ loop-again c =
     let k = at-update-each .update-each in
     let hj = at-loop-test .loop-test .taken in
     let cs = columns (g .m) (g .n) (g .s .now) in
-    let four : g .i + 4 - g .i ≡ 4 = omega arith in
-    let stepped = k .ensures ∙ ap (λ q. turnsFrom (updatedAt (at-loop .loop .j)) (g .i) q (columns (g .m) (g .n) (at-loop .loop .s))) four in
-    (k .kept .0 ∙ inv .0, omega arith, panel-stays _ _ _ _ _ _ cs (inv .1) hj (inv .2) stepped, panel-turn _ _ _ _ _ _ cs (inv .1) hj (inv .2) stepped ∙ inv .3)
+    let left : g .i + (g .to - g .i) ≤ at-loop .loop .j = omega (arith, inv .1, at-loop .before .before .pre .1) in
+    (k .kept .0 ∙ inv .0, omega arith, panel-stays _ _ _ _ _ _ _ cs left hj (inv .2) (k .ensures), panel-turn _ _ _ _ _ _ _ cs left hj (inv .2) (k .ensures) ∙ inv .3)
 
 returns : tie.Need-returns Inv-loop μ-loop
 returns c =
@@ -65,11 +61,9 @@ update-columns-each-spec =
     (tie.spec
     Inv-loop
     μ-loop
-    (λ c. omega (arith, sized _ _ _ (c .before .pre .0) .rows-most))
     loop-holds
-    (λ c. omega (arith, small (c .before .before .before .before)))
     update-each-requires
-    add-j-2
+    add-j
     (λ c. omega arith)
     loop-again
     (λ c. search needs)

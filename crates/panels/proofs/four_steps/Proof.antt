@@ -1,69 +1,103 @@
--- By the tests, and what the steps give past them. Assumes nothing.
-use Prim.Native.Nat.{_+_, _≤_, _<_}
+-- The columns that are left from column j on give the whole; the four columns stay. Assumes nothing.
+use Prim.Native.Nat.{ℕ, _+_, _-_, _≤_, _<_}
 use mathlib.Core.Path.{_≡_, refl, sym, _∙_}
 use mathlib.Core.Bool.{true}
 use native.Mathlib.Omega.{arith}
 use borrow.Author.Needs.{needs}
 use borrow.Author.Tests.{not-true, not-false}
-use Rattle.store.specs.Columns.{isMatrix}
-use Rattle.store.proofs.Columns.{sized, on-none, on-done}
-use Rattle.panels.proofs.Within.{stepped-is, not-stepped}
+use lib.ListN.{length}
+use Rattle.blas.specs.Each.{eachFrom}
+use Rattle.store.specs.Columns.{columns, isMatrix}
+use Rattle.store.specs.Steps.{column}
+use Rattle.store.proofs.Columns.{sized, same-matrix, column-stop, on-none, on-done}
+use Rattle.panels.specs.Panel.{fourSteps}
+use Rattle.panels.proofs.Within.{step-turn, step-left, stepped-is, not-stepped}
 use Rattle.panels.proofs.four_steps.Statement.{statement}
 use Rattle.panels.proofs.four_steps.Tie as tie
 
-returns : tie.Need-returns
+abbrev Inv-loop : tie.InvT-loop
+Inv-loop s₀ m n i from most j₀ s j = (length s ≡ length s₀) × (i + 4 ≤ j) × ((k : ℕ) → k < i + 4 → column (columns m n s) k ≡ column (columns m n s₀) k)
+    × (eachFrom (λ k c. fourSteps i (columns m n s₀) c) j (columns m n s) ≡ eachFrom (λ k c. fourSteps i (columns m n s₀) c) from (columns m n s₀))
+
+abbrev μ-loop : tie.MeasureT-loop
+μ-loop s₀ m n i from most j₀ s j = n - j
+
+returns : tie.Need-returns Inv-loop μ-loop
 returns c = on-none _ _ _ _ (sym (c .before .is-matrix .ensures) ∙ not-true _ (c .if1 .taken))
 
-returns-2 : tie.Need-returns-2
+returns-2 : tie.Need-returns-2 Inv-loop μ-loop
 returns-2 c =
-    let out = c .if2 .taken in
-    on-done _ _ _ _ _ (sym (c .before .before .is-matrix .ensures) ∙ not-false _ (c .before .if1 .left)) refl (not-stepped _ _ _ _ _ (λ a b. omega arith))
-
-returns-3 : tie.Need-returns-3
-returns-3 c =
     let at-min = c .before in
     let e = at-min .min .ensures in
-    let few = c .if3 .taken in
-    on-done _ _ _ _ _ (sym (at-min .before .before .before .is-matrix .ensures) ∙ not-false _ (at-min .before .before .if1 .left)) refl (not-stepped _ _ _ _ _ (λ a b. omega arith))
+    let few = c .if2 .taken in
+    on-done _ _ _ _ _ (sym (at-min .before .before .is-matrix .ensures) ∙ not-false _ (at-min .before .if1 .left)) refl (not-stepped _ _ _ _ _ (λ a. omega arith))
 
-returns-4 : tie.Need-returns-4
-returns-4 c =
+returns-3 : tie.Need-returns-3 Inv-loop μ-loop
+returns-3 c =
     let at-min = c .before .before in
     let e = at-min .min .ensures in
-    let below = c .if4 .taken in
-    let enough = c .before .if3 .left in
-    on-done _ _ _ _ _ (sym (at-min .before .before .before .is-matrix .ensures) ∙ not-false _ (at-min .before .before .if1 .left)) refl (not-stepped _ _ _ _ _ (λ a b. omega arith))
+    let below = c .if3 .taken in
+    let enough = c .before .if2 .left in
+    on-done _ _ _ _ _ (sym (at-min .before .before .is-matrix .ensures) ∙ not-false _ (at-min .before .if1 .left)) refl (not-stepped _ _ _ _ _ (λ a. omega arith))
 
--- past the tests: the slice is a matrix, and column j lies right of the four columns, which have row i + 3
-has : (c : tie.Else4) → let g = c .before .before .before .before .before .before .before .before .args in
-    (isMatrix (g .m) (g .n) (g .s .now) ≡ true) × (g .i + 4 ≤ g .m) × (g .i + 4 ≤ g .j) × (g .j < g .n)
+-- past the tests: the slice is a matrix, row i + 3 is there, and the four columns lie left of column `from`
+has : (c : tie.Else3 Inv-loop μ-loop) → let g = c .before .before .before .before .before .before .before .args in
+    (isMatrix (g .m) (g .n) (g .s .now) ≡ true) × (g .i + 4 ≤ g .m) × (g .i + 4 ≤ g .from) × (g .n ≤ 64)
 has c =
     let at-min = c .before .before in
     let e = at-min .min .ensures in
-    let above = c .if4 .left in
-    let enough = c .before .if3 .left in
-    (sym (at-min .before .before .before .is-matrix .ensures) ∙ not-false _ (at-min .before .before .if1 .left), omega arith, omega arith, at-min .before .if2 .left)
+    let above = c .if3 .left in
+    let enough = c .before .if2 .left in
+    let fits = sym (at-min .before .before .is-matrix .ensures) ∙ not-false _ (at-min .before .if1 .left) in
+    (fits, omega arith, omega arith, sized _ _ _ fits .columns-most)
 
-returns-5 : tie.Need-returns-5
-returns-5 c =
+loop-holds : tie.Need-loop-holds Inv-loop μ-loop
+loop-holds c = (refl, omega (arith, has c), λ k h. refl, refl)
+
+steps-on-requires : tie.Need-steps-on-requires Inv-loop μ-loop
+steps-on-requires c κs =
+    let at-loop = c .before .before in
+    let h = has (at-loop .before) in
+    let inv = at-loop .loop .inv in
+    (same-matrix _ _ _ _ (inv .0) ∙ h .0, h .1, inv .1, c .before .loop-test .taken)
+
+loop-again : tie.Need-loop-again Inv-loop μ-loop
+loop-again c =
     let at-steps-on = c .before .before in
-    let h = has (at-steps-on .before .before) in
-    on-done _ _ _ _ _ (h .0) (at-steps-on .steps-on .kept .0) (at-steps-on .steps-on .ensures ∙ sym (stepped-is _ _ _ _ _ (sized _ _ _ (h .0) .size) (h .1) (h .2) (h .3)))
+    let at-turn = at-steps-on .before .before in
+    let at-loop = at-turn .before in
+    let inv = at-loop .loop .inv in
+    let k = at-steps-on .steps-on in
+    let g = at-loop .before .before .before .before .before .before .before .before .args in
+    let cs = columns (g .m) (g .n) (g .s .now) in
+    let hj = at-turn .loop-test .taken in
+    (k .kept .0 ∙ inv .0, omega arith, step-left _ _ _ _ _ _ cs (inv .1) hj (inv .2) (k .ensures), step-turn _ _ _ _ _ _ cs (inv .1) hj (inv .2) (k .ensures) ∙ inv .3)
+
+returns-4 : tie.Need-returns-4 Inv-loop μ-loop
+returns-4 c =
+    let at-loop = c .before in
+    let h = has (at-loop .before) in
+    let inv = at-loop .loop .inv in
+    on-done _ _ _ _ _ (h .0) (inv .0) (sym (column-stop _ _ _ _ _ (c .loop-test .left)) ∙ inv .3 ∙ sym (stepped-is _ _ _ _ _ (h .1) (h .2)))
 
 pub four-steps-spec : {M : Type 1} → statement M
 four-steps-spec =
     tie.close
     (tie.spec
+    Inv-loop
+    μ-loop
     (λ c κs. search needs)
     (λ c. search needs)
     returns
-    (λ c. search needs)
-    returns-2
     (λ c κs. search needs)
     (λ c. search needs)
+    returns-2
+    (λ c. search needs)
     returns-3
+    loop-holds
+    steps-on-requires
+    (λ c. omega (arith, has (c .before .before .before .before .before .before)))
+    (λ c. omega arith)
+    loop-again
     (λ c. search needs)
-    returns-4
-    (λ c κs. has (c .before))
-    (λ c. search needs)
-    returns-5)
+    returns-4)
