@@ -24,7 +24,8 @@ static void put(const char *text, size_t count) { system_call(1, 1, (long)text, 
 __asm__(".globl _start\n_start: and $-16,%rsp\n call start\n");
 
 enum { DEEP = 262144, FULL = 4096, HEAD = 6 };
-static double a[FULL], factors[FULL], column[64], x[64], loads[64];
+static double a[FULL], factors[FULL], result[FULL], column[64], x[64], loads[64], value;
+static bool invertible;
 static size_t swaps[128], ranks[64], pairs, toss_ups, pads, answer;
 static byte file[HEAD + FULL * 8 + 64 * 8];
 
@@ -35,6 +36,10 @@ APART void nothing(void) { __asm__ volatile(""); }
 APART void factor(void) { answer = wejdarox_factor(a, FULL, 64, 64, factors, FULL, swaps, 128, &pairs, &toss_ups); __asm__ volatile(""); }
 APART void add(void) { answer = wejdarox_add_column(factors, FULL, column, 64, swaps, 128, 64, 63, &pairs, &toss_ups); __asm__ volatile(""); }
 APART void solve(void) { answer = wejdarox_solve(factors, FULL, swaps, 128, 64, 64, pairs, column, 64, 1, x, 64); __asm__ volatile(""); }
+APART void inverse(void) { answer = wejdarox_inverse(factors, FULL, swaps, 128, 64, 64, pairs, result, FULL); __asm__ volatile(""); }
+APART void determinant(void) { answer = wejdarox_determinant(factors, FULL, swaps, 128, 64, 64, pairs, &value); __asm__ volatile(""); }
+APART void is_invertible(void) { answer = wejdarox_is_invertible(factors, FULL, swaps, 128, 64, 64, pairs, &invertible); __asm__ volatile(""); }
+APART void rank(void) { answer = wejdarox_rank(x, 64, 64, ranks, 64); __asm__ volatile(""); }
 APART void order(void) { answer = wejdarox_pad_order(file, sizeof file, ranks, loads, &pads); __asm__ volatile(""); }
 
 static size_t taken(void (*call)(void)) {
@@ -75,6 +80,10 @@ __attribute__((used)) void start(void) {
     wejdarox_factor(a, FULL - 64, 64, 63, factors, FULL - 64, swaps, 128, &pairs, &toss_ups);
     say("add_column", add);
     say("solve", solve);
+    say("inverse", inverse);
+    say("determinant", determinant);
+    say("is_invertible", is_invertible);
+    say("rank", rank);
     say("pad_order", order);
     leave(0);
 }
