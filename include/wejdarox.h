@@ -30,7 +30,7 @@
  *             - what a call may change (a pointer without `const`) is apart from every other slice and number of that call;
  *             - no other thread changes what is lent, or looks at what may change, until the call returns;
  *             - the floating-point state is the usual one of the ABI: rounding to nearest, no trap enabled, subnormal numbers kept;
- *             - the stack has room: on x86-64 wejdarox_pad_order takes 68 KB of it, the others under 2 KB.
+ *             - the stack has room: on x86-64 wejdarox_pad_order takes 68 KB of it, the others under 1 KB.
  *             It owes nothing else: sizes, lengths, swap lists and numbers may be anything.
  *
  *  Machine    `rt staticlib ffi` writes target/staticlib/libffi.a, code for x86-64 Linux. It needs `memset` and nothing else. No call allocates or keeps

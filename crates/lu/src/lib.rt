@@ -206,7 +206,7 @@ fn update_columns_each(s: &mut [f64], m: usize, n: usize, i: usize, to: usize, f
     }
 }
 
-// The same, at once where it is four steps and all were made.
+// The same, at once where it is four steps and all were made. Factoring and adding both call it, so the compiler keeps it apart, and what its loops hold stays out of their frames.
 fn update_columns(s: &mut [f64], m: usize, n: usize, i: usize, to: usize, from: usize)
     requires { ⌜ (isMatrix m n (now s) ≡ true) × (i ≤ to) × (to ≤ m) × (to ≤ from) × (from ≤ n) ⌝ }
     ensures { λ _. ⌜ columns m n (now (s .exit)) ≡ afterPanel i (to - i) from (columns m n (now (s .entry))) ⌝ }

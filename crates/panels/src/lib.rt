@@ -67,8 +67,7 @@ fn steps_on(s: &mut [f64], m: usize, n: usize, i: usize, j: usize)
     tail(s, m, n, i, j);
 }
 
-// That on each column from `from` on, where these lie right of those columns and there is a row i + 3. One function for factoring, which has many such columns, and
-// for adding, which has one: the compiler then keeps it apart, and its loops' bounds stay off the callers' stack.
+// That on each column from `from` on, where these lie right of those columns and there is a row i + 3: many for factoring, the new one for adding.
 pub fn four_steps(s: &mut [f64], m: usize, n: usize, i: usize, from: usize)
     ensures { λ _. ⌜ now (s .exit) ≡ onColumns m n (fourStepped m i from) (now (s .entry)) ⌝ }
 {
