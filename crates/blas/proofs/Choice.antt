@@ -1,5 +1,5 @@
 -- What holds of a choice between two values, by cases on its test. Assumes nothing.
-use mathlib.Core.Path.{_≡_, refl, sym, ap, _∙_}
+use mathlib.Core.Path.{_≡_, refl, sym}
 use mathlib.Core.Bool.{Bool, true, false, cond, _&&_, false≢true}
 
 pub test-cases : {Q : Type 0} (t : Bool) → (t ≡ true → Q) → (t ≡ false → Q) → Q
@@ -17,10 +17,6 @@ cond-both P false f g = g refl
 pub cond-map : {A B : Type 0} (f : A → B) (t : Bool) (a b : A) → cond t (f a) (f b) ≡ f (cond t a b)
 cond-map f true a b = refl
 cond-map f false a b = refl
-
--- what was chosen, from the test's outcome
-pub cond-by : {A : Type 0} {x : A} (a b : A) {t u : Bool} → t ≡ u → x ≡ cond u a b → x ≡ cond t a b
-cond-by a b e d = d ∙ ap (λ (t : Bool). cond t a b) (sym e)
 
 pub and-first : (t u : Bool) → (t && u) ≡ true → t ≡ true
 and-first true u e = refl

@@ -21,10 +21,6 @@ pub length-axpy : (from : ℕ) (u : Float) (x y : Column) → length (axpyFrom f
 unfolding axpyFrom
 length-axpy from u x y = cond-cases (λ (z : Column). length z ≡ length y) (eqb (length x) (length y)) (λ e. length-each _ from y) (λ e. refl)
 
-pub length-copied : (src dst : Column) → length (copied src dst) ≡ length dst
-unfolding copied
-length-copied src dst = cond-cases (λ (z : Column). length z ≡ length dst) (eqb (length src) (length dst)) (λ e. eqb-true _ _ e) (λ e. refl)
-
 -- a column as long is copied whole
 pub copied-whole : (src dst : Column) → length src ≡ length dst → copied src dst ≡ src
 unfolding copied

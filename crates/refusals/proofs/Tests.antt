@@ -14,11 +14,6 @@ unfolding firstOf
 first-none k true ts e = absurd (omega (arith, e))
 first-none k false ts e = (refl, e)
 
--- a test that does not hold is passed over
-pub first-passed : (k : ℕ) (t : Bool) (ts : List (ℕ × Bool)) → t ≡ false → firstOf ((k, t) ∷ ts) ≡ firstOf ts
-unfolding firstOf
-first-passed k t ts e = rw e
-
 pub neither : (t u : Bool) → (t || u) ≡ false → (t ≡ false) × (u ≡ false)
 neither true u e = absurd (false≢true (sym e))
 neither false u e = (refl, e)
