@@ -2,7 +2,7 @@
 -- nothing.
 use mathlib.Core.Path.{_≡_, sym, ap}
 use mathlib.Core.Bool.{Bool, true, false, not, cond}
-use mathlib.Core.List.{[], _∷_}
+use mathlib.Core.List.{[], _∷_, _++_}
 use Prim.Native.Nat.{ℕ, min}
 use native.Mathlib.Omega.{arith}
 use lib.Dec.{ltb}
@@ -18,7 +18,7 @@ use Rattle.blas.specs.declared.FoundPivot.{FoundPivot}
 use Rattle.blas.specs.Dot.{addProduct, addBlock, eightSums, pairSums, dotOf}
 use Rattle.store.specs.Columns.{columns, flat, isMatrix, onColumns}
 use Rattle.store.specs.Steps.{column, swapInAll, rowsSwapped, columnsSwapped, stepColumn, stepColumns, eliminated}
-use Rattle.panels.specs.Panel.{stepBy, fourSteps, fourStepped}
+use Rattle.panels.specs.Panel.{stepBy, fourSteps, fourStepped, fourSteppedOn}
 use Rattle.refusals.specs.declared.Answer.{Answer}
 use Rattle.refusals.specs.declared.Answer.the-variants.{Done, Refused}
 use Rattle.refusals.specs.Refusals.{firstOf, outside, answerOf, numberOf, Outcome, seventh}
@@ -27,7 +27,7 @@ use Rattle.figures.proofs.Outcomes.{TwoShutOut, two}
 
 -- a name for all that has to unfold for these calls to compute
 runs : Type 0
-unfolding add sub mul div neg eq lt ofBits eachFrom turnsFrom isZero magnitude searchFrom pivotRow exchanged scaleFrom axpyFrom allFinite copied addProduct addBlock eightSums pairSums dotOf columns flat isMatrix onColumns swapInAll rowsSwapped stepColumn stepColumns eliminated stepBy fourSteps fourStepped firstOf outside answerOf numberOf seventh
+unfolding add sub mul div neg eq lt ofBits eachFrom turnsFrom isZero magnitude searchFrom pivotRow exchanged scaleFrom axpyFrom allFinite copied addProduct addBlock eightSums pairSums dotOf columns flat isMatrix onColumns swapInAll rowsSwapped stepColumn stepColumns eliminated stepBy fourSteps fourStepped fourSteppedOn firstOf outside answerOf numberOf seventh
 runs = Unit {0}
 
 abbrev -n1 : Float
@@ -211,6 +211,23 @@ fours x = onColumns (x .1 .0) (x .1 .1 .0) (fourStepped (x .1 .0) (x .0 .0) (x .
 pub four-steps : TwoShutOut fours (λ x. x .1 .1 .1)
 unfolding runs
 four-steps = two fours (λ x. x .1 .1 .1) ((0, 4), (4, (5, fiveBefore))) ((0, 0), (1, (1, n1 ∷ []))) ((0, 0), (0, (0, []))) five-differ (some-none n1 [])
+
+-- the steps on every column from that one on: a sixth column, like the fifth, would change with it
+abbrev sixth : Column → Column
+sixth c = c ++ n1 ∷ n0 ∷ n0 ∷ n0 ∷ []
+
+abbrev sixAfter : Column
+sixAfter = fiveAfter ++ n1 ∷ -n1 ∷ n0 ∷ n0 ∷ []
+
+six-differ : sixth fiveAfter ≡ sixAfter → ⊥
+six-differ d = let z : _≡_ {A = ℕ} 0 1 = cc in omega arith
+
+abbrev foursOn : (ℕ × ℕ) × Sized → Column
+foursOn x = onColumns (x .1 .0) (x .1 .1 .0) (fourSteppedOn (x .1 .0) (x .0 .0) (x .0 .1)) (x .1 .1 .1)
+
+pub four-steps-on : TwoShutOut foursOn fours
+unfolding runs
+four-steps-on = two foursOn fours ((0, 4), (4, (6, sixth fiveBefore))) ((0, 0), (1, (1, n1 ∷ []))) ((0, 0), (0, (0, []))) six-differ (some-none n1 [])
 
 -- ---- refusals
 

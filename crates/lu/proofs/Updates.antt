@@ -17,8 +17,8 @@ use Rattle.store.specs.Columns.{columns, isMatrix, onColumns}
 use Rattle.store.specs.Steps.{Matrix, column, stepColumn}
 use Rattle.store.proofs.Columns.{length-columns, entry-at}
 use Rattle.store.proofs.Within.{within-columns}
-use Rattle.panels.specs.Panel.{stepBy, fourSteps, fourStepped}
-use Rattle.panels.proofs.Within.{stepped-columns}
+use Rattle.panels.specs.Panel.{stepBy, fourSteps, fourStepped, fourSteppedOn}
+use Rattle.panels.proofs.Within.{stepped-columns, on-column}
 use Rattle.refusals.proofs.Tests.{neither}
 use Rattle.lu.specs.Adding.{update}
 use Rattle.lu.specs.Own.{updatedAt, live, afterPanel}
@@ -123,7 +123,14 @@ unfolding afterPanel
 four-done m n i from s fits hm hf t ok made =
     stepped-columns i from m n s t fits hm hf made ∙ each-same _ _ from (columns m n s) (λ j c h l. sym (live-four i (columns m n s) ok c))
 
--- on the last column alone
+-- on one column alone
+pub four-done-on : (m n i j : ℕ) (s : Column) → isMatrix m n s ≡ true → i + 4 ≤ m → i + 4 ≤ j → j < n → (t : Column) → live i (columns m n s) ≡ true
+    → t ≡ onColumns m n (fourSteppedOn m i j) s → columns m n t ≡ turnsFrom (updatedAt j) i 4 (columns m n s)
+four-done-on m n i j s fits hm right hj t ok made =
+    let cs = columns m n s in
+    on-column i j m n s t fits hm right hj made ∙ ap (set cs j) (sym (live-four i cs ok (column cs j))) ∙ sym (updates-at cs j i 4 right (rw length-columns hj))
+
+-- on the last column, as one of those right of a panel
 pub panel-last : (i k n : ℕ) (cs : Matrix) → length cs ≡ n + 1 → i + k ≤ n → afterPanel i k n cs ≡ turnsFrom (updatedAt n) i k cs
 unfolding afterPanel
 panel-last i k n cs len right =

@@ -206,7 +206,7 @@ fn update_columns_each(s: &mut [f64], m: usize, n: usize, i: usize, to: usize, f
     }
 }
 
-// The same, at once where it is four steps and all were made. Factoring and adding both call it, so the compiler keeps it apart, and what its loops hold stays out of their frames.
+// The same, at once where it is four steps and all were made.
 fn update_columns(s: &mut [f64], m: usize, n: usize, i: usize, to: usize, from: usize)
     requires { ⌜ (isMatrix m n (now s) ≡ true) × (i ≤ to) × (to ≤ m) × (to ≤ from) × (from ≤ n) ⌝ }
     ensures { λ _. ⌜ columns m n (now (s .exit)) ≡ afterPanel i (to - i) from (columns m n (now (s .entry))) ⌝ }
@@ -324,7 +324,25 @@ fn adding_refusal(s: &[f64], c: &[f64], swaps: &[usize], told: Record) -> usize
     )
 }
 
-// Step 5 on the new column, number n, by each column i below min(m, n), four at a time.
+// Step 5 on the new column, number n, by the columns from i up to but not `to`: at once where it is four steps and all were made. Where one was skipped, it is as for a
+// panel: so factoring is not alone in calling `update_columns`, and the compiler keeps that apart, out of factoring's frame.
+fn update_new(s: &mut [f64], m: usize, n: usize, i: usize, to: usize)
+    requires { ⌜ (isMatrix m (n + 1) (now s) ≡ true) × (i ≤ to) × (to ≤ m) × (to ≤ n) ⌝ }
+    ensures { λ _. ⌜ columns m (n + 1) (now (s .exit)) ≡ turnsFrom (updatedAt n) i (to - i) (columns m (n + 1) (now (s .entry))) ⌝ }
+{
+    let all = n + 1;
+    if to - i != 4 {
+        update_each(s, m, all, i, to, n);
+        return;
+    }
+    if are_live(s, m, all, i) {
+        panels::four_steps_on(s, m, all, i, n);
+        return;
+    }
+    update_columns(s, m, all, i, to, n);
+}
+
+// That by each column i below min(m, n), four at a time.
 fn update_all(s: &mut [f64], m: usize, n: usize)
     requires { ⌜ isMatrix m (n + 1) (now s) ≡ true ⌝ }
     ensures { λ _. ⌜ columns m (n + 1) (now (s .exit)) ≡ turnsFrom (updatedAt n) 0 (min m n) (columns m (n + 1) (now (s .entry))) ⌝ }
@@ -333,7 +351,7 @@ fn update_all(s: &mut [f64], m: usize, n: usize)
     let mut i = 0;
     while i < all {
         let to = store::min(i + 4, all);
-        update_columns(s, m, n + 1, i, to, n);
+        update_new(s, m, n, i, to);
         i = to;
     }
 }

@@ -1,2 +1,2 @@
-pub mod Four
+pub mod ByRows
 pub mod Within

@@ -1,6 +1,6 @@
 -- Four steps on a column of the store that holds their columns too: the rows of the head written one after another, one turn of the loop below them,
 -- its end, and what the columns are afterwards, which is what factoring and adding cite. Assumes nothing.
-use mathlib.Core.Path.{_≡_, refl, sym, ap, _∙_}
+use mathlib.Core.Path.{_≡_, refl, sym, ap, ap₂, _∙_}
 use mathlib.Core.Bool.{true}
 use mathlib.Core.List.{List, []}
 use Prim.Native.Nat.{ℕ, _+_, _*_, _≤_, _<_, min}
@@ -8,7 +8,7 @@ use native.Mathlib.Omega.{arith}
 use borrow.Author.Tests.{le-leb, leb-true}
 use lib.Dec.{leb}
 use lib.ListN.{length, getD, set, length-set}
-use lib.Seq.{getD-set-same, getD-set-other, set-getD, set-set}
+use lib.Seq.{getD-set-same, getD-set-other, set-getD, set-set, set-comm, set-out}
 use lib.Ieee.{Float, nan, neg, add, mul, binary64}
 use Rattle.blas.specs.Each.{eachFrom}
 use Rattle.blas.specs.Numbers.{plusProduct}
@@ -17,102 +17,225 @@ use Rattle.blas.proofs.Choice.{cond-cases}
 use Rattle.blas.proofs.Each.{length-each, each-step, each-stop, each-same}
 use Rattle.store.specs.Columns.{columns, isMatrix, onColumns}
 use Rattle.store.specs.Steps.{Matrix, column}
+use Rattle.store.proofs.Within.{set-cases}
 use Rattle.store.proofs.Columns.{sized, length-columns, columns-rows, entry-at, written-at, on-columns, each-rows}
-use Rattle.panels.specs.Panel.{stepBy, fourSteps, fourStepped, multiplier, headOf, addFour, tailOf}
-use Rattle.panels.proofs.Four.{length-stepBy, four-rows}
+use Rattle.panels.specs.Panel.{stepBy, fourSteps, fourStepped, fourSteppedOn, multiplier, headOf, minusOf, addFour, fourRows, writtenFour, tailOf, tailLeft, tailsLeft, setTwo, Onward}
+use Rattle.panels.specs.declared.Four.{Four}
+use Rattle.panels.proofs.ByRows.{length-stepBy, four-rows}
 
--- ---- the store's rows and columns
-module _ (i j m n : ℕ) (s : List Float) (len : length s ≡ n * m) (four : i + 4 ≤ m) (right : i + 4 ≤ j) (hj : j < n) where
-  abbrev cs : Matrix
-  cs = columns m n s
-
-  -- the number in row r of column k, by its place
+-- ---- numbers by their places in the store
+module _ (m n : ℕ) (s : List Float) where
+  -- the number in row r of column k
   abbrev at : ℕ → ℕ → Float
   at k r = getD s (k * m + r) nan
 
-  is-at : (k r : ℕ) → k < n → r < m → at k r ≡ multiplier cs k r
+  is-at : (k r : ℕ) → k < n → r < m → at k r ≡ multiplier (columns m n s) k r
   is-at k r h hr = entry-at m n k r s nan h hr
 
-  -- a row of column j written, after others of it
-  written-more : (t : List Float) (c : Column) (r : ℕ) (v : Float) → length t ≡ n * m → columns m n t ≡ set cs j c → r < m → columns m n (set t (j * m + r) v) ≡ set cs j (set c r v)
+  full : (k : ℕ) → length s ≡ n * m → k < n → length (column (columns m n s) k) ≡ m
+  full k len h = columns-rows m n s len k (rw length-columns h)
+
+  pub minus-read : (i j : ℕ) → i + 4 ≤ m → j < n → (x : Four) → x ≡ record { first = neg (at j i); second = neg (at j (i + 1)); third = neg (at j (i + 2)); fourth = neg (at j (i + 3)) } → x ≡ minusOf i (column (columns m n s) j)
+  unfolding minusOf
+  minus-read i j four hj x e = e ∙ rw (is-at j i hj (omega arith), is-at j (i + 1) hj (omega arith), is-at j (i + 2) hj (omega arith), is-at j (i + 3) hj (omega arith)) refl
+
+  pub number-read : (i j r : ℕ) (f : Four) → i + 4 ≤ j → j < n → r < m
+      → add binary64 (mul binary64 (f .fourth) (at (i + 3) r)) (add binary64 (mul binary64 (f .third) (at (i + 2) r)) (add binary64 (mul binary64 (f .second) (at (i + 1) r)) (add binary64 (mul binary64 (f .first) (at i r)) (at j r))))
+      ≡ addFour i (columns m n s) f r (entry (column (columns m n s) j) r)
+  unfolding addFour plusProduct
+  number-read i j r f right hj hr =
+      rw (is-at (i + 3) r (omega arith) hr, is-at (i + 2) r (omega arith) hr, is-at (i + 1) r (omega arith) hr, is-at i r (omega arith) hr, is-at j r hj hr) refl
+
+-- ---- rows of column j written, one after another
+module _ (j m n : ℕ) (s : List Float) (len : length s ≡ n * m) (hj : j < n) where
+  written-more : (t : List Float) (c : Column) (r : ℕ) (v : Float) → length t ≡ n * m → columns m n t ≡ set (columns m n s) j c → r < m → columns m n (set t (j * m + r) v) ≡ set (columns m n s) j (set c r v)
   written-more t c r v lt e hr =
+      let cs = columns m n s in
       written-at m n j r t v hj hr lt
       ∙ ap (λ (ds : Matrix). set ds j (set (column ds j) r v)) e
       ∙ ap (λ (d : Column). set (set cs j c) j (set d r v)) (getD-set-same cs j c [] (rw length-columns hj))
       ∙ set-set cs j c (set c r v)
 
-  written-three : (x y z : Float)
-      → columns m n (set (set (set s (j * m + (i + 1)) x) (j * m + (i + 2)) y) (j * m + (i + 3)) z) ≡ set cs j (set (set (set (column cs j) (i + 1) x) (i + 2) y) (i + 3) z)
-  written-three x y z =
-      let s1 = set s (j * m + (i + 1)) x in
-      let s2 = set s1 (j * m + (i + 2)) y in
-      let l1 : length s1 ≡ n * m = length-set s (j * m + (i + 1)) x ∙ len in
-      let l2 : length s2 ≡ n * m = length-set s1 (j * m + (i + 2)) y ∙ l1 in
-      let c1 = set (column cs j) (i + 1) x in
-      written-more s2 (set c1 (i + 2) y) (i + 3) z l2 (written-more s1 c1 (i + 2) y l1 (written-at m n j (i + 1) s x hj (omega arith) len) (omega arith)) (omega arith)
+  written-three : (p q r : ℕ) (x y z : Float) → p < m → q < m → r < m
+      → columns m n (set (set (set s (j * m + p) x) (j * m + q) y) (j * m + r) z) ≡ set (columns m n s) j (set (set (set (column (columns m n s) j) p x) q y) r z)
+  written-three p q r x y z hp hq hr =
+      let s1 = set s (j * m + p) x in
+      let l1 : length s1 ≡ n * m = length-set s (j * m + p) x ∙ len in
+      written-more _ _ r z (length-set s1 (j * m + q) y ∙ l1) (written-more s1 _ q y l1 (written-at m n j p s x hj hp len) hq) hr
+
+  pub written-four : (k : ℕ) (x : Four) → k + 4 ≤ m
+      → columns m n (set (set (set (set s (j * m + k) (x .first)) (j * m + (k + 1)) (x .second)) (j * m + (k + 2)) (x .third)) (j * m + (k + 3)) (x .fourth)) ≡ set (columns m n s) j (writtenFour k x (column (columns m n s) j))
+  unfolding writtenFour
+  written-four k x h = written-more _ _ (k + 3) (x .fourth) (simp length-set len) (written-three k (k + 1) (k + 2) (x .first) (x .second) (x .third) (omega arith) (omega arith) (omega arith)) (omega arith)
 
   -- THE HEAD: its three rows written
-  pub head-made :
-      let f0 = neg (at j i) in
-      let u1 = add binary64 (mul binary64 f0 (at i (i + 1))) (at j (i + 1)) in
+  pub head-made : (i : ℕ) → i + 4 ≤ m → i + 4 ≤ j →
+      let f0 = neg (at m n s j i) in
+      let u1 = add binary64 (mul binary64 f0 (at m n s i (i + 1))) (at m n s j (i + 1)) in
       let f1 = neg u1 in
-      let u2 = add binary64 (mul binary64 f1 (at (i + 1) (i + 2))) (add binary64 (mul binary64 f0 (at i (i + 2))) (at j (i + 2))) in
-      let u3 = add binary64 (mul binary64 (neg u2) (at (i + 2) (i + 3))) (add binary64 (mul binary64 f1 (at (i + 1) (i + 3))) (add binary64 (mul binary64 f0 (at i (i + 3))) (at j (i + 3)))) in
-      columns m n (set (set (set s (j * m + (i + 1)) u1) (j * m + (i + 2)) u2) (j * m + (i + 3)) u3) ≡ set cs j (headOf i cs (column cs j))
+      let u2 = add binary64 (mul binary64 f1 (at m n s (i + 1) (i + 2))) (add binary64 (mul binary64 f0 (at m n s i (i + 2))) (at m n s j (i + 2))) in
+      let u3 = add binary64 (mul binary64 (neg u2) (at m n s (i + 2) (i + 3))) (add binary64 (mul binary64 f1 (at m n s (i + 1) (i + 3))) (add binary64 (mul binary64 f0 (at m n s i (i + 3))) (at m n s j (i + 3)))) in
+      columns m n (set (set (set s (j * m + (i + 1)) u1) (j * m + (i + 2)) u2) (j * m + (i + 3)) u3) ≡ set (columns m n s) j (headOf i (columns m n s) (column (columns m n s) j))
   unfolding headOf plusProduct
-  head-made =
-      rw (is-at j i hj (omega arith), is-at i (i + 1) (omega arith) (omega arith), is-at j (i + 1) hj (omega arith), is-at (i + 1) (i + 2) (omega arith) (omega arith), is-at i (i + 2) (omega arith) (omega arith), is-at j (i + 2) hj (omega arith), is-at (i + 2) (i + 3) (omega arith) (omega arith), is-at (i + 1) (i + 3) (omega arith) (omega arith), is-at i (i + 3) (omega arith) (omega arith), is-at j (i + 3) hj (omega arith))
-      (written-three _ _ _)
+  head-made i four right =
+      let is = is-at m n s in
+      rw (is j i hj (omega arith), is i (i + 1) (omega arith) (omega arith), is j (i + 1) hj (omega arith), is (i + 1) (i + 2) (omega arith) (omega arith), is i (i + 2) (omega arith) (omega arith), is j (i + 2) hj (omega arith), is (i + 2) (i + 3) (omega arith) (omega arith), is (i + 1) (i + 3) (omega arith) (omega arith), is i (i + 3) (omega arith) (omega arith), is j (i + 3) hj (omega arith))
+      (written-three (i + 1) (i + 2) (i + 3) _ _ _ (omega arith) (omega arith) (omega arith))
 
-  -- THE ROWS BELOW: before the first
-  pub tail-start : set cs j (eachFrom (addFour i cs (neg (at j i)) (neg (at j (i + 1))) (neg (at j (i + 2))) (neg (at j (i + 3)))) (i + 4) (column cs j)) ≡ set cs j (tailOf i cs (column cs j))
-  unfolding tailOf
-  tail-start = rw (is-at j i hj (omega arith), is-at j (i + 1) hj (omega arith), is-at j (i + 2) hj (omega arith), is-at j (i + 3) hj (omega arith)) refl
-
-  -- the columns left of column j stay
-  pub tail-left : (ds : Matrix) → ((k : ℕ) → k < j → column cs k ≡ column ds k) → (k : ℕ) (v : Float) → k < m → (c : ℕ) → c < j → column (columns m n (set s (j * m + k) v)) c ≡ column ds c
-  tail-left ds same k v hk c h = ap (λ (es : Matrix). column es c) (written-at m n j k s v hj hk len) ∙ getD-set-other cs j c _ [] (λ e. omega arith) ∙ same c h
-
-  -- one turn, the four columns being those of ds
-  module _ (ds : Matrix) (same : (k : ℕ) → k < j → column cs k ≡ column ds k) (f0 f1 f2 f3 : Float) where
-    pub tail-turn : (k : ℕ) → k < m →
-        let t = set s (j * m + k) (add binary64 (mul binary64 f3 (at (i + 3) k)) (add binary64 (mul binary64 f2 (at (i + 2) k)) (add binary64 (mul binary64 f1 (at (i + 1) k)) (add binary64 (mul binary64 f0 (at i k)) (at j k))))) in
-        set (columns m n t) j (eachFrom (addFour i ds f0 f1 f2 f3) (k + 1) (column (columns m n t) j)) ≡ set cs j (eachFrom (addFour i ds f0 f1 f2 f3) k (column cs j))
-    unfolding addFour plusProduct
-    tail-turn k hk =
-        let next : Column = set (column cs j) k (addFour i ds f0 f1 f2 f3 k (entry (column cs j) k)) in
-        ap (λ (es : Matrix). set es j (eachFrom (addFour i ds f0 f1 f2 f3) (k + 1) (column es j))) (written-at m n j k s _ hj hk len ∙ ap (λ (v : Float). set cs j (set (column cs j) k v)) number)
-        ∙ ap (λ (c : Column). set (set cs j next) j (eachFrom (addFour i ds f0 f1 f2 f3) (k + 1) c)) (getD-set-same cs j next [] (rw length-columns hj))
-        ∙ set-set cs j next _
-        ∙ ap (set cs j) (each-step (addFour i ds f0 f1 f2 f3) k (column cs j) nan (rw (columns-rows m n s len j (rw length-columns hj)) hk))
-      where
-        number : add binary64 (mul binary64 f3 (at (i + 3) k)) (add binary64 (mul binary64 f2 (at (i + 2) k)) (add binary64 (mul binary64 f1 (at (i + 1) k)) (add binary64 (mul binary64 f0 (at i k)) (at j k))))
-            ≡ addFour i ds f0 f1 f2 f3 k (entry (column cs j) k)
-        number =
-            rw (is-at (i + 3) k (omega arith) hk, is-at (i + 2) k (omega arith) hk, is-at (i + 1) k (omega arith) hk, is-at i k (omega arith) hk, is-at j k hj hk, same (i + 3) (omega arith), same (i + 2) (omega arith), same (i + 1) (omega arith), same i (omega arith)) refl
-
-    pub tail-stop : (k : ℕ) → m ≤ k → cs ≡ set cs j (eachFrom (addFour i ds f0 f1 f2 f3) k (column cs j))
-    tail-stop k h = sym (ap (set cs j) (each-stop _ k (column cs j) (rw (columns-rows m n s len j (rw length-columns hj)) h)) ∙ set-getD cs j [])
-
-  -- ---- the head, then the rows below it, are the four steps
-  full : (k : ℕ) → k < n → length (column cs k) ≡ m
-  full k h = columns-rows m n s len k (rw length-columns h)
-
-  pub both-made : (t u : List Float) → columns m n t ≡ set cs j (headOf i cs (column cs j))
-      → columns m n u ≡ set (columns m n t) j (tailOf i (columns m n t) (column (columns m n t) j)) → columns m n u ≡ set cs j (fourSteps i cs (column cs j))
+-- ---- what is left of a column, the columns of the steps being those that it reads
+module _ (i : ℕ) where
+  tail-by : (k : ℕ) (a b : Matrix) (c : Column) → ((q : ℕ) → q < i + 4 → column a q ≡ column b q) → tailOf i k a c ≡ tailOf i k b c
   unfolding tailOf addFour
-  both-made t u eh et =
-      let h = headOf i cs (column cs j) in
-      et
-      ∙ ap (λ (ds : Matrix). set ds j (tailOf i ds (column ds j))) eh
-      ∙ ap (λ (c : Column). set (set cs j h) j (tailOf i (set cs j h) c)) (getD-set-same cs j h [] (rw length-columns hj))
-      ∙ set-set cs j h _
-      ∙ ap (set cs j) (others h ∙ four-rows i m cs (column cs j) four (full j hj) (λ k l. full k (omega arith)))
+  tail-by k a b c e = each-same _ _ k c (λ r v l t. rw (e i (omega arith), e (i + 1) (omega arith), e (i + 2) (omega arith), e (i + 3) (omega arith)) refl)
+
+  head-by : (a b : Matrix) (c : Column) → ((q : ℕ) → q < i + 4 → column a q ≡ column b q) → headOf i a c ≡ headOf i b c
+  unfolding headOf
+  head-by a b c e = rw (e i (omega arith), e (i + 1) (omega arith), e (i + 2) (omega arith)) refl
+
+  minus-set : (c : Column) (k : ℕ) (v : Float) → i + 4 ≤ k → minusOf i (set c k v) ≡ minusOf i c
+  unfolding minusOf
+  minus-set c k v h = rw (getD-set-other c k i v nan (λ e. omega arith), getD-set-other c k (i + 1) v nan (λ e. omega arith), getD-set-other c k (i + 2) v nan (λ e. omega arith), getD-set-other c k (i + 3) v nan (λ e. omega arith)) refl
+
+  minus-four : (c : Column) (k : ℕ) (x : Four) → i + 4 ≤ k → minusOf i (writtenFour k x c) ≡ minusOf i c
+  unfolding writtenFour
+  minus-four c k x h = minus-set _ (k + 3) _ (omega arith) ∙ minus-set _ (k + 2) _ (omega arith) ∙ minus-set _ (k + 1) _ (omega arith) ∙ minus-set c k _ h
+
+  -- a row written, as it is after the steps
+  row-step : (cs : Matrix) (c : Column) (k next : ℕ) (v : Float) → next ≡ k + 1 → i + 4 ≤ k → k < length c → v ≡ addFour i cs (minusOf i c) k (entry c k) → tailOf i next cs (set c k v) ≡ tailOf i k cs c
+  unfolding tailOf
+  row-step cs c k next v n h hk e = rw (n, e, minus-set c k (addFour i cs (minusOf i c) k (entry c k)) h) (each-step (addFour i cs (minusOf i c)) k c nan hk)
+
+  -- four rows written, as they are
+  four-step : (cs : Matrix) (c : Column) (k : ℕ) → i + 4 ≤ k → k + 4 ≤ length c → tailOf i (k + 4) cs (writtenFour k (fourRows i cs (minusOf i c) k c) c) ≡ tailOf i k cs c
+  unfolding writtenFour fourRows
+  four-step cs c k h hk =
+      let after : ℕ → Float = λ r. addFour i cs (minusOf i c) r (entry c r) in
+      let c1 = set c k (after k) in
+      let c2 = set c1 (k + 1) (after (k + 1)) in
+      let c3 = set c2 (k + 2) (after (k + 2)) in
+      let l1 = length-set c k (after k) in
+      let l2 = length-set c1 (k + 1) (after (k + 1)) ∙ l1 in
+      let l3 = length-set c2 (k + 2) (after (k + 2)) ∙ l2 in
+      let m1 = minus-set c k (after k) h in
+      let m2 = minus-set c1 (k + 1) (after (k + 1)) (omega arith) ∙ m1 in
+      let m3 = minus-set c2 (k + 2) (after (k + 2)) (omega arith) ∙ m2 in
+      row-step cs c3 (k + 3) (k + 4) (after (k + 3)) (omega arith) (omega arith) (omega arith)
+      (same c3 (k + 3) m3 (getD-set-other c2 (k + 2) (k + 3) _ nan (λ e. omega arith) ∙ getD-set-other c1 (k + 1) (k + 3) _ nan (λ e. omega arith) ∙ getD-set-other c k (k + 3) _ nan (λ e. omega arith)))
+      ∙ row-step cs c2 (k + 2) (k + 3) (after (k + 2)) (omega arith) (omega arith) (omega arith)
+      (same c2 (k + 2) m2 (getD-set-other c1 (k + 1) (k + 2) _ nan (λ e. omega arith) ∙ getD-set-other c k (k + 2) _ nan (λ e. omega arith)))
+      ∙ row-step cs c1 (k + 1) (k + 2) (after (k + 1)) (omega arith) (omega arith) (omega arith) (same c1 (k + 1) m1 (getD-set-other c k (k + 1) _ nan (λ e. omega arith)))
+      ∙ row-step cs c k (k + 1) (after k) refl h (omega arith) refl
     where
-      others : (h : Column) → tailOf i (set cs j h) h ≡ tailOf i cs h
-      others h =
-          each-same _ _ (i + 4) h
-          (λ r v l t. rw (getD-set-other cs j i h [] (λ e. omega arith), getD-set-other cs j (i + 1) h [] (λ e. omega arith), getD-set-other cs j (i + 2) h [] (λ e. omega arith), getD-set-other cs j (i + 3) h [] (λ e. omega arith)) refl)
+      same : (d : Column) (r : ℕ) → minusOf i d ≡ minusOf i c → entry d r ≡ entry c r → addFour i cs (minusOf i c) r (entry c r) ≡ addFour i cs (minusOf i d) r (entry d r)
+      same d r e v = rw (e, v) refl
+
+  -- ---- in a matrix: columns right of the steps' put in
+  module _ (j : ℕ) (cs ds : Matrix) (right : i + 4 ≤ j) where
+    put-one : (k : ℕ) (c : Column) → j < length cs → ds ≡ set cs j c → tailLeft i j k ds ≡ set cs j (tailOf i k cs c)
+    unfolding tailLeft
+    put-one k c hj e =
+        ap (tailLeft i j k) e
+        ∙ ap (λ (d : Column). set (set cs j c) j (tailOf i k (set cs j c) d)) (getD-set-same cs j c [] hj)
+        ∙ set-set cs j c _
+        ∙ ap (set cs j) (tail-by k (set cs j c) cs c (λ q l. getD-set-other cs j q c [] (λ e. omega arith)))
+
+    put-two : (k : ℕ) (c d : Column) → j + 1 < length cs → ds ≡ set (set cs j c) (j + 1) d → tailsLeft i j k ds ≡ set (set cs j (tailOf i k cs c)) (j + 1) (tailOf i k cs d)
+    unfolding tailsLeft setTwo
+    put-two k c d hj e =
+        let es = set (set cs j c) (j + 1) d in
+        let by : (q : ℕ) → q < i + 4 → column es q ≡ column cs q = λ q l. getD-set-other (set cs j c) (j + 1) q d [] (λ e. omega arith) ∙ getD-set-other cs j q c [] (λ e. omega arith) in
+        ap (tailsLeft i j k) e
+        ∙ ap₂ (λ (a b : Column). set (set es j (tailOf i k es a)) (j + 1) (tailOf i k es b))
+        (getD-set-other (set cs j c) (j + 1) j d [] (λ e. omega arith) ∙ getD-set-same cs j c [] (omega arith)) (getD-set-same (set cs j c) (j + 1) d [] (rw length-set hj))
+        ∙ ap (λ (fs : Matrix). set fs (j + 1) (tailOf i k es d)) (set-comm (set cs j c) (j + 1) j d (tailOf i k es c) (λ e. omega arith) ∙ ap (λ (fs : Matrix). set fs (j + 1) d) (set-set cs j c (tailOf i k es c)))
+        ∙ set-set (set cs j (tailOf i k es c)) (j + 1) d (tailOf i k es d)
+        ∙ ap₂ (λ (a b : Column). set (set cs j a) (j + 1) b) (tail-by k es cs c by) (tail-by k es cs d by)
+
+-- ---- column j, or the columns j and j + 1, with rows written: what is left, and minus the numbers that the steps multiply by
+module _ (i j m n : ℕ) (s t : List Float) (len : length s ≡ n * m) (right : i + 4 ≤ j) where
+  abbrev cs : Matrix
+  cs = columns m n s
+
+  module _ (k : ℕ) (f : Four) (below : i + 4 ≤ k) (hj : j < n) (is : f ≡ minusOf i (column cs j)) where
+    hc : j < length cs
+    hc = rw length-columns hj
+
+    pub row-left : (v : Float) → k < m → v ≡ addFour i cs f k (entry (column cs j) k) → columns m n t ≡ set cs j (set (column cs j) k v) → tailLeft i j (k + 1) (columns m n t) ≡ tailLeft i j k cs
+    unfolding tailLeft
+    row-left v hk e made =
+        put-one i j cs (columns m n t) right (k + 1) _ hc made
+        ∙ ap (set cs j) (row-step i cs (column cs j) k (k + 1) v refl below (rw (full m n s j len hj) hk) (e ∙ ap (λ (g : Four). addFour i cs g k (entry (column cs j) k)) is))
+
+    pub row-minus : (v : Float) → columns m n t ≡ set cs j (set (column cs j) k v) → f ≡ minusOf i (column (columns m n t) j)
+    row-minus v made = is ∙ sym (minus-set i (column cs j) k v below) ∙ ap (minusOf i) (sym (ap (λ (ds : Matrix). column ds j) made ∙ getD-set-same cs j _ [] hc))
+
+    four-minus : (x : Four) → columns m n t ≡ set cs j (writtenFour k x (column cs j)) → f ≡ minusOf i (column (columns m n t) j)
+    four-minus x made = is ∙ sym (minus-four i (column cs j) k x below) ∙ ap (minusOf i) (sym (ap (λ (ds : Matrix). column ds j) made ∙ getD-set-same cs j _ [] hc))
+
+-- four rows of column j written, then of column j + 1, all read before
+module _ (i j k m n : ℕ) (s t u : List Float) (f g x y : Four) (len : length s ≡ n * m) (right : i + 4 ≤ j) (below : i + 4 ≤ k) (hj : j + 1 < n) (hk : k + 4 ≤ m)
+    (first-is : f ≡ minusOf i (column (columns m n s) j)) (second-is : g ≡ minusOf i (column (columns m n s) (j + 1)))
+    (first-made : columns m n t ≡ set (columns m n s) j (writtenFour k x (column (columns m n s) j)))
+    (second-made : columns m n u ≡ set (columns m n t) (j + 1) (writtenFour k y (column (columns m n t) (j + 1)))) where
+  -- the second column is the same before and after the first is written
+  second-kept : column (columns m n t) (j + 1) ≡ column (columns m n s) (j + 1)
+  second-kept = ap (λ (ds : Matrix). column ds (j + 1)) first-made ∙ getD-set-other (columns m n s) j (j + 1) _ [] (λ e. omega arith)
+
+  pub two-first : f ≡ minusOf i (column (columns m n u) j)
+  two-first =
+      four-minus i j m n s t len right k f below (omega arith) first-is x first-made
+      ∙ ap (minusOf i) (sym (ap (λ (ds : Matrix). column ds j) second-made ∙ getD-set-other (columns m n t) (j + 1) j _ [] (λ e. omega arith)))
+
+  pub two-second : g ≡ minusOf i (column (columns m n u) (j + 1))
+  two-second =
+      second-is ∙ ap (minusOf i) (sym second-kept) ∙ sym (minus-four i (column (columns m n t) (j + 1)) k y below)
+      ∙ ap (minusOf i) (sym (ap (λ (ds : Matrix). column ds (j + 1)) second-made ∙ getD-set-same (columns m n t) (j + 1) _ [] (rw length-columns hj)))
+
+  pub two-left : x ≡ fourRows i (columns m n s) f k (column (columns m n s) j) → y ≡ fourRows i (columns m n s) g k (column (columns m n s) (j + 1))
+      → tailsLeft i j (k + 4) (columns m n u) ≡ tailsLeft i j k (columns m n s)
+  unfolding tailsLeft setTwo
+  two-left ex ey =
+      let cs = columns m n s in
+      put-two i j cs (columns m n u) right (k + 4) (writtenFour k x (column cs j)) (writtenFour k y (column cs (j + 1))) (rw length-columns hj)
+      (second-made ∙ ap₂ (λ (ds : Matrix) (c : Column). set ds (j + 1) (writtenFour k y c)) first-made second-kept)
+      ∙ ap₂ (λ (a b : Four). set (set cs j (tailOf i (k + 4) cs (writtenFour k a (column cs j)))) (j + 1) (tailOf i (k + 4) cs (writtenFour k b (column cs (j + 1)))))
+      (ex ∙ ap (λ (h : Four). fourRows i cs h k (column cs j)) first-is) (ey ∙ ap (λ (h : Four). fourRows i cs h k (column cs (j + 1))) second-is)
+      ∙ ap₂ (λ (a b : Column). set (set cs j a) (j + 1) b)
+      (four-step i cs (column cs j) k below (rw (full m n s j len (omega arith)) hk)) (four-step i cs (column cs (j + 1)) k below (rw (full m n s (j + 1) len hj) hk))
+
+-- ---- the head, then the rows below it, are the four steps
+-- a column with nothing left
+pub none-left : (i j k m n : ℕ) (s : List Float) → length s ≡ n * m → j < n → m ≤ k → columns m n s ≡ tailLeft i j k (columns m n s)
+unfolding tailLeft tailOf
+none-left i j k m n s len hj h = sym (ap (set (columns m n s) j) (each-stop _ k _ (rw (full m n s j len hj) h)) ∙ set-getD (columns m n s) j [])
+
+module _ (i j m n : ℕ) (s : List Float) (len : length s ≡ n * m) (four : i + 4 ≤ m) (right : i + 4 ≤ j) where
+  by-rows : (q : ℕ) → j ≤ q → q < n → tailOf i (i + 4) (columns m n s) (headOf i (columns m n s) (column (columns m n s) q)) ≡ fourSteps i (columns m n s) (column (columns m n s) q)
+  by-rows q h hq = four-rows i m (columns m n s) (column (columns m n s) q) four (full m n s q len hq) (λ k l. full m n s k len (omega arith))
+
+  pub one-made : (t u : List Float) → j < n → columns m n t ≡ set (columns m n s) j (headOf i (columns m n s) (column (columns m n s) j)) → columns m n u ≡ tailLeft i j (i + 4) (columns m n t)
+      → columns m n u ≡ set (columns m n s) j (fourSteps i (columns m n s) (column (columns m n s) j))
+  one-made t u hj eh et = et ∙ put-one i j (columns m n s) (columns m n t) right (i + 4) _ (rw length-columns hj) eh ∙ ap (set (columns m n s) j) (by-rows j (omega arith) hj)
+
+  pub two-made : (k : ℕ) (t t' u v w : List Float) → j + 1 < n → columns m n t ≡ set (columns m n s) j (headOf i (columns m n s) (column (columns m n s) j))
+      → columns m n t' ≡ set (columns m n t) (j + 1) (headOf i (columns m n t) (column (columns m n t) (j + 1)))
+      → tailsLeft i j k (columns m n u) ≡ tailsLeft i j (i + 4) (columns m n t') → columns m n v ≡ tailLeft i j k (columns m n u) → columns m n w ≡ tailLeft i (j + 1) k (columns m n v)
+      → columns m n w ≡ setTwo j (fourSteps i (columns m n s)) (columns m n s)
+  unfolding setTwo tailLeft tailsLeft
+  two-made k t t' u v w hj eh eh' er el el' =
+      let cs = columns m n s in
+      let us = columns m n u in
+      let done = set us j (tailOf i k us (column us j)) in
+      el'
+      ∙ ap (tailLeft i (j + 1) k) el
+      ∙ ap (set done (j + 1)) (ap (tailOf i k done) (getD-set-other us j (j + 1) _ [] (λ e. omega arith)) ∙ tail-by i k done us _ (λ q l. getD-set-other us j q _ [] (λ e. omega arith)))
+      ∙ er
+      ∙ put-two i j cs (columns m n t') right (i + 4) (headOf i cs (column cs j)) (headOf i cs (column cs (j + 1))) (rw length-columns hj)
+      (eh' ∙ ap₂ (λ (ds : Matrix) (c : Column). set ds (j + 1) c) eh (ap (headOf i (columns m n t)) (kept (j + 1) (λ e. omega arith)) ∙ head-by i (columns m n t) cs _ (λ q l. kept q (λ e. omega arith))))
+      ∙ ap₂ (λ (a b : Column). set (set cs j a) (j + 1) b) (by-rows j (omega arith) (omega arith)) (by-rows (j + 1) (omega arith) hj)
+    where
+      kept : (q : ℕ) → (q ≡ j → ⊥) → column (columns m n t) q ≡ column (columns m n s) q
+      kept q apart = ap (λ (ds : Matrix). column ds q) eh ∙ getD-set-other (columns m n s) j q _ [] apart
 
 length-four : (i : ℕ) (cs : Matrix) (c : Column) → length (fourSteps i cs c) ≡ length c
 unfolding fourSteps
@@ -124,16 +247,33 @@ four-same : (i : ℕ) (a b : Matrix) (c : Column) → ((k : ℕ) → k < i + 4 �
 unfolding fourSteps stepBy
 four-same i a b c e = rw (e i (omega arith), e (i + 1) (omega arith), e (i + 2) (omega arith), e (i + 3) (omega arith)) refl
 
--- one turn: column j was stepped, the columns left of it being those of ds as far as they are read
-module _ (i j m n : ℕ) (s t : List Float) (ds : Matrix) (right : i + 4 ≤ j) (hj : j < n) (same : (k : ℕ) → k < i + 4 → column (columns m n s) k ≡ column ds k)
-    (made : columns m n t ≡ set (columns m n s) j (fourSteps i (columns m n s) (column (columns m n s) j))) where
-  pub step-turn : eachFrom (λ k c. fourSteps i ds c) (j + 1) (columns m n t) ≡ eachFrom (λ k c. fourSteps i ds c) j (columns m n s)
-  step-turn =
-      ap (eachFrom (λ k c. fourSteps i ds c) (j + 1)) (made ∙ ap (set (columns m n s) j) (four-same i (columns m n s) ds (column (columns m n s) j) same))
-      ∙ each-step (λ k c. fourSteps i ds c) j (columns m n s) [] (rw length-columns hj)
+module _ (i j m n : ℕ) (s t : List Float) (right : i + 4 ≤ j) where
+  pub one-onward : j < n → columns m n t ≡ set (columns m n s) j (fourSteps i (columns m n s) (column (columns m n s) j)) → Onward i j (columns m n s) (j + 1) (columns m n t)
+  one-onward hj made =
+      record {
+        kept = λ k h. ap (λ (ds : Matrix). column ds k) made ∙ getD-set-other (columns m n s) j k _ [] (λ e. omega arith);
+        whole = ap (eachFrom (λ k c. fourSteps i (columns m n s) c) (j + 1)) made ∙ each-step (λ k c. fourSteps i (columns m n s) c) j (columns m n s) [] (rw length-columns hj);
+      }
 
-  pub step-left : (k : ℕ) → k < i + 4 → column (columns m n t) k ≡ column ds k
-  step-left k h = ap (λ (es : Matrix). column es k) made ∙ getD-set-other (columns m n s) j k _ [] (λ e. omega arith) ∙ same k h
+  pub two-onward : j + 1 < n → columns m n t ≡ setTwo j (fourSteps i (columns m n s)) (columns m n s) → Onward i j (columns m n s) (j + 2) (columns m n t)
+  unfolding setTwo
+  two-onward hj made =
+      let cs = columns m n s in
+      let one = set cs j (fourSteps i cs (column cs j)) in
+      let other = getD-set-other cs j (j + 1) (fourSteps i cs (column cs j)) [] (λ e. omega arith) in
+      let next : j + 2 ≡ j + 1 + 1 = omega arith in
+      record {
+        kept = λ k h. ap (λ (ds : Matrix). column ds k) made ∙ getD-set-other one (j + 1) k _ [] (λ e. omega arith) ∙ getD-set-other cs j k _ [] (λ e. omega arith);
+        whole =
+            ap₂ (λ (r : ℕ) (ds : Matrix). eachFrom (λ k c. fourSteps i cs c) r ds) next (made ∙ ap (λ (c : Column). set one (j + 1) (fourSteps i cs c)) (sym other))
+            ∙ each-step (λ k c. fourSteps i cs c) (j + 1) one [] (rw (length-set, length-columns) hj)
+            ∙ each-step (λ k c. fourSteps i cs c) j cs [] (rw length-columns (omega arith));
+      }
+
+-- a turn of the loop over the columns, those of the steps being as in ds
+pub onward-turn : (i j r : ℕ) (cs cs' ds : Matrix) → Onward i j cs r cs' → ((k : ℕ) → k < i + 4 → column cs k ≡ column ds k) → eachFrom (λ k c. fourSteps i ds c) r cs' ≡ eachFrom (λ k c. fourSteps i ds c) j cs
+onward-turn i j r cs cs' ds on same =
+    each-same _ _ r cs' (λ k c h l. sym (four-same i cs ds c same)) ∙ on .whole ∙ each-same _ _ j cs (λ k c h l. four-same i cs ds c same)
 
 module _ (i from m n : ℕ) (s : List Float) where
   pub stepped-is : i + 4 ≤ m → i + 4 ≤ from → fourStepped m i from (columns m n s) ≡ eachFrom (λ j c. fourSteps i (columns m n s) c) from (columns m n s)
@@ -153,4 +293,32 @@ module _ (i from m n : ℕ) (s : List Float) where
       ap (columns m n) made
       ∙ on-columns m n (fourStepped m i from) s fits (ap length is ∙ length-each _ from cs ∙ length-columns m n s)
       (rw is (each-rows m (λ j c. fourSteps i cs c) from cs (λ j c l. length-four i cs c ∙ l) (columns-rows m n s (sized m n s fits .size))))
+      ∙ is
+
+-- column j alone
+module _ (i j m n : ℕ) (s : List Float) where
+  pub on-is : i + 4 ≤ m → i + 4 ≤ j → fourSteppedOn m i j (columns m n s) ≡ set (columns m n s) j (fourSteps i (columns m n s) (column (columns m n s) j))
+  unfolding fourSteppedOn
+  on-is hm hj = rw (le-leb (i + 4) (min m j) (omega arith))
+
+  pub not-on : (i + 4 ≤ min m j → ⊥) → columns m n s ≡ fourSteppedOn m i j (columns m n s)
+  unfolding fourSteppedOn
+  not-on out = cond-cases (λ (x : Matrix). columns m n s ≡ x) (leb (i + 4) (min m j)) (λ t. absurd (out (leb-true (i + 4) (min m j) t))) (λ t. refl)
+
+  -- no such column
+  pub none-on : n ≤ j → columns m n s ≡ fourSteppedOn m i j (columns m n s)
+  unfolding fourSteppedOn
+  none-on out = cond-cases (λ (x : Matrix). columns m n s ≡ x) (leb (i + 4) (min m j)) (λ t. sym (set-out (columns m n s) j _ (rw length-columns out))) (λ t. refl)
+
+  -- THE LAW of the call, for those above
+  pub on-column : (t : List Float) → isMatrix m n s ≡ true → i + 4 ≤ m → i + 4 ≤ j → j < n → t ≡ onColumns m n (fourSteppedOn m i j) s
+      → columns m n t ≡ set (columns m n s) j (fourSteps i (columns m n s) (column (columns m n s) j))
+  on-column t fits hm right hj made =
+      let cs = columns m n s in
+      let len = sized m n s fits .size in
+      let is = on-is hm right in
+      ap (columns m n) made
+      ∙ on-columns m n (fourSteppedOn m i j) s fits (ap length is ∙ length-set cs j _ ∙ length-columns m n s)
+      (rw is (λ k h. set-cases (λ (x : Column). length x ≡ m) cs j k (fourSteps i cs (column cs j)) [] (rw length-columns hj) (λ e. length-four i cs (column cs j) ∙ full m n s j len hj)
+      (λ d. full m n s k len (omega (arith, h, length-set cs j (fourSteps i cs (column cs j)), length-columns m n s)))))
       ∙ is

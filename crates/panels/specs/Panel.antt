@@ -1,6 +1,7 @@
 -- Four steps of the elimination on columns right of theirs: document 01, "Elimination", step 5, four times. And the same row by row, as the code goes.
+use mathlib.Core.Path.{_≡_}
 use mathlib.Core.Bool.{cond}
-use Prim.Native.Nat.{ℕ, _+_, min}
+use Prim.Native.Nat.{ℕ, _+_, _<_, min}
 use lib.Dec.{leb}
 use lib.ListN.{set}
 use lib.Ieee.{Float, neg}
@@ -8,6 +9,7 @@ use Rattle.blas.specs.Each.{eachFrom}
 use Rattle.blas.specs.Numbers.{plusProduct}
 use Rattle.blas.specs.Column.{Column, entry}
 use Rattle.store.specs.Steps.{Matrix, column, stepColumn}
+use Rattle.panels.specs.declared.Four.{Four}
 
 -- step 5 of step k, the multipliers being those of column k
 unfoldable pub stepBy : Matrix → ℕ → Column → Column
@@ -20,6 +22,10 @@ fourSteps i cs c = stepBy cs (i + 3) (stepBy cs (i + 2) (stepBy cs (i + 1) (step
 -- that for each column from column `from` on of a matrix with m rows, where these lie right of those four and row i + 3 is there
 unfoldable pub fourStepped : ℕ → ℕ → ℕ → Matrix → Matrix
 fourStepped m i from cs = cond (leb (i + 4) (min m from)) (eachFrom (λ j c. fourSteps i cs c) from cs) cs
+
+-- that for column j alone
+unfoldable pub fourSteppedOn : ℕ → ℕ → ℕ → Matrix → Matrix
+fourSteppedOn m i j cs = cond (leb (i + 4) (min m j)) (set cs j (fourSteps i cs (column cs j))) cs
 
 -- ---- row by row
 
@@ -37,11 +43,41 @@ headOf i cs c =
     let u3 = plusProduct (neg u2) (multiplier cs (i + 2) (i + 3)) (plusProduct f1 (multiplier cs (i + 1) (i + 3)) (plusProduct f0 (multiplier cs i (i + 3)) (entry c (i + 3)))) in
     set (set (set c (i + 1) u1) (i + 2) u2) (i + 3) u3
 
--- the number v of row r after four steps, f0 to f3 being minus the numbers of the rows i to i + 3
-unfoldable pub addFour : ℕ → Matrix → Float → Float → Float → Float → ℕ → Float → Float
-addFour i cs f0 f1 f2 f3 r v =
-    plusProduct f3 (multiplier cs (i + 3) r) (plusProduct f2 (multiplier cs (i + 2) r) (plusProduct f1 (multiplier cs (i + 1) r) (plusProduct f0 (multiplier cs i r) v)))
+-- minus the numbers of the rows i to i + 3: what the four steps multiply by
+unfoldable pub minusOf : ℕ → Column → Four
+minusOf i c = record { first = neg (entry c i); second = neg (entry c (i + 1)); third = neg (entry c (i + 2)); fourth = neg (entry c (i + 3)) }
 
--- and the rows below them
-unfoldable pub tailOf : ℕ → Matrix → Column → Column
-tailOf i cs c = eachFrom (addFour i cs (neg (entry c i)) (neg (entry c (i + 1))) (neg (entry c (i + 2))) (neg (entry c (i + 3)))) (i + 4) c
+-- the number v of row r after four steps, by those numbers
+unfoldable pub addFour : ℕ → Matrix → Four → ℕ → Float → Float
+addFour i cs f r v =
+    plusProduct (f .fourth) (multiplier cs (i + 3) r) (plusProduct (f .third) (multiplier cs (i + 2) r) (plusProduct (f .second) (multiplier cs (i + 1) r) (plusProduct (f .first) (multiplier cs i r) v)))
+
+-- the numbers of the rows k to k + 3 after four steps
+unfoldable pub fourRows : ℕ → Matrix → Four → ℕ → Column → Four
+fourRows i cs f k c =
+    let after : ℕ → Float = λ r. addFour i cs f r (entry c r) in
+    record { first = after k; second = after (k + 1); third = after (k + 2); fourth = after (k + 3) }
+
+-- the column with four numbers written from row k on
+unfoldable pub writtenFour : ℕ → Four → Column → Column
+writtenFour k x c = set (set (set (set c k (x .first)) (k + 1) (x .second)) (k + 2) (x .third)) (k + 3) (x .fourth)
+
+-- the column with its rows from row k on done, those above being done
+unfoldable pub tailOf : ℕ → ℕ → Matrix → Column → Column
+tailOf i k cs c = eachFrom (addFour i cs (minusOf i c)) k c
+
+-- ---- while column j, or the columns j and j + 1, are worked on: the matrix with what is left of them, from row k on, done
+unfoldable pub tailLeft : ℕ → ℕ → ℕ → Matrix → Matrix
+tailLeft i j k cs = set cs j (tailOf i k cs (column cs j))
+
+-- f of the columns j and j + 1
+unfoldable pub setTwo : ℕ → (Column → Column) → Matrix → Matrix
+setTwo j f cs = set (set cs j (f (column cs j))) (j + 1) (f (column cs (j + 1)))
+
+unfoldable pub tailsLeft : ℕ → ℕ → ℕ → Matrix → Matrix
+tailsLeft i j k cs = setTwo j (tailOf i k cs) cs
+
+-- from column j to column r the four steps were made: the columns of the steps are as they were, and the columns from r on, when done, give the whole
+pub record Onward (i j : ℕ) (cs : Matrix) (r : ℕ) (cs' : Matrix) : Type 0 where
+  pub kept : (k : ℕ) → k < i + 4 → column cs' k ≡ column cs k
+  pub whole : eachFrom (λ k c. fourSteps i cs c) r cs' ≡ eachFrom (λ k c. fourSteps i cs c) j cs

@@ -6,7 +6,16 @@ ghost use Prim.Native.Nat.{_+_, _≤_, _<_};
 ghost use lib.ListN.{set};
 ghost use Rattle.store.specs.Columns.{columns, isMatrix, onColumns};
 ghost use Rattle.store.specs.Steps.{column};
-ghost use Rattle.panels.specs.Panel.{headOf, tailOf, fourSteps, fourStepped};
+ghost use Rattle.blas.specs.Column.{entry};
+ghost use Rattle.panels.specs.Panel.{headOf, minusOf, addFour, fourRows, writtenFour, tailLeft, tailsLeft, setTwo, Onward, fourSteps, fourStepped, fourSteppedOn};
+
+// The numbers of four rows of a column, from above down.
+struct Four {
+    first: f64,
+    second: f64,
+    third: f64,
+    fourth: f64,
+}
 
 // The rows i + 1 to i + 3 of column j after the four steps.
 fn head(s: &mut [f64], m: usize, n: usize, i: usize, j: usize)
@@ -33,29 +42,130 @@ fn head(s: &mut [f64], m: usize, n: usize, i: usize, j: usize)
     s[b + r3] = u3;
 }
 
-// The rows below them, those being done.
-fn tail(s: &mut [f64], m: usize, n: usize, i: usize, j: usize)
-    requires { ⌜ (isMatrix m n (now s) ≡ true) × (i + 4 ≤ m) × (i + 4 ≤ j) × (j < n) ⌝ }
-    ensures { λ _. ⌜ columns m n (now (s .exit)) ≡ set (columns m n (now (s .entry))) j (tailOf i (columns m n (now (s .entry))) (column (columns m n (now (s .entry))) j)) ⌝ }
+// Minus the numbers of the rows i to i + 3 of column j: what its steps multiply by.
+fn minus(s: &[f64], m: usize, n: usize, i: usize, j: usize) -> Four
+    requires { ⌜ (isMatrix m n (now s) ≡ true) × (i + 4 ≤ m) × (j < n) ⌝ }
+    ensures { λ f. ⌜ f ≡ minusOf i (column (columns m n (now (s .entry))) j) ⌝ }
 {
     let r1 = i + 1;
     let r2 = i + 2;
     let r3 = i + 3;
-    let a0 = i * m;
-    let a1 = r1 * m;
-    let a2 = r2 * m;
-    let a3 = r3 * m;
     let b = j * m;
-    let f0 = -s[b + i];
-    let f1 = -s[b + r1];
-    let f2 = -s[b + r2];
-    let f3 = -s[b + r3];
+    Four {
+        first: -s[b + i],
+        second: -s[b + r1],
+        third: -s[b + r2],
+        fourth: -s[b + r3],
+    }
+}
+
+// Row r of column j after the steps, f being what they multiply by.
+fn number(s: &[f64], m: usize, n: usize, i: usize, f: Four, j: usize, r: usize) -> f64
+    requires { ⌜ (isMatrix m n (now s) ≡ true) × (i + 4 ≤ j) × (j < n) × (r < m) ⌝ }
+    ensures { λ x. ⌜ x ≡ addFour i (columns m n (now (s .entry))) f r (entry (column (columns m n (now (s .entry))) j) r) ⌝ }
+{
+    let a0 = i * m;
+    let a1 = (i + 1) * m;
+    let a2 = (i + 2) * m;
+    let a3 = (i + 3) * m;
+    let b = j * m;
+    let v1 = f.first * s[a0 + r] + s[b + r];
+    let v2 = f.second * s[a1 + r] + v1;
+    let v3 = f.third * s[a2 + r] + v2;
+    f.fourth * s[a3 + r] + v3
+}
+
+// The rows k to k + 3 in the same way.
+fn numbers(s: &[f64], m: usize, n: usize, i: usize, f: Four, j: usize, k: usize) -> Four
+    requires { ⌜ (isMatrix m n (now s) ≡ true) × (i + 4 ≤ j) × (j < n) × (k + 4 ≤ m) ⌝ }
+    ensures { λ x. ⌜ x ≡ fourRows i (columns m n (now (s .entry))) f k (column (columns m n (now (s .entry))) j) ⌝ }
+{
+    let first = number(s, m, n, i, f, j, k);
+    let second = number(s, m, n, i, f, j, k + 1);
+    let third = number(s, m, n, i, f, j, k + 2);
+    let fourth = number(s, m, n, i, f, j, k + 3);
+    Four {
+        first,
+        second,
+        third,
+        fourth,
+    }
+}
+
+// Writes x over the rows k to k + 3 of column j.
+fn write_four(s: &mut [f64], m: usize, n: usize, j: usize, k: usize, x: Four)
+    requires { ⌜ (isMatrix m n (now s) ≡ true) × (j < n) × (k + 4 ≤ m) ⌝ }
+    ensures { λ _. ⌜ columns m n (now (s .exit)) ≡ set (columns m n (now (s .entry))) j (writtenFour k x (column (columns m n (now (s .entry))) j)) ⌝ }
+{
+    let k1 = k + 1;
+    let k2 = k + 2;
+    let k3 = k + 3;
+    let b = j * m;
+    s[b + k] = x.first;
+    s[b + k1] = x.second;
+    s[b + k2] = x.third;
+    s[b + k3] = x.fourth;
+}
+
+// Row r of column j, below row i + 3.
+fn row(s: &mut [f64], m: usize, n: usize, i: usize, f: Four, j: usize, r: usize)
+    requires { ⌜ (isMatrix m n (now s) ≡ true) × (i + 4 ≤ j) × (j < n) × (i + 4 ≤ r) × (r < m) × (f ≡ minusOf i (column (columns m n (now s)) j)) ⌝ }
+    ensures { λ _. ⌜ (tailLeft i j (r + 1) (columns m n (now (s .exit))) ≡ tailLeft i j r (columns m n (now (s .entry)))) × (f ≡ minusOf i (column (columns m n (now (s .exit))) j)) ⌝ }
+{
+    let b = j * m;
+    s[b + r] = number(s, m, n, i, f, j, r);
+}
+
+// The rows of column j from row k on, three at most. Each by itself: a loop here would slow the loop before it down.
+fn last_rows(s: &mut [f64], m: usize, n: usize, i: usize, j: usize, k: usize)
+    requires { ⌜ (isMatrix m n (now s) ≡ true) × (i + 4 ≤ j) × (j < n) × (i + 4 ≤ k) × (k < m) × (m < k + 4) ⌝ }
+    ensures { λ _. ⌜ columns m n (now (s .exit)) ≡ tailLeft i j k (columns m n (now (s .entry))) ⌝ }
+{
+    let f = minus(s, m, n, i, j);
+    row(s, m, n, i, f, j, k);
+    let k1 = k + 1;
+    if m <= k1 {
+        return;
+    }
+    row(s, m, n, i, f, j, k1);
+    let k2 = k1 + 1;
+    if m <= k2 {
+        return;
+    }
+    row(s, m, n, i, f, j, k2);
+}
+
+// The rows of column j from row i + 4 on.
+fn tail(s: &mut [f64], m: usize, n: usize, i: usize, j: usize)
+    requires { ⌜ (isMatrix m n (now s) ≡ true) × (i + 4 ≤ m) × (i + 4 ≤ j) × (j < n) ⌝ }
+    ensures { λ _. ⌜ columns m n (now (s .exit)) ≡ tailLeft i j (i + 4) (columns m n (now (s .entry))) ⌝ }
+{
+    let f = minus(s, m, n, i, j);
     let mut k = i + 4;
     while k < m {
-        s[b + k] = f3 * s[a3 + k]
-            + (f2 * s[a2 + k] + (f1 * s[a1 + k] + (f0 * s[a0 + k] + s[b + k])));
+        row(s, m, n, i, f, j, k);
         k += 1;
     }
+}
+
+// The rows of the columns j and j + 1 from row i + 4 on, four at a time: a multiplier is read once for both columns. Answers the first row that is left.
+fn two_by_four(s: &mut [f64], m: usize, n: usize, i: usize, j: usize) -> usize
+    requires { ⌜ (isMatrix m n (now s) ≡ true) × (i + 4 ≤ m) × (i + 4 ≤ j) × (j + 1 < n) ⌝ }
+    ensures { λ k. ⌜ (i + 4 ≤ k) × (k ≤ m) × (m < k + 4) ⌝ }
+    ensures { λ k. ⌜ tailsLeft i j k (columns m n (now (s .exit))) ≡ tailsLeft i j (i + 4) (columns m n (now (s .entry))) ⌝ }
+{
+    let j1 = j + 1;
+    let f = minus(s, m, n, i, j);
+    let g = minus(s, m, n, i, j1);
+    let mut k = i + 4;
+    while k + 4 <= m {
+        let x = numbers(s, m, n, i, f, j, k);
+        let y = numbers(s, m, n, i, g, j1, k);
+        write_four(s, m, n, j, k, x);
+        write_four(s, m, n, j1, k, y);
+        k += 4;
+    }
+    k
 }
 
 // The steps i to i + 3 on column j, by those columns.
@@ -67,7 +177,37 @@ fn steps_on(s: &mut [f64], m: usize, n: usize, i: usize, j: usize)
     tail(s, m, n, i, j);
 }
 
-// That on each column from `from` on, where these lie right of those columns and there is a row i + 3: many for factoring, the new one for adding.
+// The same on the columns j and j + 1.
+fn steps_on_two(s: &mut [f64], m: usize, n: usize, i: usize, j: usize)
+    requires { ⌜ (isMatrix m n (now s) ≡ true) × (i + 4 ≤ m) × (i + 4 ≤ j) × (j + 1 < n) ⌝ }
+    ensures { λ _. ⌜ columns m n (now (s .exit)) ≡ setTwo j (fourSteps i (columns m n (now (s .entry)))) (columns m n (now (s .entry))) ⌝ }
+{
+    let j1 = j + 1;
+    head(s, m, n, i, j);
+    head(s, m, n, i, j1);
+    let k = two_by_four(s, m, n, i, j);
+    if k == m {
+        return;
+    }
+    last_rows(s, m, n, i, j, k);
+    last_rows(s, m, n, i, j1, k);
+}
+
+// The same on column j and, where there is one, the next. Answers the column behind.
+fn steps_from(s: &mut [f64], m: usize, n: usize, i: usize, j: usize) -> usize
+    requires { ⌜ (isMatrix m n (now s) ≡ true) × (i + 4 ≤ m) × (i + 4 ≤ j) × (j < n) ⌝ }
+    ensures { λ r. ⌜ (j < r) × Onward i j (columns m n (now (s .entry))) r (columns m n (now (s .exit))) ⌝ }
+{
+    let next = j + 1;
+    if next == n {
+        steps_on(s, m, n, i, j);
+        return next;
+    }
+    steps_on_two(s, m, n, i, j);
+    j + 2
+}
+
+// The steps on each column from `from` on, where these lie right of those columns and there is a row i + 3.
 pub fn four_steps(s: &mut [f64], m: usize, n: usize, i: usize, from: usize)
     ensures { λ _. ⌜ now (s .exit) ≡ onColumns m n (fourStepped m i from) (now (s .entry)) ⌝ }
 {
@@ -83,7 +223,26 @@ pub fn four_steps(s: &mut [f64], m: usize, n: usize, i: usize, from: usize)
     }
     let mut j = from;
     while j < n {
-        steps_on(s, m, n, i, j);
-        j += 1;
+        j = steps_from(s, m, n, i, j);
     }
+}
+
+// The steps on column j alone, where it is there and lies right of those columns, and there is a row i + 3.
+pub fn four_steps_on(s: &mut [f64], m: usize, n: usize, i: usize, j: usize)
+    ensures { λ _. ⌜ now (s .exit) ≡ onColumns m n (fourSteppedOn m i j) (now (s .entry)) ⌝ }
+{
+    if !store::is_matrix(s, m, n) {
+        return;
+    }
+    if n <= j {
+        return;
+    }
+    let most = store::min(m, j);
+    if most < 4 {
+        return;
+    }
+    if most - 4 < i {
+        return;
+    }
+    steps_on(s, m, n, i, j);
 }

@@ -7,10 +7,9 @@ use lib.ListN.{length}
 use Rattle.blas.specs.Each.{turnsFrom}
 use Rattle.blas.proofs.Each.{turns-done}
 use Rattle.store.specs.Columns.{columns}
-use Rattle.store.proofs.Columns.{sized, same-matrix, length-columns}
+use Rattle.store.proofs.Columns.{sized, same-matrix}
 use Rattle.lu.specs.Own.{updatedAt}
 use Rattle.lu.proofs.Step.{turns-join}
-use Rattle.lu.proofs.Updates.{panel-last}
 use Rattle.lu.proofs.update_all.Statement.{statement}
 use Rattle.lu.proofs.update_all.Tie as tie
 
@@ -36,25 +35,22 @@ some c =
     let all = at-min .min .ensures in
     (omega (arith, to, left), omega (arith, to), omega (arith, all), omega (arith, all))
 
-update-columns-requires : tie.Need-update-columns-requires Inv-loop μ-loop
-update-columns-requires c κs =
+update-new-requires : tie.Need-update-new-requires Inv-loop μ-loop
+update-new-requires c κs =
     let at-loop = c .before .before .before in
     let few = some (c .before) in
-    (same-matrix _ _ _ _ (at-loop .loop .inv .0) ∙ (at-loop .before .before .before .pre), omega (arith, few), omega (arith, few), omega (arith, few), omega arith)
-
-add-update-columns : tie.Need-add-update-columns Inv-loop μ-loop
-add-update-columns c = omega (arith, sized _ _ _ (c .before .before .before .before .before .before .pre) .columns-most)
+    (same-matrix _ _ _ _ (at-loop .loop .inv .0) ∙ (at-loop .before .before .before .pre), omega (arith, few), omega (arith, few), omega (arith, few))
 
 loop-less : tie.Need-loop-less Inv-loop μ-loop
 loop-less c = omega (arith, some (c .before .before .before .before), c .before .before .before .before .before .loop-test .taken)
 
 loop-again : tie.Need-loop-again Inv-loop μ-loop
 loop-again c =
-    let at-update-columns = c .before .before in
-    let at-min2 = at-update-columns .before .before in
+    let at-update-new = c .before .before in
+    let at-min2 = at-update-new .before .before in
     let at-loop = at-min2 .before .before in
     let l = at-loop .loop in
-    let k = at-update-columns .update-columns in
+    let k = at-update-new .update-new in
     let g = at-loop .before .before .before .args in
     let f = updatedAt (g .n) in
     let cs = columns (g .m) (g .n + 1) (l .s) in
@@ -64,7 +60,7 @@ loop-again c =
     let behind : to ≡ l .i + (to - l .i) = omega (arith, few) in
     let left : to - l .i + rest ≡ at-loop .before .min .result - l .i = omega (arith, few) in (
       k .kept .0 ∙ l .inv .0,
-      ap (turnsFrom f to rest) (k .ensures ∙ panel-last (l .i) (to - l .i) (g .n) cs (length-columns (g .m) (g .n + 1) (l .s)) (omega (arith, few)))
+      ap (turnsFrom f to rest) (k .ensures)
           ∙ ap (λ q. turnsFrom f q rest (turnsFrom f (l .i) (to - l .i) cs)) behind ∙ turns-join f (l .i) (to - l .i) rest cs ∙ ap (λ q. turnsFrom f (l .i) q cs) left ∙ l .inv .1,
     )
 
@@ -83,8 +79,7 @@ update-all-spec =
     loop-holds
     (λ c. let all = c .before .before .min .ensures in omega (arith, sized _ _ _ (c .before .before .before .before .pre) .rows-most))
     (λ c κs. search needs)
-    add-update-columns
-    update-columns-requires
+    update-new-requires
     loop-less
     loop-again
     (λ c. search needs)

@@ -1,4 +1,4 @@
--- The columns that are left from column j on give the whole; the four columns stay. Assumes nothing.
+-- The columns that are left from column j on give the whole (`onward-turn`); the four columns stay. Assumes nothing.
 use Prim.Native.Nat.{ℕ, _+_, _-_, _≤_, _<_}
 use mathlib.Core.Path.{_≡_, refl, sym, _∙_}
 use mathlib.Core.Bool.{true}
@@ -11,7 +11,7 @@ use Rattle.store.specs.Columns.{columns, isMatrix}
 use Rattle.store.specs.Steps.{column}
 use Rattle.store.proofs.Columns.{sized, same-matrix, column-stop, on-none, on-done}
 use Rattle.panels.specs.Panel.{fourSteps}
-use Rattle.panels.proofs.Within.{step-turn, step-left, stepped-is, not-stepped}
+use Rattle.panels.proofs.Within.{onward-turn, stepped-is, not-stepped}
 use Rattle.panels.proofs.four_steps.Statement.{statement}
 use Rattle.panels.proofs.four_steps.Tie as tie
 
@@ -54,8 +54,8 @@ has c =
 loop-holds : tie.Need-loop-holds Inv-loop μ-loop
 loop-holds c = (refl, omega (arith, has c), λ k h. refl, refl)
 
-steps-on-requires : tie.Need-steps-on-requires Inv-loop μ-loop
-steps-on-requires c κs =
+steps-from-requires : tie.Need-steps-from-requires Inv-loop μ-loop
+steps-from-requires c κs =
     let at-loop = c .before .before in
     let h = has (at-loop .before) in
     let inv = at-loop .loop .inv in
@@ -63,15 +63,13 @@ steps-on-requires c κs =
 
 loop-again : tie.Need-loop-again Inv-loop μ-loop
 loop-again c =
-    let at-steps-on = c .before .before in
-    let at-turn = at-steps-on .before .before in
+    let at-steps-from = c .before .before in
+    let at-turn = at-steps-from .before .before in
     let at-loop = at-turn .before in
     let inv = at-loop .loop .inv in
-    let k = at-steps-on .steps-on in
-    let g = at-loop .before .before .before .before .before .before .before .before .args in
-    let cs = columns (g .m) (g .n) (g .s .now) in
-    let hj = at-turn .loop-test .taken in
-    (k .kept .0 ∙ inv .0, omega arith, step-left _ _ _ _ _ _ cs (inv .1) hj (inv .2) (k .ensures), step-turn _ _ _ _ _ _ cs (inv .1) hj (inv .2) (k .ensures) ∙ inv .3)
+    let k = at-steps-from .steps-from in
+    let on = k .ensures .1 in
+    (k .kept .0 ∙ inv .0, omega (arith, k .ensures .0), λ q h. on .kept q h ∙ inv .2 q h, onward-turn _ _ _ _ _ _ on (inv .2) ∙ inv .3)
 
 returns-4 : tie.Need-returns-4 Inv-loop μ-loop
 returns-4 c =
@@ -95,9 +93,8 @@ four-steps-spec =
     (λ c. search needs)
     returns-3
     loop-holds
-    steps-on-requires
-    (λ c. omega (arith, has (c .before .before .before .before .before .before)))
-    (λ c. omega arith)
+    steps-from-requires
+    (λ c. omega (arith, c .before .before .steps-from .ensures .0))
     loop-again
     (λ c. search needs)
     returns-4)

@@ -19,7 +19,7 @@ within c =
 returns : tie.Need-returns
 returns c =
     let at-start = c .before .before .before .before .before .before .before .before .before .before in
-    head-made _ _ _ _ _ (sized _ _ _ (at-start .pre .0) .size) (at-start .pre .1) (at-start .pre .2) (at-start .pre .3)
+    head-made _ _ _ _ (sized _ _ _ (at-start .pre .0) .size) (at-start .pre .3) _ (at-start .pre .1) (at-start .pre .2)
 
 pub head-spec : {M : Type 1} → statement M
 head-spec =

@@ -16,7 +16,7 @@ use Rattle.blas.proofs.Each.{length-each, each-at, each-before}
 use Rattle.blas.proofs.Rows.{entry-axpy-at, entry-axpy-before}
 use Rattle.store.specs.Steps.{Matrix, column, stepColumn}
 use Rattle.store.proofs.Steps.{length-stepColumn}
-use Rattle.panels.specs.Panel.{stepBy, fourSteps, multiplier, headOf, addFour, tailOf}
+use Rattle.panels.specs.Panel.{stepBy, fourSteps, multiplier, headOf, minusOf, addFour, tailOf}
 
 -- ---- one step, row by row
 module _ (cs : Matrix) (k : ℕ) (c : Column) where
@@ -149,12 +149,12 @@ module _ (i m : ℕ) (cs : Matrix) (c : Column) (four : i + 4 ≤ m) (len : leng
 
   -- the rows below, by the numbers that the head holds
   abbrev done : Column
-  done = eachFrom (addFour i cs (neg (entry d i)) (neg (entry d (i + 1))) (neg (entry d (i + 2))) (neg (entry d (i + 3)))) (i + 4) d
+  done = eachFrom (addFour i cs (minusOf i d)) (i + 4) d
 
   below : (r : ℕ) → i + 4 ≤ r → r < m → entry done r ≡ entry (stepBy cs (i + 3) c3) r
-  unfolding addFour
+  unfolding addFour minusOf
   below r h hr =
-      each-at (addFour i cs (neg (entry d i)) (neg (entry d (i + 1))) (neg (entry d (i + 2))) (neg (entry d (i + 3)))) (i + 4) d r nan h (rw len-d hr)
+      each-at (addFour i cs (minusOf i d)) (i + 4) d r nan h (rw len-d hr)
       ∙ rw (other i (λ e. omega arith) (λ e. omega arith) (λ e. omega arith), at1, at2, at3, other r (λ e. omega arith) (λ e. omega arith) (λ e. omega arith)) (sym (four-at r (omega arith) hr))
 
   rows : (r : ℕ) → r < length done → entry done r ≡ entry (stepBy cs (i + 3) c3) r
@@ -165,8 +165,8 @@ module _ (i m : ℕ) (cs : Matrix) (c : Column) (four : i + 4 ≤ m) (len : leng
       (λ t. below r (ltb-false r (i + 4) t) hr)
 
   -- THE LAW of four steps on one column: the head, then the rows below it
-  pub four-rows : tailOf i cs (headOf i cs c) ≡ fourSteps i cs c
+  pub four-rows : tailOf i (i + 4) cs (headOf i cs c) ≡ fourSteps i cs c
   unfolding tailOf fourSteps
   four-rows =
-      ap (tailOf i cs) head-is
+      ap (tailOf i (i + 4) cs) head-is
       ∙ ext-getD nan done (stepBy cs (i + 3) c3) (length-each _ (i + 4) d ∙ len-d ∙ sym (length-stepBy cs (i + 3) c3 ∙ len3)) rows

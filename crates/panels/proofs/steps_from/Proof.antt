@@ -1,0 +1,28 @@
+-- One column or two (`one-onward`, `two-onward`). Assumes nothing.
+use native.Mathlib.Omega.{arith}
+use borrow.Author.Needs.{needs}
+use Rattle.panels.proofs.Within.{one-onward, two-onward}
+use Rattle.panels.proofs.steps_from.Statement.{statement}
+use Rattle.panels.proofs.steps_from.Tie as tie
+
+returns : tie.Need-returns
+returns c = let h = c .before .before .before .before .before .before .pre in (omega arith, one-onward _ _ _ _ _ _ (h .2) (h .3) (c .before .before .steps-on .ensures))
+
+returns-2 : tie.Need-returns-2
+returns-2 c =
+    let h = c .before .before .before .before .before .before .pre in
+    let more = c .before .before .before .before .if1 .left in
+    (omega arith, two-onward _ _ _ _ _ _ (h .2) (omega (arith, h .3)) (c .before .before .steps-on-two .ensures))
+
+pub steps-from-spec : {M : Type 1} → statement M
+steps-from-spec =
+    tie.close
+    (tie.spec
+    (λ c. search needs)
+    (λ c κs. search needs)
+    (λ c. search needs)
+    returns
+    (λ c κs. search needs)
+    (λ c. search needs)
+    (λ c. search needs)
+    returns-2)

@@ -1,0 +1,88 @@
+-- What is left of the two columns, the rows from row k on, gives the whole (`two-left`); what the steps multiply by stays. Assumes nothing.
+use Prim.Native.Nat.{_-_, _+_, _≤_}
+use mathlib.Core.Path.{_≡_, refl, _∙_}
+use native.Mathlib.Omega.{arith}
+use borrow.Author.Needs.{needs}
+use lib.ListN.{length}
+use Rattle.store.specs.Columns.{columns}
+use Rattle.store.specs.Steps.{column}
+use Rattle.store.proofs.Columns.{sized, same-matrix}
+use Rattle.panels.specs.Panel.{minusOf, tailsLeft}
+use Rattle.panels.proofs.Within.{two-first, two-second, two-left}
+use Rattle.panels.proofs.two_by_four.Statement.{statement}
+use Rattle.panels.proofs.two_by_four.Tie as tie
+
+abbrev Inv-loop : tie.InvT-loop
+Inv-loop s₀ m n i j j1 f g k₀ s k = (length s ≡ length s₀) × (i + 4 ≤ k) × (k ≤ m) × (f ≡ minusOf i (column (columns m n s) j)) × (g ≡ minusOf i (column (columns m n s) (j + 1)))
+    × (tailsLeft i j k (columns m n s) ≡ tailsLeft i j (i + 4) (columns m n s₀))
+
+abbrev μ-loop : tie.MeasureT-loop
+μ-loop s₀ m n i j j1 f g k₀ s k = m - k
+
+loop-holds : tie.Need-loop-holds Inv-loop μ-loop
+loop-holds c = (refl, omega arith, c .before .before .before .before .before .pre .1, c .before .before .minus .ensures, c .minus2 .ensures, refl)
+
+-- the rows are few
+few : (c : tie.At-loop Inv-loop μ-loop) → (c .loop .k ≤ c .before .before .before .before .before .before .args .m) × (c .before .before .before .before .before .before .args .m ≤ 64)
+few c = (c .loop .inv .2, sized _ _ _ (c .before .before .before .before .before .before .pre .0) .rows-most)
+
+numbers-requires : tie.Need-numbers-requires Inv-loop μ-loop
+numbers-requires c κs =
+    let h = c .before .before .before .before .before .before .before .before .pre in
+    (same-matrix _ _ _ _ (c .before .before .loop .inv .0) ∙ h .0, h .2, omega arith, c .before .loop-test .taken)
+
+numbers-requires-2 : tie.Need-numbers-requires-2 Inv-loop μ-loop
+numbers-requires-2 c κs =
+    let h = c .before .before .before .before .before .before .before .before .before .before .pre in
+    (same-matrix _ _ _ _ (c .before .before .before .before .loop .inv .0) ∙ h .0, omega arith, h .3, c .before .before .before .loop-test .taken)
+
+write-four-requires : tie.Need-write-four-requires Inv-loop μ-loop
+write-four-requires c κs =
+    let h = c .before .before .before .before .before .before .before .before .before .before .before .before .pre in
+    (same-matrix _ _ _ _ (c .before .before .before .before .before .before .loop .inv .0) ∙ h .0, omega arith, c .before .before .before .before .before .loop-test .taken)
+
+write-four-requires-2 : tie.Need-write-four-requires-2 Inv-loop μ-loop
+write-four-requires-2 c κs =
+    let h = c .before .before .before .before .before .before .before .before .before .before .before .before .before .before .before .before .pre in
+    (same-matrix _ _ _ _ (c .before .before .before .write-four .kept .0 ∙ c .before .before .before .before .before .before .before .before .before .before .loop .inv .0) ∙ h .0, h .3, c .before .before .before .before .before .before .before .before .before .loop-test .taken)
+
+loop-again : tie.Need-loop-again Inv-loop μ-loop
+loop-again c =
+    let h = c .before .before .before .before .before .before .before .before .before .before .before .before .before .before .before .before .before .before .before .pre in
+    let inv = c .before .before .before .before .before .before .before .before .before .before .before .before .before .loop .inv in
+    let len = inv .0 ∙ sized _ _ _ (h .0) .size in
+    let room = c .before .before .before .before .before .before .before .before .before .before .before .before .loop-test .taken in
+    let first = c .before .before .before .before .before .before .write-four in
+    let second = c .before .before .write-four2 in (
+      second .kept .0 ∙ first .kept .0 ∙ inv .0,
+      omega arith,
+      room,
+      two-first _ _ _ _ _ _ _ _ _ _ _ _ len (h .2) (inv .1) (h .3) room (inv .3) (inv .4) (first .ensures) (second .ensures),
+      two-second _ _ _ _ _ _ _ _ _ _ _ _ len (h .2) (inv .1) (h .3) room (inv .3) (inv .4) (first .ensures) (second .ensures),
+      two-left _ _ _ _ _ _ _ _ _ _ _ _ len (h .2) (inv .1) (h .3) room (inv .3) (inv .4) (first .ensures) (second .ensures) (c .before .before .before .before .before .before .before .before .before .before .numbers .ensures) (c .before .before .before .before .before .before .before .before .numbers2 .ensures) ∙ inv .5,
+    )
+
+returns : tie.Need-returns Inv-loop μ-loop
+returns c = let inv = c .before .loop .inv in ((inv .1, inv .2, omega (arith, c .loop-test .left)), inv .5)
+
+pub two-by-four-spec : {M : Type 1} → statement M
+two-by-four-spec =
+    tie.close
+    (tie.spec
+    Inv-loop
+    μ-loop
+    (λ c. search needs)
+    (λ c κs. search needs)
+    (λ c κs. search needs)
+    (λ c. search needs)
+    loop-holds
+    (λ c. omega (arith, few c))
+    numbers-requires
+    numbers-requires-2
+    write-four-requires
+    write-four-requires-2
+    (λ c. omega (arith, few (c .before .before .before .before .before .before .before .before .before .before .before .before .before)))
+    (λ c. omega (arith, c .before .before .before .before .before .before .before .before .before .before .before .before .loop-test .taken))
+    loop-again
+    (λ c. search needs)
+    returns)
