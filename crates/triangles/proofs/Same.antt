@@ -169,7 +169,7 @@ module _ (d : Float) (l : Column) (i : ℕ) (b : Column) (e : length l ≡ lengt
       ap (entry (upperRow d l i b)) (sym at) ∙ upper-from (r - i) ∙ ap (entry c) at ∙ getD-set-other b i r x nan (λ e. omega (arith, e))
 
 module _ (n : ℕ) (cs : Matrix) (full : (k : ℕ) → k < n → length (column cs k) ≡ n) where
-  up-turns : Turns true n cs (turn Upper n cs)
+  pub up-turns : Turns true n cs (turn Upper n cs)
   unfolding turn solvedRow rowOf finished
   up-turns = record {
     long = λ k s. length-row Upper _ _ _ s;
@@ -188,7 +188,7 @@ module _ (n : ℕ) (cs : Matrix) (full : (k : ℕ) → k < n → length (column 
   unfolding stepColumn
   step-before k r s h = entry-axpy-before (k + 1) (neg (entry s k)) (column cs k) s r h
 
-  down-turns : Turns false n cs step
+  pub down-turns : Turns false n cs step
   unfolding stepColumn rowOf finished plusProduct
   down-turns = record {
     long = λ k s. length-stepColumn k (column cs k) s;

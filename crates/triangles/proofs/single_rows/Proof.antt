@@ -1,54 +1,38 @@
--- The turns that are left from turn k on, on what the column holds then, give the first turns. Assumes nothing.
+-- The turns that are left from turn k on, on what the column holds then, give all from `from` on. Assumes nothing.
 use Prim.Native.Nat.{_-_}
-use mathlib.Core.Path.{_≡_, sym, _∙_}
+use mathlib.Core.Path.{_≡_, refl, sym, _∙_}
 use native.Mathlib.Omega.{arith}
 use lib.ListN.{length}
 use Rattle.blas.specs.Each.{turnsFrom}
-use Rattle.blas.proofs.Each.{turns-begin, turns-next, turns-done}
+use Rattle.blas.proofs.Each.{turns-next, turns-done}
 use Rattle.store.specs.Columns.{columns}
 use Rattle.triangles.specs.Rows.{rowDone}
 use Rattle.triangles.proofs.single_rows.Statement.{statement}
 use Rattle.triangles.proofs.single_rows.Tie as tie
 
 abbrev Inv-loop : tie.InvT-loop
-Inv-loop upward t n b₀ turns k₀ b k = (length b ≡ n) × (turnsFrom (rowDone upward n (columns n n t)) k (turns - k) b ≡ turnsFrom (rowDone upward n (columns n n t)) 0 turns b₀)
+Inv-loop upward t n b₀ from k₀ b k = (length b ≡ n) × (turnsFrom (rowDone upward n (columns n n t)) k (n - k) b ≡ turnsFrom (rowDone upward n (columns n n t)) from (n - from) b₀)
 
 abbrev μ-loop : tie.MeasureT-loop
-μ-loop upward t n b₀ turns k₀ b k = turns - k
+μ-loop upward t n b₀ from k₀ b k = n - k
 
--- src/lib.rt:175:5
-loop-holds : tie.Need-loop-holds Inv-loop μ-loop
-loop-holds c = (c .before .before .pre .1, turns-begin _ _ _)
-
--- src/lib.rt:176:9
 one-row-requires : tie.Need-one-row-requires Inv-loop μ-loop
 one-row-requires c κs =
     let at-loop = c .before .before in
-    let p = at-loop .before .before .before .pre in
-    (p .0, at-loop .loop .inv .0, omega (arith, c .before .loop-test .taken, p .2))
+    (at-loop .before .before .before .pre .0, at-loop .loop .inv .0, c .before .loop-test .taken)
 
--- src/lib.rt:177:9
-add-k : tie.Need-add-k Inv-loop μ-loop
-add-k c = omega arith
-
--- src/lib.rt:175:5
-loop-less : tie.Need-loop-less Inv-loop μ-loop
-loop-less c = omega arith
-
--- src/lib.rt:175:5
 loop-again : tie.Need-loop-again Inv-loop μ-loop
+unfolding turnsFrom
 loop-again c =
-    let k = c .before .before .one-row in
+    let called = c .before .before .one-row in
     let in-loop = c .before .before .before .before in
     let l = in-loop .before .loop in
     let g = in-loop .before .before .before .before .args in
-    (k .kept .1 .1 .1 .0 ∙ l .inv .0, turns-next (rowDone (g .upward) (g .n) (columns (g .n) (g .n) (g .t .now))) _ _ _ _ (in-loop .loop-test .taken) (k .ensures) ∙ l .inv .1)
+    (called .kept .1 .1 .1 .0 ∙ l .inv .0, turns-next (rowDone (g .upward) (g .n) (columns (g .n) (g .n) (g .t .now))) _ _ _ _ (in-loop .loop-test .taken) (called .ensures) ∙ l .inv .1)
 
--- src/lib.rt:170:1
 same-length : tie.Need-same-length Inv-loop μ-loop
 same-length c = c .before .loop .inv .0 ∙ sym (c .before .before .before .before .pre .1)
 
--- src/lib.rt:170:1
 returns : tie.Need-returns Inv-loop μ-loop
 returns c = sym (turns-done _ _ _ _ (c .loop-test .left)) ∙ c .before .loop .inv .1
 
@@ -58,10 +42,10 @@ single-rows-spec =
     (tie.spec
     Inv-loop
     μ-loop
-    loop-holds
+    (λ c. (c .before .before .pre .1, refl))
     one-row-requires
-    add-k
-    loop-less
+    (λ c. omega arith)
+    (λ c. omega arith)
     loop-again
     same-length
     returns)
