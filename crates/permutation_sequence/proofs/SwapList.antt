@@ -1,7 +1,7 @@
 -- Laws of swap lists: the pairs of a store one by one, the list test as a loop meets it, what a good list is known by, and a pair written behind the
 -- last one. By induction on the number of pairs. Assumes nothing.
 use mathlib.Core.Path.{_≡_, refl, sym, ap, ap₂, _∙_}
-use mathlib.Core.Bool.{Bool, true, _&&_}
+use mathlib.Core.Bool.{Bool, false, true, _&&_}
 use mathlib.Core.List.{List, [], _∷_, _++_}
 use Prim.Native.Nat.{ℕ, zero, suc, _+_, _-_, _*_, _≤_, _<_}
 use native.Mathlib.Nat.{le-of-suc-le-suc, not-suc-le-zero, zero-add, suc-add}
@@ -121,18 +121,20 @@ held-none pairs store h = rw (lt-leb (2 * pairs) (length store) h)
 
 -- ---- the list test
 
--- one turn of it, by the outcome of the test of a pair, and its end
+-- one turn of it, those before it being good or not, and its end
 module _ (bound pairs : ℕ) (store : List ℕ) (k : ℕ) where
-  pub good-turn : k < pairs → (b : Bool) → goodPair bound (pairAt store k) ≡ b
-      → goodPairs bound (drop k (pairsOf pairs store)) ≡ (b && goodPairs bound (drop (k + 1) (pairsOf pairs store)))
+  pub good-turn : k < pairs → (good b : Bool) → b ≡ goodPair bound (pairAt store k)
+      → ((good && b) && goodPairs bound (drop (k + 1) (pairsOf pairs store))) ≡ (good && goodPairs bound (drop k (pairsOf pairs store)))
   unfolding goodPairs
-  good-turn h b e =
-      ap (goodPairs bound) (drop-next (pairsOf pairs store) k (0, 0) (rw length-pairs h))
-      ∙ ap (λ (t : Bool). t && goodPairs bound (drop (k + 1) (pairsOf pairs store))) (ap (goodPair bound) (pairs-at pairs store k h) ∙ e)
+  good-turn h false b e = refl
+  good-turn h true b e =
+      sym (ap (goodPairs bound) (drop-next (pairsOf pairs store) k (0, 0) (rw length-pairs h))
+      ∙ ap (λ (t : Bool). t && goodPairs bound (drop (k + 1) (pairsOf pairs store))) (ap (goodPair bound) (pairs-at pairs store k h) ∙ sym e))
 
-  pub good-end : pairs ≤ k → goodPairs bound (drop k (pairsOf pairs store)) ≡ true
+  pub good-end : pairs ≤ k → (good : Bool) → good ≡ (good && goodPairs bound (drop k (pairsOf pairs store)))
   unfolding goodPairs
-  good-end h = ap (goodPairs bound) (drop-of-length-le (pairsOf pairs store) {i = k} (rw length-pairs h))
+  good-end h false = refl
+  good-end h true = sym (ap (goodPairs bound) (drop-of-length-le (pairsOf pairs store) {i = k} (rw length-pairs h)))
 
 -- what the test says where it is passed
 pub record Good (bound most pairs : ℕ) (store : List ℕ) : Type 0 where

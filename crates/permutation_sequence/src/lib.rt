@@ -22,16 +22,10 @@ pub enum Appended {
 fn is_good_pair(i: usize, j: usize, bound: usize) -> bool
     ensures { λ r. ⌜ r ≡ goodPair bound (i, j) ⌝ }
 {
-    if i == j {
-        return false;
-    }
-    if bound <= i {
-        return false;
-    }
-    j < bound
+    (i != j) & (i < bound) & (j < bound)
 }
 
-// Whether the list has at most `most` pairs, the store holds them, and each is of two different numbers below the bound.
+// Whether the list has at most `most` pairs, the store holds them, and each is of two different numbers below the bound. No branch for a pair: most lists are good.
 pub fn is_good_list(swaps: &[usize], pairs: usize, bound: usize, most: usize) -> bool
     ensures { λ r. ⌜ r ≡ goodList bound most pairs (now (swaps .entry)) ⌝ }
 {
@@ -41,17 +35,15 @@ pub fn is_good_list(swaps: &[usize], pairs: usize, bound: usize, most: usize) ->
     if swaps.len() / 2 < pairs {
         return false;
     }
+    let mut good = true;
     let mut k = 0;
     while k < pairs {
         let i = swaps[2 * k];
         let j = swaps[2 * k + 1];
-        if is_good_pair(i, j, bound) {
-            k += 1;
-        } else {
-            return false;
-        }
+        good = good & is_good_pair(i, j, bound);
+        k += 1;
     }
-    true
+    good
 }
 
 // The number of the refusal that appending (i, i2) to a list for dimension d meets, 0 for none.

@@ -1,7 +1,7 @@
--- What is left to test from pair k on gives the whole answer. Assumes nothing.
+-- Those before pair k being good or not, what is left to test from there on gives the whole answer. Assumes nothing.
 use Prim.Native.Nat.{_-_, _*_}
-use mathlib.Core.Path.{_≡_, refl, sym, _∙_}
-use mathlib.Core.Bool.{true, false}
+use mathlib.Core.Path.{_≡_, refl, _∙_}
+use mathlib.Core.Bool.{_&&_}
 use native.Mathlib.Omega.{arith}
 use borrow.Author.Needs.{needs}
 use borrow.Author.Tests.{le-leb, lt-leb}
@@ -12,10 +12,10 @@ use Rattle.permutation_sequence.proofs.is_good_list.Statement.{statemen
 use Rattle.permutation_sequence.proofs.is_good_list.Tie as tie
 
 abbrev Inv-loop : tie.InvT-loop
-Inv-loop swaps pairs bound most k₀ k = goodPairs bound (drop k (pairsOf pairs swaps)) ≡ goodPairs bound (pairsOf pairs swaps)
+Inv-loop swaps pairs bound most good₀ k₀ good k = (good && goodPairs bound (drop k (pairsOf pairs swaps))) ≡ goodPairs bound (pairsOf pairs swaps)
 
 abbrev μ-loop : tie.MeasureT-loop
-μ-loop swaps pairs bound most k₀ k = pairs - k
+μ-loop swaps pairs bound most good₀ k₀ good k = pairs - k
 
 returns : tie.Need-returns Inv-loop μ-loop
 unfolding goodList
@@ -29,17 +29,16 @@ loop-holds : tie.Need-loop-holds Inv-loop μ-loop
 loop-holds c = refl
 
 loop-again : tie.Need-loop-again Inv-loop μ-loop
-loop-again c = sym (good-turn _ _ _ _ (c .before .before .before .before .loop-test .taken) true (sym (c .before .is-good-pair .ensures) ∙ (c .if3 .taken))) ∙ (c .before .before .before .before .before .loop .inv)
+loop-again c =
+    let at-turn = c .before .before .before in
+    let at-loop = at-turn .before in
+    let g = at-loop .before .before .before .before .args in
+    good-turn (g .bound) (g .pairs) (g .swaps .now) (at-loop .loop .k) (at-turn .loop-test .taken) (at-loop .loop .good) (c .is-good-pair .result) (c .is-good-pair .ensures) ∙ at-loop .loop .inv
 
 returns-3 : tie.Need-returns-3 Inv-loop μ-loop
 unfolding goodList holds
-returns-3 c = rw (le-leb _ _ (c .before .before .before .before .before .before .before .if1 .left), le-leb (2 * (c .before .before .before .before .before .before .before .before .before .args .pairs)) (length (c .before .before .before .before .before .before .before .before .before .args .swaps .now)) (omega arith))
-    (sym (good-turn _ _ _ _ (c .before .before .before .before .loop-test .taken) false (sym (c .before .is-good-pair .ensures) ∙ (c .if3 .left))) ∙ (c .before .before .before .before .before .loop .inv))
-
-returns-4 : tie.Need-returns-4 Inv-loop μ-loop
-unfolding goodList holds
-returns-4 c = rw (le-leb _ _ (c .before .before .before .if1 .left), le-leb (2 * (c .before .before .before .before .before .args .pairs)) (length (c .before .before .before .before .before .args .swaps .now)) (omega arith))
-    (sym (good-end _ _ _ _ (c .loop-test .left)) ∙ (c .before .loop .inv))
+returns-3 c = rw (le-leb _ _ (c .before .before .before .if1 .left), le-leb (2 * (c .before .before .before .before .before .args .pairs)) (length (c .before .before .before .before .before .args .swaps .now)) (omega arith))
+    (good-end _ _ _ _ (c .loop-test .left) _ ∙ (c .before .loop .inv))
 
 pub is-good-list-spec : {M : Type 1} → statement M
 is-good-list-spec =
@@ -61,5 +60,4 @@ is-good-list-spec =
     (λ c. omega arith)
     (λ c. omega arith)
     loop-again
-    returns-3
-    returns-4)
+    returns-3)
