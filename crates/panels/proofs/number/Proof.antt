@@ -1,7 +1,6 @@
 -- The number by those that are read (`number-read`). Assumes nothing.
 use Prim.Native.Nat.{_*_, _+_, _≤_, _<_}
 use native.Mathlib.Omega.{arith}
-use borrow.Author.Needs.{needs}
 use lib.ListN.{length}
 use Rattle.store.proofs.Columns.{sized, column-within}
 use Rattle.panels.proofs.Within.{number-read}
