@@ -34,7 +34,7 @@ numbers-requires c κs =
 numbers-requires-2 : tie.Need-numbers-requires-2 Inv-loop μ-loop
 numbers-requires-2 c κs =
     let h = c .before .before .before .before .before .before .before .before .before .before .pre in
-    (same-matrix _ _ _ _ (c .before .before .before .before .loop .inv .0) ∙ h .0, omega arith, h .3, c .before .before .before .loop-test .taken)
+    (same-matrix _ _ _ _ (c .before .before .before .before .loop .inv .0) ∙ h .0, omega arith, omega (arith, h .3), c .before .before .before .loop-test .taken)
 
 write-four-requires : tie.Need-write-four-requires Inv-loop μ-loop
 write-four-requires c κs =
