@@ -1,5 +1,5 @@
--- Four steps on a column of the store that holds their columns too: the rows of the head written one after another, one turn of the loop below them,
--- its end, and what the columns are afterwards, which is what factoring and adding cite. Assumes nothing.
+-- Four steps on columns of the store that holds theirs too: rows written one after another, what is left of a column, or of two, while it is worked on,
+-- and what the columns are afterwards, which is what factoring and adding cite. Assumes nothing.
 use mathlib.Core.Path.{_≡_, refl, sym, ap, ap₂, _∙_}
 use mathlib.Core.Bool.{true}
 use mathlib.Core.List.{List, []}
