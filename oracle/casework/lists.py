@@ -36,6 +36,8 @@ def replay(command, batch, bad=b'', before=0):
     """Runs the command on the batch and a bad case after it, if there is one; raises at the first line that differs.
     `before` is the number of cases that came before the batch."""
     done = subprocess.run(command, shell=True, input=b''.join(encode(case) for case, _ in batch) + bad, stdout=subprocess.PIPE)
+    if done.returncode in (126, 127):   # the shell's own: it found no such program, or one that this machine cannot run
+        raise Difference(b'', f'the command could not be run (status {done.returncode}): {command}')
     printed = done.stdout.decode('ascii', 'replace').split('\n')
     if printed[-1] == '':
         printed.pop()

@@ -324,8 +324,7 @@ fn adding_refusal(s: &[f64], c: &[f64], swaps: &[usize], told: Record) -> usize
     )
 }
 
-// Step 5 on the new column, number n, by the columns from i up to but not `to`: at once where it is four steps and all were made. Where one was skipped, it is as for a
-// panel: so factoring is not alone in calling `update_columns`, and the compiler keeps that apart, out of factoring's frame.
+// Step 5 on the new column, number n, by the columns from i up to but not `to`: at once where it is four steps and all were made, one by one where it is fewer, else as for a panel.
 fn update_new(s: &mut [f64], m: usize, n: usize, i: usize, to: usize)
     requires { ⌜ (isMatrix m (n + 1) (now s) ≡ true) × (i ≤ to) × (to ≤ m) × (to ≤ n) ⌝ }
     ensures { λ _. ⌜ columns m (n + 1) (now (s .exit)) ≡ turnsFrom (updatedAt n) i (to - i) (columns m (n + 1) (now (s .entry))) ⌝ }
