@@ -23,6 +23,8 @@ const double *original_factors(const struct original *o);
 size_t original_pairs(const struct original *o, size_t *swaps);
 // original/src/by_hand.rs
 void by_hand_add_column(double *factors, const double *raw, size_t *swaps, size_t m, size_t n, size_t *pairs);
+size_t by_hand_tested_add_column(double *factors, size_t factors_length, const double *raw, size_t raw_length, size_t *swaps,
+                                 size_t swaps_length, size_t m, size_t n, size_t *pairs);
 
 // What the timed calls work on: an n by n matrix, its last column, a right-hand column, each of the three once more with a NaN at
 // its end, and the stores. `narrow` holds the factors of all columns but the last, with room for it. `wrong` gathers wrong answers.
@@ -80,7 +82,7 @@ static double *spoiled(const double *p, size_t count) {
     return q;
 }
 
-// ---- our calls, with the lengths that their sizes ask for
+// ---- the calls that test their input, with the lengths that their sizes ask for
 
 static size_t factor(const double *a, size_t m, size_t n, double *factors, size_t *swaps, size_t *pairs, size_t *toss_ups) {
     return wejdarox_factor(a, m * n, m, n, factors, m * n, swaps, SWAPS, pairs, toss_ups);
@@ -88,6 +90,10 @@ static size_t factor(const double *a, size_t m, size_t n, double *factors, size_
 
 static size_t add(double *factors, const double *column, size_t *swaps, size_t m, size_t n, size_t *pairs, size_t *toss_ups) {
     return wejdarox_add_column(factors, m * (n + 1), column, m, swaps, SWAPS, m, n, pairs, toss_ups);
+}
+
+static size_t add_by_hand_tested(double *factors, const double *column, size_t *swaps, size_t m, size_t n, size_t *pairs) {
+    return by_hand_tested_add_column(factors, m * (n + 1), column, m, swaps, SWAPS, m, n, pairs);
 }
 
 static size_t solve(const double *factors, const size_t *swaps, size_t n, size_t pairs, const double *b, double *x) {
@@ -117,8 +123,9 @@ static void its_solve(struct input *p) { p->wrong |= !original_solve(p->original
 static void its_solve_vector(struct input *p) { p->wrong |= !original_solve_vector(p->original, p->b); }
 static void its_both(struct input *p) { its_factor(p); its_solve(p); }
 
-static void add_by_hand(struct input *p) {
-    by_hand_add_column(p->narrow, p->last, p->narrow_swaps, p->n, p->n - 1, &p->narrow_pairs);
+static void hand_add(struct input *p) { by_hand_add_column(p->narrow, p->last, p->narrow_swaps, p->n, p->n - 1, &p->narrow_pairs); }
+static void hand_tested_add(struct input *p) {
+    p->wrong |= add_by_hand_tested(p->narrow, p->last, p->narrow_swaps, p->n, p->n - 1, &p->narrow_pairs);
 }
 
 #ifdef EIGEN // eigen.cpp
@@ -156,7 +163,8 @@ static const struct contender { const char *work, *who; void (*call)(struct inpu
     {"factor", "ours", our_factor}, {"factor", "original", its_factor}, {"factor", "refused", refused_factor},
     {"solve", "ours", our_solve}, {"solve", "original", its_solve}, {"solve", "vector", its_solve_vector}, {"solve", "refused", refused_solve},
     {"both", "ours", our_both}, {"both", "original", its_both},
-    {"add", "ours", our_add}, {"add", "by-hand", add_by_hand}, {"add", "refused", refused_add},
+    {"add", "ours", our_add}, {"add", "by-hand", hand_add}, {"add", "by-hand-tested", hand_tested_add},
+    {"add", "refused", refused_add},
 #ifdef EIGEN
     {"factor", "eigen", eigens_factor}, {"solve", "eigen", eigens_solve}, {"both", "eigen", eigens_both},
 #endif
@@ -198,20 +206,22 @@ static void check_solve(const struct factored *f, struct original *o, size_t n, 
     if (right == 0 && (!same(x, its, n) || !same(vector, its, n))) stop("solve", "the solution differs from the original's", n, n);
 }
 
-// The last column is added to the factors of the others, by our call and by hand: the original's factors of the whole must come out.
+// The last column is added to the factors of the others, by our call and by hand with and without tests: the original's factors of the
+// whole must come out.
 static void check_add(const double *a, const struct original *o, size_t m, size_t n) {
-    struct factored f = {.factors = numbers(m * n)}, g = {.factors = numbers(m * n)};
+    static const char *const ways[] = {"add a column", "add a column by hand", "add a column by hand, tested"};
     const double *last = a + m * (n - 1);
-    if (factor(a, m, n - 1, f.factors, f.swaps, &f.pairs, &f.toss_ups)) stop("factor", "a part of an accepted matrix is refused", m, n - 1);
-    memcpy(g.factors, f.factors, m * (n - 1) * sizeof *a);
-    memcpy(g.swaps, f.swaps, sizeof g.swaps);
-    g.pairs = f.pairs;
-    if (add(f.factors, last, f.swaps, m, n - 1, &f.pairs, &f.toss_ups)) stop("add a column", "refused, though the whole is accepted", m, n);
-    by_hand_add_column(g.factors, last, g.swaps, m, n - 1, &g.pairs);
-    must_agree("add a column", &f, o, m, n);
-    must_agree("add a column by hand", &g, o, m, n);
-    free(f.factors);
-    free(g.factors);
+    for (int way = 0; way < 3; way++) {
+        struct factored f = {.factors = numbers(m * n)};
+        size_t number = 0;
+        if (factor(a, m, n - 1, f.factors, f.swaps, &f.pairs, &f.toss_ups)) stop("factor", "a part of an accepted matrix is refused", m, n - 1);
+        if (way == 0) number = add(f.factors, last, f.swaps, m, n - 1, &f.pairs, &f.toss_ups);
+        if (way == 1) by_hand_add_column(f.factors, last, f.swaps, m, n - 1, &f.pairs);
+        if (way == 2) number = add_by_hand_tested(f.factors, last, f.swaps, m, n - 1, &f.pairs);
+        if (number) stop(ways[way], "refused, though the whole is accepted", m, n);
+        must_agree(ways[way], &f, o, m, n);
+        free(f.factors);
+    }
 }
 
 static void check(const double *a, size_t m, size_t n, enum kind kind) {

@@ -1,4 +1,4 @@
-// Adding a column as one would write it by hand: document 01's steps on good input, with no tests.
+// Adding a column as one would write it by hand: document 01's steps on good input with no tests, and the same with document 01's tests.
 use std::slice::{from_raw_parts, from_raw_parts_mut};
 
 /// Step 5 on `column` by the packed column `older`, whose number is i.
@@ -65,4 +65,60 @@ pub unsafe extern "C" fn by_hand_add_column(
         swaps[2 * *pairs..][..2].copy_from_slice(&[n, row]);
         *pairs += 1;
     }
+}
+
+/// Whether every number is finite, with no branch for a number.
+fn all_finite(numbers: &[f64]) -> bool {
+    numbers.iter().fold(true, |good, x| good & x.is_finite())
+}
+
+/// The number of the refusal before the work, 0 for none.
+fn refusal(factors: &[f64], raw: &[f64], swaps: &[usize], m: usize, n: usize, pairs: usize) -> usize {
+    let good = |pair: &[usize]| (pair[0] != pair[1]) & (pair[0] < m) & (pair[1] < m);
+    if !(1..=64).contains(&m) || n > 63 {
+        1
+    } else if factors.len() != m * (n + 1) || raw.len() != m || swaps.len() != 128 {
+        3
+    } else if pairs > m.min(n) || !swaps[..2 * pairs].chunks_exact(2).all(good) {
+        4
+    } else if !(all_finite(&factors[..m * n]) && all_finite(raw)) {
+        5
+    } else {
+        0
+    }
+}
+
+/// The same on any input: refused before the work by document 01's numbers, and with 7 after it, when the exchange is undone.
+#[no_mangle]
+pub unsafe extern "C" fn by_hand_tested_add_column(
+    factors: *mut f64,
+    factors_length: usize,
+    raw: *const f64,
+    raw_length: usize,
+    swaps: *mut usize,
+    swaps_length: usize,
+    m: usize,
+    n: usize,
+    pairs: &mut usize,
+) -> usize {
+    let was = *pairs;
+    let (store, list) = (from_raw_parts(factors, factors_length), from_raw_parts(swaps, swaps_length));
+    let number = refusal(store, from_raw_parts(raw, raw_length), list, m, n, was);
+    if number != 0 {
+        return number;
+    }
+    let next = [list[2 * was], list[2 * was + 1]];
+    by_hand_add_column(factors, raw, swaps, m, n, pairs);
+    let (older, column) = from_raw_parts_mut(factors, factors_length).split_at_mut(m * n);
+    if all_finite(column) {
+        return 0;
+    }
+    column.fill(0.0);
+    if *pairs != was {
+        let pair = &mut from_raw_parts_mut(swaps, swaps_length)[2 * was..][..2];
+        older.chunks_exact_mut(m).for_each(|packed| packed.swap(pair[0], pair[1]));
+        pair.copy_from_slice(&next);
+        *pairs = was;
+    }
+    7
 }

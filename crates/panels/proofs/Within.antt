@@ -3,9 +3,10 @@
 use mathlib.Core.Path.{_≡_, refl, sym, ap, ap₂, _∙_}
 use mathlib.Core.Bool.{true}
 use mathlib.Core.List.{List, []}
-use Prim.Native.Nat.{ℕ, _+_, _*_, _≤_, _<_, min}
+use Prim.Native.Nat.{ℕ, _+_, _-_, _*_, _≤_, _<_, min}
 use native.Mathlib.Omega.{arith}
 use borrow.Author.Tests.{le-leb, leb-true}
+use borrow.Rule.Slice.PartMut.{midOf, putMid, same-len-mid}
 use lib.Dec.{leb}
 use lib.ListN.{length, getD, set, length-set}
 use lib.Seq.{getD-set-same, getD-set-other, set-getD, set-set, set-comm, set-out}
@@ -18,7 +19,7 @@ use Rattle.blas.proofs.Each.{length-each, each-step, each-stop, each-same}
 use Rattle.store.specs.Columns.{columns, isMatrix, onColumns}
 use Rattle.store.specs.Steps.{Matrix, column}
 use Rattle.store.proofs.Within.{set-cases}
-use Rattle.store.proofs.Columns.{sized, length-columns, columns-rows, entry-at, written-at, on-columns, each-rows}
+use Rattle.store.proofs.Columns.{sized, length-columns, columns-rows, entry-at, written-at, column-lent, on-columns, each-rows}
 use Rattle.panels.specs.Panel.{stepBy, fourSteps, fourStepped, fourSteppedOn, multiplier, headOf, minusOf, addFour, fourRows, writtenFour, tailOf, tailLeft, tailsLeft, setTwo, Onward}
 use Rattle.panels.specs.declared.Four.{Four}
 use Rattle.panels.proofs.ByRows.{length-stepBy, four-rows}
@@ -105,29 +106,26 @@ module _ (i : ℕ) where
   unfolding tailOf
   row-step cs c k next v n h hk e = rw (n, e, minus-set c k (addFour i cs (minusOf i c) k (entry c k)) h) (each-step (addFour i cs (minusOf i c)) k c nan hk)
 
-  -- four rows written, as they are
-  four-step : (cs : Matrix) (c : Column) (k : ℕ) → i + 4 ≤ k → k + 4 ≤ length c → tailOf i (k + 4) cs (writtenFour k (fourRows i cs (minusOf i c) k c) c) ≡ tailOf i k cs c
+  -- two rows written, as they are
+  two-step : (cs : Matrix) (c : Column) (k q next : ℕ) (v w : Float) → q ≡ k + 1 → next ≡ k + 2 → i + 4 ≤ k → k + 2 ≤ length c → v ≡ addFour i cs (minusOf i c) k (entry c k) → w ≡ addFour i cs (minusOf i c) q (entry c q)
+      → tailOf i next cs (set (set c k v) q w) ≡ tailOf i k cs c
+  two-step cs c k q next v w eq en h hk ev ew =
+      row-step cs (set c k v) q next w (omega arith) (omega arith) (rw length-set (omega arith)) (ew ∙ ap₂ (λ (f : Four) (x : Float). addFour i cs f q x) (sym (minus-set c k v h)) (sym (getD-set-other c k q v nan (λ e. omega arith))))
+      ∙ row-step cs c k q v eq h (omega arith) ev
+
+  -- four rows
+  four-step : (cs : Matrix) (c : Column) (k : ℕ) (f x : Four) → f ≡ minusOf i c → x ≡ fourRows i cs f k c → i + 4 ≤ k → k + 4 ≤ length c → tailOf i (k + 4) cs (writtenFour k x c) ≡ tailOf i k cs c
   unfolding writtenFour fourRows
-  four-step cs c k h hk =
+  four-step cs c k f x is e h hk =
       let after : ℕ → Float = λ r. addFour i cs (minusOf i c) r (entry c r) in
       let c1 = set c k (after k) in
       let c2 = set c1 (k + 1) (after (k + 1)) in
-      let c3 = set c2 (k + 2) (after (k + 2)) in
-      let l1 = length-set c k (after k) in
-      let l2 = length-set c1 (k + 1) (after (k + 1)) ∙ l1 in
-      let l3 = length-set c2 (k + 2) (after (k + 2)) ∙ l2 in
-      let m1 = minus-set c k (after k) h in
-      let m2 = minus-set c1 (k + 1) (after (k + 1)) (omega arith) ∙ m1 in
-      let m3 = minus-set c2 (k + 2) (after (k + 2)) (omega arith) ∙ m2 in
-      row-step cs c3 (k + 3) (k + 4) (after (k + 3)) (omega arith) (omega arith) (omega arith)
-      (same c3 (k + 3) m3 (getD-set-other c2 (k + 2) (k + 3) _ nan (λ e. omega arith) ∙ getD-set-other c1 (k + 1) (k + 3) _ nan (λ e. omega arith) ∙ getD-set-other c k (k + 3) _ nan (λ e. omega arith)))
-      ∙ row-step cs c2 (k + 2) (k + 3) (after (k + 2)) (omega arith) (omega arith) (omega arith)
-      (same c2 (k + 2) m2 (getD-set-other c1 (k + 1) (k + 2) _ nan (λ e. omega arith) ∙ getD-set-other c k (k + 2) _ nan (λ e. omega arith)))
-      ∙ row-step cs c1 (k + 1) (k + 2) (after (k + 1)) (omega arith) (omega arith) (omega arith) (same c1 (k + 1) m1 (getD-set-other c k (k + 1) _ nan (λ e. omega arith)))
-      ∙ row-step cs c k (k + 1) (after k) refl h (omega arith) refl
-    where
-      same : (d : Column) (r : ℕ) → minusOf i d ≡ minusOf i c → entry d r ≡ entry c r → addFour i cs (minusOf i c) r (entry c r) ≡ addFour i cs (minusOf i d) r (entry d r)
-      same d r e v = rw (e, v) refl
+      let still : (r : ℕ) → k + 1 < r → after r ≡ addFour i cs (minusOf i c2) r (entry c2 r) =
+      λ r l. ap₂ (λ (g : Four) (v : Float). addFour i cs g r v) (sym (minus-set c1 (k + 1) (after (k + 1)) (omega arith) ∙ minus-set c k (after k) h))
+      (sym (getD-set-other c1 (k + 1) r _ nan (λ e. omega arith) ∙ getD-set-other c k r _ nan (λ e. omega arith))) in
+      ap (λ (y : Four). tailOf i (k + 4) cs (writtenFour k y c)) (e ∙ ap (λ (g : Four). fourRows i cs g k c) is)
+      ∙ two-step cs c2 (k + 2) (k + 3) (k + 4) _ _ (omega arith) (omega arith) (omega arith) (rw (length-set, length-set) (omega arith)) (still (k + 2) (omega arith)) (still (k + 3) (omega arith))
+      ∙ two-step cs c k (k + 1) (k + 2) _ _ refl refl h (omega arith) refl refl
 
   -- ---- in a matrix: columns right of the steps' put in
   module _ (j : ℕ) (cs ds : Matrix) (right : i + 4 ≤ j) where
@@ -169,46 +167,94 @@ module _ (i j m n : ℕ) (s t : List Float) (len : length s ≡ n * m) (right : 
     pub row-minus : (v : Float) → columns m n t ≡ set cs j (set (column cs j) k v) → f ≡ minusOf i (column (columns m n t) j)
     row-minus v made = is ∙ sym (minus-set i (column cs j) k v below) ∙ ap (minusOf i) (sym (ap (λ (ds : Matrix). column ds j) made ∙ getD-set-same cs j _ [] hc))
 
-    four-minus : (x : Four) → columns m n t ≡ set cs j (writtenFour k x (column cs j)) → f ≡ minusOf i (column (columns m n t) j)
-    four-minus x made = is ∙ sym (minus-four i (column cs j) k x below) ∙ ap (minusOf i) (sym (ap (λ (ds : Matrix). column ds j) made ∙ getD-set-same cs j _ [] hc))
+-- columns j and j + 1 written, rows of each being as they are after the steps
+module _ (i j k next m n : ℕ) (s t u : List Float) (c d : Column) (right : i + 4 ≤ j) (hj : j + 1 < n)
+    (first-made : columns m n t ≡ set (columns m n s) j c) (second-made : columns m n u ≡ set (columns m n t) (j + 1) d) where
+  -- the second column is the same before and after the first is written
+  pub second-kept : column (columns m n t) (j + 1) ≡ column (columns m n s) (j + 1)
+  second-kept = ap (λ (ds : Matrix). column ds (j + 1)) first-made ∙ getD-set-other (columns m n s) j (j + 1) c [] (λ e. omega arith)
 
--- four rows of column j written, then of column j + 1, all read before
+  pub first-is : column (columns m n u) j ≡ c
+  first-is =
+      ap (λ (ds : Matrix). column ds j) second-made ∙ getD-set-other (columns m n t) (j + 1) j d [] (λ e. omega arith)
+      ∙ ap (λ (ds : Matrix). column ds j) first-made ∙ getD-set-same (columns m n s) j c [] (rw length-columns (omega arith))
+
+  pub second-is : column (columns m n u) (j + 1) ≡ d
+  second-is = ap (λ (ds : Matrix). column ds (j + 1)) second-made ∙ getD-set-same (columns m n t) (j + 1) d [] (rw length-columns hj)
+
+  pub two-left : tailOf i next (columns m n s) c ≡ tailOf i k (columns m n s) (column (columns m n s) j) → tailOf i next (columns m n s) d ≡ tailOf i k (columns m n s) (column (columns m n s) (j + 1))
+      → tailsLeft i j next (columns m n u) ≡ tailsLeft i j k (columns m n s)
+  unfolding tailsLeft setTwo
+  two-left first-rest second-rest =
+      let cs = columns m n s in
+      put-two i j cs (columns m n u) right next c d (rw length-columns hj) (second-made ∙ ap (λ (ds : Matrix). set ds (j + 1) d) first-made)
+      ∙ ap₂ (λ (a b : Column). set (set cs j a) (j + 1) b) first-rest second-rest
+
+-- four rows of both, all read before
 module _ (i j k m n : ℕ) (s t u : List Float) (f g x y : Four) (len : length s ≡ n * m) (right : i + 4 ≤ j) (below : i + 4 ≤ k) (hj : j + 1 < n) (hk : k + 4 ≤ m)
-    (first-is : f ≡ minusOf i (column (columns m n s) j)) (second-is : g ≡ minusOf i (column (columns m n s) (j + 1)))
+    (f-is : f ≡ minusOf i (column (columns m n s) j)) (g-is : g ≡ minusOf i (column (columns m n s) (j + 1)))
     (first-made : columns m n t ≡ set (columns m n s) j (writtenFour k x (column (columns m n s) j)))
     (second-made : columns m n u ≡ set (columns m n t) (j + 1) (writtenFour k y (column (columns m n t) (j + 1)))) where
-  -- the second column is the same before and after the first is written
-  second-kept : column (columns m n t) (j + 1) ≡ column (columns m n s) (j + 1)
-  second-kept = ap (λ (ds : Matrix). column ds (j + 1)) first-made ∙ getD-set-other (columns m n s) j (j + 1) _ [] (λ e. omega arith)
+  kept : column (columns m n t) (j + 1) ≡ column (columns m n s) (j + 1)
+  kept = second-kept i j k (k + 4) m n s t u _ _ right hj first-made second-made
 
-  pub two-first : f ≡ minusOf i (column (columns m n u) j)
-  two-first =
-      four-minus i j m n s t len right k f below (omega arith) first-is x first-made
-      ∙ ap (minusOf i) (sym (ap (λ (ds : Matrix). column ds j) second-made ∙ getD-set-other (columns m n t) (j + 1) j _ [] (λ e. omega arith)))
+  pub fours-first : f ≡ minusOf i (column (columns m n u) j)
+  fours-first = f-is ∙ sym (minus-four i _ k x below) ∙ ap (minusOf i) (sym (first-is i j k (k + 4) m n s t u _ _ right hj first-made second-made))
 
-  pub two-second : g ≡ minusOf i (column (columns m n u) (j + 1))
-  two-second =
-      second-is ∙ ap (minusOf i) (sym second-kept) ∙ sym (minus-four i (column (columns m n t) (j + 1)) k y below)
-      ∙ ap (minusOf i) (sym (ap (λ (ds : Matrix). column ds (j + 1)) second-made ∙ getD-set-same (columns m n t) (j + 1) _ [] (rw length-columns hj)))
+  pub fours-second : g ≡ minusOf i (column (columns m n u) (j + 1))
+  fours-second = g-is ∙ ap (minusOf i) (sym kept) ∙ sym (minus-four i _ k y below) ∙ ap (minusOf i) (sym (second-is i j k (k + 4) m n s t u _ _ right hj first-made second-made))
 
-  pub two-left : x ≡ fourRows i (columns m n s) f k (column (columns m n s) j) → y ≡ fourRows i (columns m n s) g k (column (columns m n s) (j + 1))
+  pub fours-left : x ≡ fourRows i (columns m n s) f k (column (columns m n s) j) → y ≡ fourRows i (columns m n s) g k (column (columns m n s) (j + 1))
       → tailsLeft i j (k + 4) (columns m n u) ≡ tailsLeft i j k (columns m n s)
-  unfolding tailsLeft setTwo
-  two-left ex ey =
+  fours-left ex ey =
       let cs = columns m n s in
-      put-two i j cs (columns m n u) right (k + 4) (writtenFour k x (column cs j)) (writtenFour k y (column cs (j + 1))) (rw length-columns hj)
-      (second-made ∙ ap₂ (λ (ds : Matrix) (c : Column). set ds (j + 1) (writtenFour k y c)) first-made second-kept)
-      ∙ ap₂ (λ (a b : Four). set (set cs j (tailOf i (k + 4) cs (writtenFour k a (column cs j)))) (j + 1) (tailOf i (k + 4) cs (writtenFour k b (column cs (j + 1)))))
-      (ex ∙ ap (λ (h : Four). fourRows i cs h k (column cs j)) first-is) (ey ∙ ap (λ (h : Four). fourRows i cs h k (column cs (j + 1))) second-is)
-      ∙ ap₂ (λ (a b : Column). set (set cs j a) (j + 1) b)
-      (four-step i cs (column cs j) k below (rw (full m n s j len (omega arith)) hk)) (four-step i cs (column cs (j + 1)) k below (rw (full m n s (j + 1) len hj) hk))
+      two-left i j k (k + 4) m n s t u _ _ right hj first-made second-made
+      (four-step i cs (column cs j) k f x f-is ex below (rw (full m n s j len (omega arith)) hk))
+      (ap (λ (c : Column). tailOf i (k + 4) cs (writtenFour k y c)) kept ∙ four-step i cs (column cs (j + 1)) k g y g-is ey below (rw (full m n s (j + 1) len hj) hk))
 
--- ---- the head, then the rows below it, are the four steps
+-- two rows of both, all read before the columns are lent to be written
+module _ (i j k m n : ℕ) (s : List Float) (f g : Four) (x x1 y y1 : Float) (p q : List Float) (len : length s ≡ n * m) (right : i + 4 ≤ j) (below : i + 4 ≤ k) (hj : j + 1 < n) (hk : k + 2 ≤ m) where
+  abbrev part : ℕ → List Float → List Float
+  part r v = midOf (r * m) (r * m + m - r * m) v
+
+  abbrev put : ℕ → List Float → List Float → List Float
+  put r v c = putMid (r * m) (r * m + m - r * m) v c
+
+  abbrev before : Matrix
+  before = columns m n s
+
+  two-rest : (h : Four) (c : Column) (v w : Float) → length c ≡ m → h ≡ minusOf i c → v ≡ addFour i before h k (entry c k) → w ≡ addFour i before h (k + 1) (entry c (k + 1)) → tailOf i (k + 2) before (set (set c k v) (k + 1) w) ≡ tailOf i k before c
+  two-rest h c v w l is ev ew =
+      let by : (r : ℕ) (z : Float) → z ≡ addFour i before h r (entry c r) → z ≡ addFour i before (minusOf i c) r (entry c r) = λ r z e. e ∙ ap (λ (a : Four). addFour i before a r (entry c r)) is in
+      two-step i before c k (k + 1) (k + 2) v w refl refl below (rw l hk) (by k v ev) (by (k + 1) w ew)
+
+  pub twos-left : f ≡ minusOf i (column before j) → g ≡ minusOf i (column before (j + 1)) → x ≡ addFour i before f k (entry (column before j) k) → x1 ≡ addFour i before f (k + 1) (entry (column before j) (k + 1))
+      → y ≡ addFour i before g k (entry (column before (j + 1)) k) → y1 ≡ addFour i before g (k + 1) (entry (column before (j + 1)) (k + 1))
+      → length p ≡ length (part j s) → p ≡ set (set (part j s) k x) (k + 1) x1 → length q ≡ length (part (j + 1) (put j s p)) → q ≡ set (set (part (j + 1) (put j s p)) k y) (k + 1) y1
+      → tailsLeft i j (k + 2) (columns m n (put (j + 1) (put j s p) q)) ≡ tailsLeft i j k before
+  twos-left f-is g-is ex ex1 ey ey1 kept-p made-p kept-q made-q =
+      let t = put j s p in
+      let first = column-lent (λ c. set (set c k x) (k + 1) x1) m n j s p (omega arith) len kept-p made-p in
+      let second = column-lent (λ c. set (set c k y) (k + 1) y1) m n (j + 1) t q hj (same-len-mid (j * m) (j * m + m - j * m) s p kept-p ∙ len) kept-q made-q in
+      two-left i j k (k + 2) m n s t (put (j + 1) t q) _ _ right hj first second (two-rest f (column before j) x x1 (full m n s j len (omega arith)) f-is ex ex1)
+      (ap (λ (c : Column). tailOf i (k + 2) before (set (set c k y) (k + 1) y1)) (second-kept i j k (k + 2) m n s t (put (j + 1) t q) _ _ right hj first second)
+      ∙ two-rest g (column before (j + 1)) y y1 (full m n s (j + 1) len hj) g-is ey ey1)
+
 -- a column with nothing left
 pub none-left : (i j k m n : ℕ) (s : List Float) → length s ≡ n * m → j < n → m ≤ k → columns m n s ≡ tailLeft i j k (columns m n s)
 unfolding tailLeft tailOf
 none-left i j k m n s len hj h = sym (ap (set (columns m n s) j) (each-stop _ k _ (rw (full m n s j len hj) h)) ∙ set-getD (columns m n s) j [])
 
+-- the first column done, and then the second
+pub both-left : (i j k m n : ℕ) (s t u : List Float) → i + 4 ≤ j → columns m n t ≡ tailLeft i j k (columns m n s) → columns m n u ≡ tailLeft i (j + 1) k (columns m n t) → columns m n u ≡ tailsLeft i j k (columns m n s)
+unfolding setTwo tailLeft tailsLeft
+both-left i j k m n s t u right first second =
+    let cs = columns m n s in
+    let done = set cs j (tailOf i k cs (column cs j)) in
+    second ∙ ap (tailLeft i (j + 1) k) first
+    ∙ ap (set done (j + 1)) (ap (tailOf i k done) (getD-set-other cs j (j + 1) _ [] (λ e. omega arith)) ∙ tail-by i k done cs _ (λ q l. getD-set-other cs j q _ [] (λ e. omega arith)))
+
+-- ---- the head, then the rows below it, are the four steps
 module _ (i j m n : ℕ) (s : List Float) (len : length s ≡ n * m) (four : i + 4 ≤ m) (right : i + 4 ≤ j) where
   by-rows : (q : ℕ) → j ≤ q → q < n → tailOf i (i + 4) (columns m n s) (headOf i (columns m n s) (column (columns m n s) q)) ≡ fourSteps i (columns m n s) (column (columns m n s) q)
   by-rows q h hq = four-rows i m (columns m n s) (column (columns m n s) q) four (full m n s q len hq) (λ k l. full m n s k len (omega arith))
@@ -217,19 +263,13 @@ module _ (i j m n : ℕ) (s : List Float) (len : length s ≡ n * m) (four : i +
       → columns m n u ≡ set (columns m n s) j (fourSteps i (columns m n s) (column (columns m n s) j))
   one-made t u hj eh et = et ∙ put-one i j (columns m n s) (columns m n t) right (i + 4) _ (rw length-columns hj) eh ∙ ap (set (columns m n s) j) (by-rows j (omega arith) hj)
 
-  pub two-made : (k : ℕ) (t t' u v w : List Float) → j + 1 < n → columns m n t ≡ set (columns m n s) j (headOf i (columns m n s) (column (columns m n s) j))
-      → columns m n t' ≡ set (columns m n t) (j + 1) (headOf i (columns m n t) (column (columns m n t) (j + 1)))
-      → tailsLeft i j k (columns m n u) ≡ tailsLeft i j (i + 4) (columns m n t') → columns m n v ≡ tailLeft i j k (columns m n u) → columns m n w ≡ tailLeft i (j + 1) k (columns m n v)
-      → columns m n w ≡ setTwo j (fourSteps i (columns m n s)) (columns m n s)
-  unfolding setTwo tailLeft tailsLeft
-  two-made k t t' u v w hj eh eh' er el el' =
+  pub two-made : (t t' u : List Float) → j + 1 < n → columns m n t ≡ set (columns m n s) j (headOf i (columns m n s) (column (columns m n s) j))
+      → columns m n t' ≡ set (columns m n t) (j + 1) (headOf i (columns m n t) (column (columns m n t) (j + 1))) → columns m n u ≡ tailsLeft i j (i + 4) (columns m n t')
+      → columns m n u ≡ setTwo j (fourSteps i (columns m n s)) (columns m n s)
+  unfolding setTwo
+  two-made t t' u hj eh eh' et =
       let cs = columns m n s in
-      let us = columns m n u in
-      let done = set us j (tailOf i k us (column us j)) in
-      el'
-      ∙ ap (tailLeft i (j + 1) k) el
-      ∙ ap (set done (j + 1)) (ap (tailOf i k done) (getD-set-other us j (j + 1) _ [] (λ e. omega arith)) ∙ tail-by i k done us _ (λ q l. getD-set-other us j q _ [] (λ e. omega arith)))
-      ∙ er
+      et
       ∙ put-two i j cs (columns m n t') right (i + 4) (headOf i cs (column cs j)) (headOf i cs (column cs (j + 1))) (rw length-columns hj)
       (eh' ∙ ap₂ (λ (ds : Matrix) (c : Column). set ds (j + 1) c) eh (ap (headOf i (columns m n t)) (kept (j + 1) (λ e. omega arith)) ∙ head-by i (columns m n t) cs _ (λ q l. kept q (λ e. omega arith))))
       ∙ ap₂ (λ (a b : Column). set (set cs j a) (j + 1) b) (by-rows j (omega arith) (omega arith)) (by-rows (j + 1) (omega arith) hj)

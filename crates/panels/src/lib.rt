@@ -3,7 +3,7 @@
 ghost use mathlib.Core.Path.{_≡_};
 ghost use mathlib.Core.Bool.{true};
 ghost use Prim.Native.Nat.{_+_, _≤_, _<_};
-ghost use lib.ListN.{set};
+ghost use lib.ListN.{length, set};
 ghost use Rattle.store.specs.Columns.{columns, isMatrix, onColumns};
 ghost use Rattle.store.specs.Steps.{column};
 ghost use Rattle.blas.specs.Column.{entry};
@@ -116,25 +116,6 @@ fn row(s: &mut [f64], m: usize, n: usize, i: usize, f: Four, j: usize, r: usize)
     s[b + r] = number(s, m, n, i, f, j, r);
 }
 
-// The rows of column j from row k on, three at most. Each by itself: a loop here would slow the loop before it down.
-fn last_rows(s: &mut [f64], m: usize, n: usize, i: usize, j: usize, k: usize)
-    requires { ⌜ (isMatrix m n (now s) ≡ true) × (i + 4 ≤ j) × (j < n) × (i + 4 ≤ k) × (k < m) × (m < k + 4) ⌝ }
-    ensures { λ _. ⌜ columns m n (now (s .exit)) ≡ tailLeft i j k (columns m n (now (s .entry))) ⌝ }
-{
-    let f = minus(s, m, n, i, j);
-    row(s, m, n, i, f, j, k);
-    let k1 = k + 1;
-    if m <= k1 {
-        return;
-    }
-    row(s, m, n, i, f, j, k1);
-    let k2 = k1 + 1;
-    if m <= k2 {
-        return;
-    }
-    row(s, m, n, i, f, j, k2);
-}
-
 // The rows of column j from row i + 4 on.
 fn tail(s: &mut [f64], m: usize, n: usize, i: usize, j: usize)
     requires { ⌜ (isMatrix m n (now s) ≡ true) × (i + 4 ≤ m) × (i + 4 ≤ j) × (j < n) ⌝ }
@@ -168,6 +149,57 @@ fn two_by_four(s: &mut [f64], m: usize, n: usize, i: usize, j: usize) -> usize
     k
 }
 
+// Writes x and y over the rows k and k + 1 of a column. The column is lent by itself: so the compiler sees that the two can be worked out at once.
+fn write_two(col: &mut [f64], k: usize, x: f64, y: f64)
+    requires { ⌜ k + 2 ≤ length (now col) ⌝ }
+    ensures { λ _. ⌜ now (col .exit) ≡ set (set (now (col .entry)) k x) (k + 1) y ⌝ }
+{
+    let k1 = k + 1;
+    col[k] = x;
+    col[k1] = y;
+}
+
+// The rows k and k + 1 of the columns j and j + 1, where both are there. Answers the first row that is left.
+fn two_by_two(s: &mut [f64], m: usize, n: usize, i: usize, j: usize, k: usize) -> usize
+    requires { ⌜ (isMatrix m n (now s) ≡ true) × (i + 4 ≤ m) × (i + 4 ≤ j) × (j + 1 < n) × (i + 4 ≤ k) × (k ≤ m) × (m < k + 4) ⌝ }
+    ensures { λ r. ⌜ (i + 4 ≤ r) × (r ≤ m) × (m < r + 2) ⌝ }
+    ensures { λ r. ⌜ tailsLeft i j r (columns m n (now (s .exit))) ≡ tailsLeft i j k (columns m n (now (s .entry))) ⌝ }
+{
+    if m < k + 2 {
+        return k;
+    }
+    let j1 = j + 1;
+    let k1 = k + 1;
+    let b = j * m;
+    let e = b + m;
+    let b1 = j1 * m;
+    let e1 = b1 + m;
+    let f = minus(s, m, n, i, j);
+    let g = minus(s, m, n, i, j1);
+    let x = number(s, m, n, i, f, j, k);
+    let x1 = number(s, m, n, i, f, j, k1);
+    let y = number(s, m, n, i, g, j1, k);
+    let y1 = number(s, m, n, i, g, j1, k1);
+    write_two(&mut s[b..e], k, x, x1);
+    write_two(&mut s[b1..e1], k, y, y1);
+    k + 2
+}
+
+// Row k of the columns j and j + 1, where it is there.
+fn two_by_one(s: &mut [f64], m: usize, n: usize, i: usize, j: usize, k: usize)
+    requires { ⌜ (isMatrix m n (now s) ≡ true) × (i + 4 ≤ m) × (i + 4 ≤ j) × (j + 1 < n) × (i + 4 ≤ k) × (m < k + 2) ⌝ }
+    ensures { λ _. ⌜ columns m n (now (s .exit)) ≡ tailsLeft i j k (columns m n (now (s .entry))) ⌝ }
+{
+    if m <= k {
+        return;
+    }
+    let j1 = j + 1;
+    let f = minus(s, m, n, i, j);
+    row(s, m, n, i, f, j, k);
+    let g = minus(s, m, n, i, j1);
+    row(s, m, n, i, g, j1, k);
+}
+
 // The steps i to i + 3 on column j, by those columns.
 fn steps_on(s: &mut [f64], m: usize, n: usize, i: usize, j: usize)
     requires { ⌜ (isMatrix m n (now s) ≡ true) × (i + 4 ≤ m) × (i + 4 ≤ j) × (j < n) ⌝ }
@@ -185,12 +217,9 @@ fn steps_on_two(s: &mut [f64], m: usize, n: usize, i: usize, j: usize)
     let j1 = j + 1;
     head(s, m, n, i, j);
     head(s, m, n, i, j1);
-    let k = two_by_four(s, m, n, i, j);
-    if k == m {
-        return;
-    }
-    last_rows(s, m, n, i, j, k);
-    last_rows(s, m, n, i, j1, k);
+    let after_fours = two_by_four(s, m, n, i, j);
+    let after_two = two_by_two(s, m, n, i, j, after_fours);
+    two_by_one(s, m, n, i, j, after_two);
 }
 
 // The same on column j and, where there is one, the next. Answers the column behind.

@@ -1,8 +1,8 @@
-// The unit lower and the upper solve of `solve`, row by row and in blocks of eight rows, then four, then one: the same operations on each number in the same
+// The unit lower and the upper solve of `solve`, row by row, single rows first, then blocks of four and of eight: the same operations on each number in the same
 // order, so the same bits, with the numbers of a block held while they take their products.
 ghost use mathlib.Core.Path.{_≡_};
 ghost use mathlib.Core.Bool.{true, false};
-ghost use Prim.Native.Nat.{_+_, _-_, _≤_, _<_};
+ghost use Prim.Native.Nat.{_+_, _-_, _%_, _≤_, _<_};
 ghost use lib.ListN.{length};
 ghost use Rattle.blas.specs.Each.{turnsFrom};
 ghost use Rattle.store.specs.Columns.{columns, isMatrix};
@@ -93,12 +93,12 @@ fn block_up(t: &[f64], n: usize, b: &mut [f64], k: usize, v: &mut [f64])
     blas::copy(&mut b[r..e], v);
 }
 
-// The turns k to k + 7.
-fn eight_rows(upward: bool, t: &[f64], n: usize, b: &mut [f64], k: usize)
-    requires { ⌜ (isMatrix n n (now t) ≡ true) × (length (now b) ≡ n) × (k + 8 ≤ n) ⌝ }
-    ensures { λ _. ⌜ now (b .exit) ≡ turnsFrom (rowDone upward n (columns n n (now (t .entry)))) k 8 (now (b .entry)) ⌝ }
+// Turn k.
+fn one_row(upward: bool, t: &[f64], n: usize, b: &mut [f64], k: usize)
+    requires { ⌜ (isMatrix n n (now t) ≡ true) × (length (now b) ≡ n) × (k < n) ⌝ }
+    ensures { λ _. ⌜ now (b .exit) ≡ turnsFrom (rowDone upward n (columns n n (now (t .entry)))) k 1 (now (b .entry)) ⌝ }
 {
-    let mut v = [0.0f64; 8];
+    let mut v = [0.0f64; 1];
     if upward {
         block_up(t, n, b, k, &mut v);
     } else {
@@ -119,12 +119,12 @@ fn four_rows(upward: bool, t: &[f64], n: usize, b: &mut [f64], k: usize)
     }
 }
 
-// Turn k.
-fn one_row(upward: bool, t: &[f64], n: usize, b: &mut [f64], k: usize)
-    requires { ⌜ (isMatrix n n (now t) ≡ true) × (length (now b) ≡ n) × (k < n) ⌝ }
-    ensures { λ _. ⌜ now (b .exit) ≡ turnsFrom (rowDone upward n (columns n n (now (t .entry)))) k 1 (now (b .entry)) ⌝ }
+// The turns k to k + 7.
+fn eight_rows(upward: bool, t: &[f64], n: usize, b: &mut [f64], k: usize)
+    requires { ⌜ (isMatrix n n (now t) ≡ true) × (length (now b) ≡ n) × (k + 8 ≤ n) ⌝ }
+    ensures { λ _. ⌜ now (b .exit) ≡ turnsFrom (rowDone upward n (columns n n (now (t .entry)))) k 8 (now (b .entry)) ⌝ }
 {
-    let mut v = [0.0f64; 1];
+    let mut v = [0.0f64; 8];
     if upward {
         block_up(t, n, b, k, &mut v);
     } else {
@@ -132,43 +132,43 @@ fn one_row(upward: bool, t: &[f64], n: usize, b: &mut [f64], k: usize)
     }
 }
 
-// The first turns, eight at a time. Answers the next turn: those from there on give the rest.
-fn rows_by_eight(upward: bool, t: &[f64], n: usize, b: &mut [f64]) -> usize
+// The first turns, one by one, until what is left is whole fours: here a row has few products to take. Answers the next turn: those from there on give the rest.
+fn single_rows(upward: bool, t: &[f64], n: usize, b: &mut [f64]) -> usize
     requires { ⌜ (isMatrix n n (now t) ≡ true) × (length (now b) ≡ n) ⌝ }
-    ensures { λ k. ⌜ k ≤ n ⌝ }
+    ensures { λ k. ⌜ (k ≤ n) × ((n - k) % 4 ≡ 0) ⌝ }
     ensures { λ k. ⌜ turnsFrom (rowDone upward n (columns n n (now (t .entry)))) k (n - k) (now (b .exit)) ≡ turnsFrom (rowDone upward n (columns n n (now (t .entry)))) 0 n (now (b .entry)) ⌝ }
 {
     let mut k = 0;
-    while n - k >= 8 {
-        eight_rows(upward, t, n, b, k);
-        k += 8;
+    while (n - k) % 4 != 0 {
+        one_row(upward, t, n, b, k);
+        k += 1;
     }
     k
 }
 
-// The turns from `from` on, four at a time. Answers the next turn in the same way.
+// The turns from `from` on, four at a time, until what is left is whole eights. Answers the next turn in the same way.
 fn rows_by_four(upward: bool, t: &[f64], n: usize, b: &mut [f64], from: usize) -> usize
-    requires { ⌜ (isMatrix n n (now t) ≡ true) × (length (now b) ≡ n) × (from ≤ n) ⌝ }
-    ensures { λ k. ⌜ k ≤ n ⌝ }
+    requires { ⌜ (isMatrix n n (now t) ≡ true) × (length (now b) ≡ n) × (from ≤ n) × ((n - from) % 4 ≡ 0) ⌝ }
+    ensures { λ k. ⌜ (k ≤ n) × ((n - k) % 8 ≡ 0) ⌝ }
     ensures { λ k. ⌜ turnsFrom (rowDone upward n (columns n n (now (t .entry)))) k (n - k) (now (b .exit)) ≡ turnsFrom (rowDone upward n (columns n n (now (t .entry)))) from (n - from) (now (b .entry)) ⌝ }
 {
     let mut k = from;
-    while n - k >= 4 {
+    while (n - k) % 8 >= 4 {
         four_rows(upward, t, n, b, k);
         k += 4;
     }
     k
 }
 
-// The turns from `from` on, one by one.
-fn single_rows(upward: bool, t: &[f64], n: usize, b: &mut [f64], from: usize)
-    requires { ⌜ (isMatrix n n (now t) ≡ true) × (length (now b) ≡ n) × (from ≤ n) ⌝ }
+// The turns from `from` on, eight at a time.
+fn rows_by_eight(upward: bool, t: &[f64], n: usize, b: &mut [f64], from: usize)
+    requires { ⌜ (isMatrix n n (now t) ≡ true) × (length (now b) ≡ n) × (from ≤ n) × ((n - from) % 8 ≡ 0) ⌝ }
     ensures { λ _. ⌜ now (b .exit) ≡ turnsFrom (rowDone upward n (columns n n (now (t .entry)))) from (n - from) (now (b .entry)) ⌝ }
 {
     let mut k = from;
-    while k < n {
-        one_row(upward, t, n, b, k);
-        k += 1;
+    while n - k >= 8 {
+        eight_rows(upward, t, n, b, k);
+        k += 8;
     }
 }
 
@@ -177,9 +177,9 @@ fn solve_column(upward: bool, t: &[f64], n: usize, b: &mut [f64])
     requires { ⌜ (isMatrix n n (now t) ≡ true) × (length (now b) ≡ n) ⌝ }
     ensures { λ _. ⌜ now (b .exit) ≡ solvedColumn (passOf upward) n (columns n n (now (t .entry))) (now (b .entry)) ⌝ }
 {
-    let after_eights = rows_by_eight(upward, t, n, b);
-    let after_fours = rows_by_four(upward, t, n, b, after_eights);
-    single_rows(upward, t, n, b, after_fours);
+    let after_singles = single_rows(upward, t, n, b);
+    let after_fours = rows_by_four(upward, t, n, b, after_singles);
+    rows_by_eight(upward, t, n, b, after_fours);
 }
 
 // Solves the k right-hand columns in b in place by the n by n matrix t: by its upper triangle, or by its lower one with ones on the diagonal. Where a slice

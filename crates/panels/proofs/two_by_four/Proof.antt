@@ -1,4 +1,4 @@
--- What is left of the two columns, the rows from row k on, gives the whole (`two-left`); what the steps multiply by stays. Assumes nothing.
+-- What is left of the two columns, the rows from row k on, gives the whole (`fours-left`); what the steps multiply by stays. Assumes nothing.
 use Prim.Native.Nat.{_-_, _+_, _≤_}
 use mathlib.Core.Path.{_≡_, refl, _∙_}
 use native.Mathlib.Omega.{arith}
@@ -8,7 +8,7 @@ use Rattle.store.specs.Columns.{columns}
 use Rattle.store.specs.Steps.{column}
 use Rattle.store.proofs.Columns.{sized, same-matrix}
 use Rattle.panels.specs.Panel.{minusOf, tailsLeft}
-use Rattle.panels.proofs.Within.{two-first, two-second, two-left}
+use Rattle.panels.proofs.Within.{fours-first, fours-second, fours-left}
 use Rattle.panels.proofs.two_by_four.Statement.{statement}
 use Rattle.panels.proofs.two_by_four.Tie as tie
 
@@ -57,9 +57,9 @@ loop-again c =
       second .kept .0 ∙ first .kept .0 ∙ inv .0,
       omega arith,
       room,
-      two-first _ _ _ _ _ _ _ _ _ _ _ _ len (h .2) (inv .1) (h .3) room (inv .3) (inv .4) (first .ensures) (second .ensures),
-      two-second _ _ _ _ _ _ _ _ _ _ _ _ len (h .2) (inv .1) (h .3) room (inv .3) (inv .4) (first .ensures) (second .ensures),
-      two-left _ _ _ _ _ _ _ _ _ _ _ _ len (h .2) (inv .1) (h .3) room (inv .3) (inv .4) (first .ensures) (second .ensures) (c .before .before .before .before .before .before .before .before .before .before .numbers .ensures) (c .before .before .before .before .before .before .before .before .numbers2 .ensures) ∙ inv .5,
+      fours-first _ _ _ _ _ _ _ _ _ _ _ _ len (h .2) (inv .1) (h .3) room (inv .3) (inv .4) (first .ensures) (second .ensures),
+      fours-second _ _ _ _ _ _ _ _ _ _ _ _ len (h .2) (inv .1) (h .3) room (inv .3) (inv .4) (first .ensures) (second .ensures),
+      fours-left _ _ _ _ _ _ _ _ _ _ _ _ len (h .2) (inv .1) (h .3) room (inv .3) (inv .4) (first .ensures) (second .ensures) (c .before .before .before .before .before .before .before .before .before .before .numbers .ensures) (c .before .before .before .before .before .before .before .before .numbers2 .ensures) ∙ inv .5,
     )
 
 returns : tie.Need-returns Inv-loop μ-loop

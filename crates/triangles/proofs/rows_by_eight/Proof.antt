@@ -1,10 +1,10 @@
--- The turns that are left from turn k on, on what the column holds then, give all of them. Assumes nothing.
-use Prim.Native.Nat.{_-_, _≤_}
+-- The turns that are left from turn k on, on what the column holds then, give all from `from` on; none is left when fewer than eight are. Assumes nothing.
+use Prim.Native.Nat.{_-_, _%_, _≤_}
 use mathlib.Core.Path.{_≡_, refl, sym, _∙_}
 use native.Mathlib.Omega.{arith}
 use lib.ListN.{length}
 use Rattle.blas.specs.Each.{turnsFrom}
-use Rattle.blas.proofs.Each.{turns-begin}
+use Rattle.blas.proofs.Each.{turns-done}
 use Rattle.store.specs.Columns.{columns}
 use Rattle.store.proofs.Columns.{sized}
 use Rattle.triangles.specs.Rows.{rowDone}
@@ -13,10 +13,10 @@ use Rattle.triangles.proofs.rows_by_eight.Statement.{statement}
 use Rattle.triangles.proofs.rows_by_eight.Tie as tie
 
 abbrev Inv-loop : tie.InvT-loop
-Inv-loop upward t n b₀ k₀ b k = let f = rowDone upward n (columns n n t) in (k ≤ n) × (length b ≡ n) × (turnsFrom f k (n - k) b ≡ turnsFrom f 0 n b₀)
+Inv-loop upward t n b₀ from k₀ b k = let f = rowDone upward n (columns n n t) in (k ≤ n) × (length b ≡ n) × (turnsFrom f k (n - k) b ≡ turnsFrom f from (n - from) b₀) × ((n - k) % 8 ≡ 0)
 
 abbrev μ-loop : tie.MeasureT-loop
-μ-loop upward t n b₀ k₀ b k = n - k
+μ-loop upward t n b₀ from k₀ b k = n - k
 
 eight-rows-requires : tie.Need-eight-rows-requires Inv-loop μ-loop
 eight-rows-requires c κs =
@@ -30,10 +30,13 @@ loop-again c =
     let l = in-loop .before .loop in
     let g = in-loop .before .before .before .before .args in
     let h = in-loop .loop-test .taken in
-    (omega (arith, h), called .kept .1 .1 .1 .0 ∙ l .inv .1, turns-by (rowDone (g .upward) (g .n) (columns (g .n) (g .n) (g .t .now))) 8 (l .k) (g .n - l .k) _ _ _ _ refl (omega (arith, h)) (called .ensures) ∙ l .inv .2)
+    (omega (arith, h), called .kept .1 .1 .1 .0 ∙ l .inv .1, turns-by (rowDone (g .upward) (g .n) (columns (g .n) (g .n) (g .t .now))) 8 (l .k) (g .n - l .k) _ _ _ _ refl (omega (arith, h)) (called .ensures) ∙ l .inv .2, omega (arith, h, l .inv .3))
 
 same-length : tie.Need-same-length Inv-loop μ-loop
 same-length c = c .before .loop .inv .1 ∙ sym (c .before .before .before .before .pre .1)
+
+returns : tie.Need-returns Inv-loop μ-loop
+returns c = let inv = c .before .loop .inv in sym (turns-done _ _ _ _ (omega (arith, c .loop-test .left, inv .3))) ∙ inv .2
 
 pub rows-by-eight-spec : {M : Type 1} → statement M
 rows-by-eight-spec =
@@ -41,11 +44,11 @@ rows-by-eight-spec =
     (tie.spec
     Inv-loop
     μ-loop
-    (λ c. (omega arith, c .before .before .pre .1, turns-begin _ _ _))
+    (λ c. (c .before .before .pre .2, c .before .before .pre .1, refl, c .before .before .pre .3))
     (λ c. c .loop .inv .0)
     eight-rows-requires
     (λ c. omega (arith, sized _ _ _ (c .before .before .before .before .before .before .before .before .pre .0) .rows-most))
     (λ c. omega (arith, c .before .before .before .before .loop-test .taken))
     loop-again
     same-length
-    (λ c. (c .before .loop .inv .0, c .before .loop .inv .2)))
+    returns)

@@ -1,5 +1,5 @@
 -- The turns that are left from turn k on, on what the column holds then, give all from `from` on. Assumes nothing.
-use Prim.Native.Nat.{_-_, _≤_}
+use Prim.Native.Nat.{_-_, _%_, _≤_}
 use mathlib.Core.Path.{_≡_, refl, sym, _∙_}
 use native.Mathlib.Omega.{arith}
 use lib.ListN.{length}
@@ -12,7 +12,7 @@ use Rattle.triangles.proofs.rows_by_four.Statement.{statement}
 use Rattle.triangles.proofs.rows_by_four.Tie as tie
 
 abbrev Inv-loop : tie.InvT-loop
-Inv-loop upward t n b₀ from k₀ b k = let f = rowDone upward n (columns n n t) in (k ≤ n) × (length b ≡ n) × (turnsFrom f k (n - k) b ≡ turnsFrom f from (n - from) b₀)
+Inv-loop upward t n b₀ from k₀ b k = let f = rowDone upward n (columns n n t) in (k ≤ n) × (length b ≡ n) × (turnsFrom f k (n - k) b ≡ turnsFrom f from (n - from) b₀) × ((n - k) % 4 ≡ 0)
 
 abbrev μ-loop : tie.MeasureT-loop
 μ-loop upward t n b₀ from k₀ b k = n - k
@@ -29,7 +29,7 @@ loop-again c =
     let l = in-loop .before .loop in
     let g = in-loop .before .before .before .before .args in
     let h = in-loop .loop-test .taken in
-    (omega (arith, h), called .kept .1 .1 .1 .0 ∙ l .inv .1, turns-by (rowDone (g .upward) (g .n) (columns (g .n) (g .n) (g .t .now))) 4 (l .k) (g .n - l .k) _ _ _ _ refl (omega (arith, h)) (called .ensures) ∙ l .inv .2)
+    (omega (arith, h), called .kept .1 .1 .1 .0 ∙ l .inv .1, turns-by (rowDone (g .upward) (g .n) (columns (g .n) (g .n) (g .t .now))) 4 (l .k) (g .n - l .k) _ _ _ _ refl (omega (arith, h)) (called .ensures) ∙ l .inv .2, omega (arith, h, l .inv .3))
 
 same-length : tie.Need-same-length Inv-loop μ-loop
 same-length c = c .before .loop .inv .1 ∙ sym (c .before .before .before .before .pre .1)
@@ -40,11 +40,11 @@ rows-by-four-spec =
     (tie.spec
     Inv-loop
     μ-loop
-    (λ c. (c .before .before .pre .2, c .before .before .pre .1, refl))
+    (λ c. (c .before .before .pre .2, c .before .before .pre .1, refl, c .before .before .pre .3))
     (λ c. c .loop .inv .0)
     four-rows-requires
     (λ c. omega (arith, sized _ _ _ (c .before .before .before .before .before .before .before .before .pre .0) .rows-most))
     (λ c. omega (arith, c .before .before .before .before .loop-test .taken))
     loop-again
     same-length
-    (λ c. (c .before .loop .inv .0, c .before .loop .inv .2)))
+    (λ c. ((c .before .loop .inv .0, omega (arith, c .loop-test .left, c .before .loop .inv .3)), c .before .loop .inv .2)))

@@ -1,5 +1,5 @@
--- What is left after the eights, and then after the fours, gives all turns, and these give the solved column (`rows-solve`), since the slice holds doubles.
--- Assumes nothing.
+-- What is left after the single rows, and then after the fours, gives all turns, and these give the solved column (`rows-solve`), since the slice holds
+-- doubles. Assumes nothing.
 use mathlib.Core.Path.{_∙_}
 use borrow.Author.Needs.{needs}
 use Rattle.store.specs.Columns.{columns}
@@ -11,16 +11,16 @@ use Rattle.triangles.proofs.solve_column.Tie as tie
 
 returns : tie.Need-returns
 returns c =
-    let at-singles = c .before .before in
-    let at-fours = at-singles .before .before .before .before in
-    let at-eights = at-fours .before .before .before .before in
-    let at-known = at-eights .before .before in
+    let at-eights = c .before .before in
+    let at-fours = at-eights .before .before .before .before in
+    let at-singles = at-fours .before .before .before .before in
+    let at-known = at-singles .before .before in
     let at-start = at-known .before .before in
     let g = at-start .args in
     let n = g .n in
-    at-singles .single-rows .ensures
+    at-eights .rows-by-eight .ensures
     ∙ at-fours .rows-by-four .ensures .1
-    ∙ at-eights .rows-by-eight .ensures .1
+    ∙ at-singles .single-rows .ensures .1
     ∙ rows-solve (g .upward) n (columns n n (g .t .now)) (g .b .now) (full n (g .t .now) (sized _ _ _ (at-start .pre .0) .size)) (at-start .pre .1) (at-known .slice-known .given)
 
 pub solve-column-spec : {M : Type 1} → statement M

@@ -1,0 +1,44 @@
+-- Nothing is left behind the last row (`none-left`), first of one column, then of the other (`both-left`). Assumes nothing.
+use mathlib.Core.Path.{_∙_}
+use native.Mathlib.Omega.{arith}
+use borrow.Author.Needs.{needs}
+use Rattle.store.proofs.Columns.{sized, same-matrix}
+use Rattle.panels.proofs.Within.{none-left, both-left}
+use Rattle.panels.proofs.two_by_one.Statement.{statement}
+use Rattle.panels.proofs.two_by_one.Tie as tie
+
+-- the row is not there
+returns : tie.Need-returns
+returns c =
+    let h = c .before .before .pre in
+    let size = sized _ _ _ (h .0) .size in
+    both-left _ _ _ _ _ _ _ _ (h .2) (none-left _ _ _ _ _ _ size (omega arith) (c .if1 .taken)) (none-left _ _ _ _ _ _ size (h .3) (c .if1 .taken))
+
+minus-requires-2 : tie.Need-minus-requires-2
+minus-requires-2 c κs = let h = c .before .before .before .before .before .before .before .before .before .pre in (same-matrix _ _ _ _ (c .before .before .before .row .kept .0) ∙ h .0, h .1, h .3)
+
+row-requires-2 : tie.Need-row-requires-2
+row-requires-2 c κs =
+    let h = c .before .before .before .before .before .before .before .before .before .before .before .pre in
+    (same-matrix _ _ _ _ (c .before .before .before .before .before .row .kept .0) ∙ h .0, omega arith, h .3, h .4, c .before .before .before .before .before .before .before .before .before .if1 .left, c .before .minus2 .ensures)
+
+returns-2 : tie.Need-returns-2
+returns-2 c =
+    let h = c .before .before .before .before .before .before .before .before .before .before .before .before .before .before .pre in
+    let first = c .before .before .before .before .before .before .before .before .row in
+    let second = c .before .before .row2 in
+    let len = first .kept .0 ∙ sized _ _ _ (h .0) .size in
+    both-left _ _ _ _ _ _ _ _ (h .2) (none-left _ _ _ _ _ _ len (omega arith) (omega (arith, h .5)) ∙ first .ensures .0) (none-left _ _ _ _ _ _ (second .kept .0 ∙ len) (h .3) (omega (arith, h .5)) ∙ second .ensures .0)
+
+pub two-by-one-spec : {M : Type 1} → statement M
+two-by-one-spec =
+    tie.close
+    (tie.spec
+    returns
+    (λ c. search needs)
+    (λ c κs. search needs)
+    (λ c κs. search needs)
+    minus-requires-2
+    row-requires-2
+    (λ c. search needs)
+    returns-2)
