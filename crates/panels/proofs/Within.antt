@@ -167,25 +167,25 @@ module _ (i j m n : ℕ) (s t : List Float) (len : length s ≡ n * m) (right : 
     pub row-minus : (v : Float) → columns m n t ≡ set cs j (set (column cs j) k v) → f ≡ minusOf i (column (columns m n t) j)
     row-minus v made = is ∙ sym (minus-set i (column cs j) k v below) ∙ ap (minusOf i) (sym (ap (λ (ds : Matrix). column ds j) made ∙ getD-set-same cs j _ [] hc))
 
--- columns j and j + 1 written, rows of each being as they are after the steps
-module _ (i j k next m n : ℕ) (s t u : List Float) (c d : Column) (right : i + 4 ≤ j) (hj : j + 1 < n)
-    (first-made : columns m n t ≡ set (columns m n s) j c) (second-made : columns m n u ≡ set (columns m n t) (j + 1) d) where
+-- columns j and j + 1 written
+module _ (j m n : ℕ) (s t u : List Float) (c d : Column) (hj : j + 1 < n) (first-made : columns m n t ≡ set (columns m n s) j c) (second-made : columns m n u ≡ set (columns m n t) (j + 1) d) where
   -- the second column is the same before and after the first is written
-  pub second-kept : column (columns m n t) (j + 1) ≡ column (columns m n s) (j + 1)
+  second-kept : column (columns m n t) (j + 1) ≡ column (columns m n s) (j + 1)
   second-kept = ap (λ (ds : Matrix). column ds (j + 1)) first-made ∙ getD-set-other (columns m n s) j (j + 1) c [] (λ e. omega arith)
 
-  pub first-is : column (columns m n u) j ≡ c
+  first-is : column (columns m n u) j ≡ c
   first-is =
       ap (λ (ds : Matrix). column ds j) second-made ∙ getD-set-other (columns m n t) (j + 1) j d [] (λ e. omega arith)
       ∙ ap (λ (ds : Matrix). column ds j) first-made ∙ getD-set-same (columns m n s) j c [] (rw length-columns (omega arith))
 
-  pub second-is : column (columns m n u) (j + 1) ≡ d
+  second-is : column (columns m n u) (j + 1) ≡ d
   second-is = ap (λ (ds : Matrix). column ds (j + 1)) second-made ∙ getD-set-same (columns m n t) (j + 1) d [] (rw length-columns hj)
 
-  pub two-left : tailOf i next (columns m n s) c ≡ tailOf i k (columns m n s) (column (columns m n s) j) → tailOf i next (columns m n s) d ≡ tailOf i k (columns m n s) (column (columns m n s) (j + 1))
+  -- rows of each being as they are after the steps
+  two-left : (i k next : ℕ) → i + 4 ≤ j → tailOf i next (columns m n s) c ≡ tailOf i k (columns m n s) (column (columns m n s) j) → tailOf i next (columns m n s) d ≡ tailOf i k (columns m n s) (column (columns m n s) (j + 1))
       → tailsLeft i j next (columns m n u) ≡ tailsLeft i j k (columns m n s)
   unfolding tailsLeft setTwo
-  two-left first-rest second-rest =
+  two-left i k next right first-rest second-rest =
       let cs = columns m n s in
       put-two i j cs (columns m n u) right next c d (rw length-columns hj) (second-made ∙ ap (λ (ds : Matrix). set ds (j + 1) d) first-made)
       ∙ ap₂ (λ (a b : Column). set (set cs j a) (j + 1) b) first-rest second-rest
@@ -196,19 +196,19 @@ module _ (i j k m n : ℕ) (s t u : List Float) (f g x y : Four) (len : length s
     (first-made : columns m n t ≡ set (columns m n s) j (writtenFour k x (column (columns m n s) j)))
     (second-made : columns m n u ≡ set (columns m n t) (j + 1) (writtenFour k y (column (columns m n t) (j + 1)))) where
   kept : column (columns m n t) (j + 1) ≡ column (columns m n s) (j + 1)
-  kept = second-kept i j k (k + 4) m n s t u _ _ right hj first-made second-made
+  kept = second-kept j m n s t u _ _ hj first-made second-made
 
   pub fours-first : f ≡ minusOf i (column (columns m n u) j)
-  fours-first = f-is ∙ sym (minus-four i _ k x below) ∙ ap (minusOf i) (sym (first-is i j k (k + 4) m n s t u _ _ right hj first-made second-made))
+  fours-first = f-is ∙ sym (minus-four i _ k x below) ∙ ap (minusOf i) (sym (first-is j m n s t u _ _ hj first-made second-made))
 
   pub fours-second : g ≡ minusOf i (column (columns m n u) (j + 1))
-  fours-second = g-is ∙ ap (minusOf i) (sym kept) ∙ sym (minus-four i _ k y below) ∙ ap (minusOf i) (sym (second-is i j k (k + 4) m n s t u _ _ right hj first-made second-made))
+  fours-second = g-is ∙ ap (minusOf i) (sym kept) ∙ sym (minus-four i _ k y below) ∙ ap (minusOf i) (sym (second-is j m n s t u _ _ hj first-made second-made))
 
   pub fours-left : x ≡ fourRows i (columns m n s) f k (column (columns m n s) j) → y ≡ fourRows i (columns m n s) g k (column (columns m n s) (j + 1))
       → tailsLeft i j (k + 4) (columns m n u) ≡ tailsLeft i j k (columns m n s)
   fours-left ex ey =
       let cs = columns m n s in
-      two-left i j k (k + 4) m n s t u _ _ right hj first-made second-made
+      two-left j m n s t u _ _ hj first-made second-made i k (k + 4) right
       (four-step i cs (column cs j) k f x f-is ex below (rw (full m n s j len (omega arith)) hk))
       (ap (λ (c : Column). tailOf i (k + 4) cs (writtenFour k y c)) kept ∙ four-step i cs (column cs (j + 1)) k g y g-is ey below (rw (full m n s (j + 1) len hj) hk))
 
@@ -236,8 +236,8 @@ module _ (i j k m n : ℕ) (s : List Float) (f g : Four) (x x1 y y1 : Float) (p 
       let t = put j s p in
       let first = column-lent (λ c. set (set c k x) (k + 1) x1) m n j s p (omega arith) len kept-p made-p in
       let second = column-lent (λ c. set (set c k y) (k + 1) y1) m n (j + 1) t q hj (same-len-mid (j * m) (j * m + m - j * m) s p kept-p ∙ len) kept-q made-q in
-      two-left i j k (k + 2) m n s t (put (j + 1) t q) _ _ right hj first second (two-rest f (column before j) x x1 (full m n s j len (omega arith)) f-is ex ex1)
-      (ap (λ (c : Column). tailOf i (k + 2) before (set (set c k y) (k + 1) y1)) (second-kept i j k (k + 2) m n s t (put (j + 1) t q) _ _ right hj first second)
+      two-left j m n s t (put (j + 1) t q) _ _ hj first second i k (k + 2) right (two-rest f (column before j) x x1 (full m n s j len (omega arith)) f-is ex ex1)
+      (ap (λ (c : Column). tailOf i (k + 2) before (set (set c k y) (k + 1) y1)) (second-kept j m n s t (put (j + 1) t q) _ _ hj first second)
       ∙ two-rest g (column before (j + 1)) y y1 (full m n s (j + 1) len hj) g-is ey ey1)
 
 -- a column with nothing left

@@ -43,8 +43,8 @@ fn read_sizes(going: &mut bool) -> Sizes {
     }
 }
 
-// The case of an op, whose line is put into the text; an unknown op is no whole case.
-fn one_case(
+// The case of an op that makes, changes or reads factors.
+fn factors_case(
     text: &mut [u8],
     at: usize,
     op: u8,
@@ -59,17 +59,33 @@ fn one_case(
     match op {
         1 => cases::factor(text, at, sizes, a, x, swaps, bytes, going),
         2 => cases::add_column(text, at, sizes, x, b, swaps, bytes, going),
-        3..=8 => cases::of_factors(text, at, op, sizes, a, b, x, swaps, bytes, going),
-        9..=13 => cases::solve_triangular(text, at, op, sizes, a, b, x, bytes, going),
+        22 => cases::remove_column(text, at, sizes, x, swaps, bytes, going),
+        _ => cases::of_factors(text, at, op, sizes, a, b, x, swaps, bytes, going),
+    }
+}
+
+// The case of an op, whose line is put into the text; an unknown op is no whole case.
+fn one_case(
+    text: &mut [u8],
+    at: usize,
+    op: u8,
+    sizes: Sizes,
+    a: &mut [f64],
+    b: &mut [f64],
+    x: &mut [f64],
+    swaps: &mut [usize],
+    bytes: &mut [u8],
+    going: &mut bool,
+) -> usize {
+    match op {
+        1..=8 | 22 | 25 => factors_case(text, at, op, sizes, a, b, x, swaps, bytes, going),
+        9..=13 | 24 => cases::solve_triangular(text, at, op, sizes, a, b, x, bytes, going),
         14..=17 => cases::permute(text, at, op, sizes, a, swaps, bytes, going),
         18 => cases::append(text, at, sizes, swaps, bytes, going),
         19 => cases::rank(text, at, sizes, a, swaps, bytes, going),
         20 | 26 => cases::panel_answer(text, at, op, sizes, bytes, going),
         21 => cases::write_file(text, at, sizes, a, b, bytes, going),
-        22 => cases::remove_column(text, at, sizes, x, swaps, bytes, going),
         23 => cases::find_pivot(text, at, sizes.m, b, bytes, going),
-        24 => cases::solve_triangular(text, at, op, sizes, a, b, x, bytes, going),
-        25 => cases::of_factors(text, at, op, sizes, a, b, x, swaps, bytes, going),
         _ => {
             *going = false;
             at
