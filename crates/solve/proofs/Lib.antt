@@ -4,6 +4,7 @@ pub mod Diagonal
 pub mod Outcomes
 pub mod Accepted
 pub mod Lengths
+pub mod InPlace
 pub mod Alone
 pub mod Corrected
 pub mod Figures

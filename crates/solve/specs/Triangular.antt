@@ -43,16 +43,20 @@ upperRow d l i b =
 unfoldable pub keptRow : Float → Column → ℕ → Column → Column
 keptRow d l i b = axpyFrom (i + 1) (neg (div binary64 (entry b i) d)) l b
 
+-- b minus the dot product, for row i: of the rows below it
+abbrev pub lessBelow : Column → ℕ → Column → Float
+lessBelow l i b = sub binary64 (entry b i) (dotOf (drop (i + 1) l) (drop (i + 1) b))
+
 -- "each unknown is (b minus the dot product) divided by the diagonal": of the rows below it, or of those above
 unfoldable pub transposedLowerRow : Float → Column → ℕ → Column → Column
-transposedLowerRow d l i b = set b i (div binary64 (sub binary64 (entry b i) (dotOf (drop (i + 1) l) (drop (i + 1) b))) d)
+transposedLowerRow d l i b = set b i (div binary64 (lessBelow l i b) d)
 
 unfoldable pub transposedUpperRow : Float → Column → ℕ → Column → Column
 transposedUpperRow d l i b = set b i (div binary64 (sub binary64 (entry b i) (dotOf (take i l) (take i b))) d)
 
 -- transposed lower where the diagonal counts as one (document 02, request 5): nothing is divided
 unfoldable pub transposedUnitLowerRow : Column → ℕ → Column → Column
-transposedUnitLowerRow l i b = set b i (sub binary64 (entry b i) (dotOf (drop (i + 1) l) (drop (i + 1) b)))
+transposedUnitLowerRow l i b = set b i (lessBelow l i b)
 
 -- What each solve does in row i, d being the number to divide by. The corrected given diagonal (document 02, request 4) is a diagonal like
 -- the matrix's own: "each entry is divided by d, stored, and drives the updates".

@@ -5,7 +5,7 @@ ghost use Prim.Native.Nat.{_<_};
 ghost use lib.ListN.{length};
 ghost use Rattle.store.specs.Columns.{columns, isMatrix};
 ghost use Rattle.refusals.specs.Refusals.{answerOf};
-ghost use Rattle.solve.specs.Triangular.{divisor, lowerRow, upperRow, keptRow, transposedLowerRow, transposedUpperRow, transposedUnitLowerRow, solvedRow, rowAt, turnsOf, solvedColumn, solvedInPlace};
+ghost use Rattle.solve.specs.Triangular.{divisor, lowerRow, upperRow, keptRow, lessBelow, transposedLowerRow, transposedUpperRow, transposedUnitLowerRow, solvedRow, rowAt, turnsOf, solvedColumn, solvedInPlace};
 ghost use Rattle.solve.specs.Calls.{zeroOnDiagonal, sizesOutside, lengthsFit, givenFinite, numbersFinite, zeroDivisor, refusalOf, solving};
 use refusals::Answer;
 
@@ -65,14 +65,30 @@ fn kept_row(d: f64, col: &[f64], b: &mut [f64], i: usize)
     blas::axpy(b, -q, col, i + 1);
 }
 
-// Row i less the dot product of the rows below it, divided by d.
+// Row i less the dot product of the rows below it.
+fn less_below(col: &[f64], b: &[f64], i: usize) -> f64
+    requires { ⌜ (i < length (now col)) × (i < length (now b)) ⌝ }
+    ensures { λ r. ⌜ r ≡ lessBelow (now (col .entry)) i (now (b .entry)) ⌝ }
+{
+    let a = i + 1;
+    let sum = blas::dot(&col[a..], &b[a..]);
+    b[i] - sum
+}
+
+// That, divided by d, in row i.
 fn transposed_lower_row(d: f64, col: &[f64], b: &mut [f64], i: usize)
     requires { ⌜ (i < length (now col)) × (i < length (now b)) ⌝ }
     ensures { λ _. ⌜ now (b .exit) ≡ transposedLowerRow d (now (col .entry)) i (now (b .entry)) ⌝ }
 {
-    let a = i + 1;
-    let sum = blas::dot(&col[a..], &b[a..]);
-    b[i] = (b[i] - sum) / d;
+    b[i] = less_below(col, b, i) / d;
+}
+
+// The same undivided.
+fn transposed_unit_lower_row(col: &[f64], b: &mut [f64], i: usize)
+    requires { ⌜ (i < length (now col)) × (i < length (now b)) ⌝ }
+    ensures { λ _. ⌜ now (b .exit) ≡ transposedUnitLowerRow (now (col .entry)) i (now (b .entry)) ⌝ }
+{
+    b[i] = less_below(col, b, i);
 }
 
 // Row i less the dot product of the rows above it, divided by d.
@@ -82,16 +98,6 @@ fn transposed_upper_row(d: f64, col: &[f64], b: &mut [f64], i: usize)
 {
     let sum = blas::dot(&col[..i], &b[..i]);
     b[i] = (b[i] - sum) / d;
-}
-
-// Row i less the dot product of the rows below it, undivided.
-fn transposed_unit_lower_row(col: &[f64], b: &mut [f64], i: usize)
-    requires { ⌜ (i < length (now col)) × (i < length (now b)) ⌝ }
-    ensures { λ _. ⌜ now (b .exit) ≡ transposedUnitLowerRow (now (col .entry)) i (now (b .entry)) ⌝ }
-{
-    let a = i + 1;
-    let sum = blas::dot(&col[a..], &b[a..]);
-    b[i] = b[i] - sum;
 }
 
 // One row of a solve, col being column i of the matrix.

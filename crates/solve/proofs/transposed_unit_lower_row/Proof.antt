@@ -1,32 +1,18 @@
 -- The difference is stored. Assumes nothing.
-use mathlib.Core.Path.{ap₂, _∙_}
 use borrow.Author.Needs.{needs}
-use Rattle.blas.specs.Dot.{dotOf}
 use Rattle.solve.specs.Triangular.{transposedUnitLowerRow}
-use Rattle.solve.proofs.Turns.{rest-part}
 use Rattle.solve.proofs.transposed_unit_lower_row.Statement.{statement}
 use Rattle.solve.proofs.transposed_unit_lower_row.Tie as tie
 
 returns : tie.Need-returns
 unfolding transposedUnitLowerRow
-returns c = rw ((c .before .dot .ensures) ∙ ap₂ dotOf (rest-part _ (c .before .before .before .before .before .before .before .args .col .now)) (rest-part _ (c .before .before .before .before .before .before .before .args .b .now)))
+returns c = rw (c .less-below .ensures)
 
 pub transposed-unit-lower-row-spec : {M : Type 1} → statement M
 transposed-unit-lower-row-spec =
     tie.close
     (tie.spec
-    (λ c. search needs)
-    (λ c. search needs)
-    (λ c. search needs)
-    (λ c. search needs)
-    (λ c. search needs)
-    (λ c. search needs)
-    (λ c. search needs)
-    (λ c. search needs)
-    (λ c. search needs)
     (λ c κs. search needs)
-    (λ c. search needs)
-    (λ c. search needs)
     (λ c. search needs)
     (λ c. search needs)
     (λ c. search needs)

@@ -1,0 +1,28 @@
+-- The rows below row i are the rest of each slice. Assumes nothing.
+use mathlib.Core.Path.{ap₂, _∙_}
+use borrow.Author.Needs.{needs}
+use Rattle.blas.specs.Dot.{dotOf}
+use Rattle.solve.proofs.Turns.{rest-part}
+use Rattle.solve.proofs.less_below.Statement.{statement}
+use Rattle.solve.proofs.less_below.Tie as tie
+
+returns : tie.Need-returns
+returns c = let g = c .before .before .before .before .before .before .args in rw (c .before .dot .ensures ∙ ap₂ dotOf (rest-part _ (g .col .now)) (rest-part _ (g .b .now)))
+
+pub less-below-spec : {M : Type 1} → statement M
+less-below-spec =
+    tie.close
+    (tie.spec
+    (λ c. search needs)
+    (λ c. search needs)
+    (λ c. search needs)
+    (λ c. search needs)
+    (λ c. search needs)
+    (λ c. search needs)
+    (λ c. search needs)
+    (λ c. search needs)
+    (λ c. search needs)
+    (λ c κs. search needs)
+    (λ c. search needs)
+    (λ c. search needs)
+    returns)
