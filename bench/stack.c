@@ -40,7 +40,7 @@ APART void inverse(void) { answer = wejdarox_inverse(factors, FULL, swaps, 128, 
 APART void determinant(void) { answer = wejdarox_determinant(factors, FULL, swaps, 128, 64, 64, pairs, &value); __asm__ volatile(""); }
 APART void is_invertible(void) { answer = wejdarox_is_invertible(factors, FULL, swaps, 128, 64, 64, pairs, &invertible); __asm__ volatile(""); }
 APART void rank(void) { answer = wejdarox_rank(x, 64, 64, ranks, 64); __asm__ volatile(""); }
-APART void order(void) { answer = wejdarox_pad_order(file, sizeof file, ranks, loads, &pads); __asm__ volatile(""); }
+APART void order(void) { answer = wejdarox_pad_order(file, sizeof file, ranks, loads, &pads, &toss_ups); __asm__ volatile(""); }
 
 static size_t taken(void (*call)(void)) {
     paint();

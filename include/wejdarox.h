@@ -30,7 +30,7 @@
  *             - what a call may change (a pointer without `const`) is apart from every other slice and number of that call;
  *             - no other thread changes what is lent, or looks at what may change, until the call returns;
  *             - the floating-point state is the usual one of the ABI: rounding to nearest, no trap enabled, subnormal numbers kept;
- *             - the stack has room: on x86-64 wejdarox_pad_order takes 68 KB of it, the others under 1 KB.
+ *             - the stack has room: on x86-64 wejdarox_pad_order takes at most 36 KB of it, the others under 1 KB.
  *             It owes nothing else: sizes, lengths, swap lists and numbers may be anything.
  *
  *  Machine    `rt staticlib ffi` writes target/staticlib/libffi.a, code for x86-64 Linux. It needs `memset` and nothing else. No call allocates or keeps
@@ -47,6 +47,9 @@
 #ifdef __cplusplus
 extern "C" {
 #endif
+
+/* The version of this header and of the archive that it was packed with: the same number as in the file VERSION. */
+#define WEJDAROX_VERSION "0.7.0"
 
 /* The most rows, columns, right-hand columns and loads; and the length of a swap store. */
 #define WEJDAROX_MOST 64
@@ -314,6 +317,7 @@ size_t wejdarox_rank(const double *loads, size_t loads_len, size_t n, size_t *ra
  *  loads     (output) double array, dimension (64)
  *            The first n are the pads' loads, in the order of the pads; the others are as they were.
  *  pads      (output) the number of pads n. Refused: 0.
+ *  toss_ups  (output) at how many columns of the matrix another row had the pivot's magnitude, so that the first was taken. Refused: 0.
  *
  *  Answer
  *  ======
@@ -326,7 +330,7 @@ size_t wejdarox_rank(const double *loads, size_t loads_len, size_t n, size_t *ra
  *  8  under 6 bytes, another mark or another version     ranks and loads as they were
  *  8 is tested first, then 1, 3 and 5; 7 of the factoring before 6, and 7 of the solve behind it. file is never changed.
  */
-size_t wejdarox_pad_order(const uint8_t *file, size_t file_len, size_t ranks[64], double loads[64], size_t *pads);
+size_t wejdarox_pad_order(const uint8_t *file, size_t file_len, size_t ranks[64], double loads[64], size_t *pads, size_t *toss_ups);
 
 #ifdef __cplusplus
 }

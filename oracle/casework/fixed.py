@@ -9,6 +9,8 @@ from .make import MAKERS, SQUARE, file_case, moves_case, panel
 from .rules import GIVEN
 from .wire import Case, FLOATS, LONGEST, NEWLINE, OPS, encode, hexes, line, words
 
+LARGEST = 6 + 8 * 64 * 65      # bytes of a file of 64 pads
+
 
 def doubles(*numbers):
     return array('d', numbers)
@@ -288,7 +290,7 @@ def faults_of(case):
             for count in COUNTS:
                 yield changed(case, at, pairs(count))
                 yield changed(full, at, pairs(count))       # good pairs, at most too many
-        if name == 'swaps' and case.op != 1:
+        if name == 'swaps' and case.op not in (1, 35):
             for row in ROWS:
                 yield changed(case, at, with_item(items, 0, row))
             yield changed(case, at, with_item(items, 3, 1))
@@ -321,6 +323,7 @@ def good(op):
         23: lambda: searching(1, 3.0, -2.0, 1.0, 2.0, 3.0),
         24: lambda: Case(24, 0, 3, 2, [matrix, doubles(2.0), b, x]),
         25: lambda: Case(25, 3, 3, 2, [matrix, *list_, b, x]),
+        35: lambda: Case(35, 4, 3, 0, [tall, wide, swap_store(9, 9)]),
     }.get(op, lambda: Case(op, 0, 3, 2, [matrix, b, x]) if op < 14 else Case(op, 4, 3, 0, [*list_, tall]))()
 
 
@@ -348,7 +351,9 @@ def written():
     yield writing(2 ** 32, matrix, readings, 200)
     r = random.Random('63 pads to write')
     yield writing(63, floats.unit(r, 63 * 63), floats.unit(r, 63), 6 + 8 * 63 * 64)
-    yield writing(64, floats.unit(r, 64 * 64), floats.unit(r, 64), 8 * LONGEST)       # six bytes too short
+    matrix, readings = floats.unit(r, 64 * 64), floats.unit(r, 64)
+    for room in (LARGEST - 1, LARGEST, LARGEST + 1, 8 * LONGEST):                     # one byte too short, as long, longer
+        yield writing(64, matrix, readings, room)
 
 
 def files():
@@ -372,7 +377,13 @@ def files():
     yield panel(1, doubles(2.0 ** -1024, 0.0))
     r = random.Random('63 pads')
     yield panel(63, floats.unit(r, 63 * 64))
-    yield panel(64, floats.unit(r, LONGEST))[:8 * LONGEST]                            # cut short by six bytes
+    whole = panel(64, floats.unit(r, 64 * 65))                                        # 33,286 bytes, the longest good file
+    yield from (whole, whole[:-6], whole + b'\0', whole + bytes(8), (whole + bytes(64))[:8 * LONGEST])
+    longer = bytes(8 * LONGEST - len(whole))
+    yield whole[:5] + b'\xff' + whole[6:] + longer                                    # 1 before 3
+    yield b'M' + whole[1:] + longer                                                   # 8 before 1 and 3
+    yield whole[:6] + struct.pack('<d', floats.NOT_FINITE[0]) + whole[14:] + longer   # 3 before 5
+    yield whole[:6] + struct.pack('<d', floats.NOT_FINITE[0]) + whole[14:]            # 5
 
 
 def moves():
@@ -413,7 +424,7 @@ def largest():
             if op in (3, 12, 25):
                 yield make(r, op, 63, 2)
         else:
-            if op in (2, 14, 22):       # the table has factoring's
+            if op in (2, 14, 22, 35):       # the table has factoring's
                 yield make(r, op, 64, 64)
             for m, n in ((64, 0), (63, 1), (1, 64), (2, 63)):
                 yield make(r, op, m, n)

@@ -10,7 +10,7 @@ from .wire import Case, FLOATS, LONGEST, OPS, unhex
 
 # how often each op comes in a round
 TURNS = {1: 3, 2: 3, 3: 3, 4: 2, 5: 1, 6: 1, 7: 3, 8: 3, 9: 2, 10: 2, 11: 2, 12: 3, 13: 3,
-         14: 3, 15: 3, 16: 3, 17: 3, 18: 2, 19: 1, 20: 2, 21: 2, 22: 3, 23: 2, 24: 2, 25: 3, 26: 2}
+         14: 3, 15: 3, 16: 3, 17: 3, 18: 2, 19: 1, 20: 2, 21: 2, 22: 3, 23: 2, 24: 2, 25: 3, 26: 2, 35: 3}
 ROUND = [(op, turn) for turn in range(max(TURNS.values())) for op in TURNS if turn < TURNS[op]]
 
 JUNK = [0, 1, 63, 64, 65, 255, 2 ** 32, 2 ** 63, 2 ** 64 - 1]
@@ -155,7 +155,6 @@ def panel(n, numbers):
 
 
 def make_file(r, op, n, k):
-    n = min(n, 63)      # a file for 64 pads is longer than a slice of a case may be
     matrix = floats.matrix(r, n, n)
     if r.random() < 0.3:
         floats.without_zero_diagonal(r, n, matrix)
@@ -169,7 +168,7 @@ def file_case(file):
 
 
 def make_write(r, op, n, k):
-    """A crossing of any finite numbers, and a slice that fits, is longer, or (64 pads) is as long as a case may have it."""
+    """A crossing of any finite numbers, and a slice that fits, or is longer."""
     lent = r.randbytes(6 + 8 * (n * n + n) + r.choice((0, 0, 1, 2, 7, 8, 9, 40)))[:8 * LONGEST]
     return Case(op, 0, n, len(lent), [floats.numbers(r, n * n), floats.numbers(r, n), lent])
     yield
@@ -220,7 +219,7 @@ def moves_case(pad, file):
 MAKERS = {1: make_factor, 2: make_add, 3: make_solve, 4: make_square, 5: make_square, 6: make_square, 7: make_l_or_u, 8: make_l_or_u,
           9: make_triangular, 10: make_triangular, 11: make_triangular, 12: make_triangular, 13: make_triangular,
           14: make_permute, 15: make_permute, 16: make_permute, 17: make_permute, 18: make_append, 19: make_rank, 20: make_file,
-          21: make_write, 22: make_remove, 23: make_search, 24: make_triangular, 25: make_solve, 26: make_moves}
+          21: make_write, 22: make_remove, 23: make_search, 24: make_triangular, 25: make_solve, 26: make_moves, 35: make_factor}
 SQUARE = (3, 4, 5, 6, 9, 10, 11, 12, 13, 19, 20, 21, 24, 25, 26)      # ops whose two sizes are the matrix's and the right-hand columns'
 
 

@@ -8,7 +8,7 @@ import sys
 
 TAKES = {1: 'FFW', 2: 'FFWW', 3: 'FWWFF', 4: 'FWWF', 5: 'FWW', 6: 'FWW', 7: 'FWWF', 8: 'FWWF', 9: 'FFF', 10: 'FFF', 11: 'FFFF', 12: 'FFF',
          13: 'FFF', 14: 'WWF', 15: 'WWF', 16: 'WWF', 17: 'WWF', 18: 'WWW', 19: 'FW', 20: 'W', 21: 'FFW', 22: 'FWW', 23: 'F', 24: 'FFFF',
-         25: 'FWWFF', 26: 'W'}
+         25: 'FWWFF', 26: 'W', 35: 'FFW'}
 
 
 class Refused(Exception):
@@ -39,7 +39,7 @@ class Input:
 
     def slice(self, kind):
         count, = self.take('<H')
-        if count > 4160:
+        if count > 4168:
             raise BadCase
         return list(self.take(f'<{count}d' if kind == 'F' else f'<{count}Q'))
 
@@ -541,7 +541,7 @@ CALLS = {
     20: (panel_file, lambda number, *case: (f'refused {number}\n',)), 21: (write_file, write_left),
     22: (remove, lambda number, m, n, k, store, swaps, count: (count, store, swaps)),
     23: (search, None), 24: (given_diagonal(corrected), last_left), 25: (solving(transposed_solved), last_left),
-    26: (moves, lambda *case: ('-',)),
+    26: (moves, lambda *case: ('-',)), 35: (factor, factor_left),
 }
 
 

@@ -512,6 +512,7 @@ RULES = {
     24: (triangular_tests, result_left, corrected_made),
     25: (solve_tests, result_left, transposed_made),
     26: (moves_tests, dash, moves_made),
+    35: (factor_tests, factor_left, factor_made),
 }
 
 

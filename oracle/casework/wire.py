@@ -6,7 +6,7 @@ from array import array
 
 assert sys.byteorder == 'little', 'slices are kept as the machine keeps them, and the format is little-endian'
 
-LONGEST = 4160      # items that a slice of a case may have
+LONGEST = 4168      # items that a slice of a case may have
 NEWLINE = ' / '     # how op 20 shows each newline of the program's answer, the last one too
 
 FLOATS, WORDS, BYTES = 'd', 'Q', 'B'
@@ -50,6 +50,7 @@ OPS = {
     24: Op('solve lower with the given diagonal, corrected', 'nk', 'matrix', 'diagonal', 'right-hand sides', 'x0'),
     25: Op('transposed solve', 'mnk', 'factors', 'swaps', 'pairs', 'right-hand sides', 'x0'),
     26: Op('how a pad moves, of a panel file', 'mk', 'file'),
+    35: Op('build up', 'mn', 'matrix', 'out0', 'swaps'),
 }
 
 

@@ -74,7 +74,7 @@ mod c {
             invertible: *mut bool,
         ) -> usize;
         pub fn wejdarox_rank(loads: *const f64, loads_len: usize, n: usize, ranks: *mut usize, ranks_len: usize) -> usize;
-        pub fn wejdarox_pad_order(file: *const u8, file_len: usize, ranks: *mut usize, loads: *mut f64, pads: *mut usize) -> usize;
+        pub fn wejdarox_pad_order(file: *const u8, file_len: usize, ranks: *mut usize, loads: *mut f64, pads: *mut usize, toss_ups: *mut usize) -> usize;
     }
 }
 
@@ -124,6 +124,6 @@ pub(crate) fn rank(loads: &[f64], n: usize, ranks: &mut [usize]) -> usize {
     unsafe { c::wejdarox_rank(loads.as_ptr(), loads.len(), n, ranks.as_mut_ptr(), ranks.len()) }
 }
 
-pub(crate) fn pad_order(file: &[u8], ranks: &mut [usize; 64], loads: &mut [f64; 64], pads: &mut usize) -> usize {
-    unsafe { c::wejdarox_pad_order(file.as_ptr(), file.len(), ranks.as_mut_ptr(), loads.as_mut_ptr(), pads) }
+pub(crate) fn pad_order(file: &[u8], ranks: &mut [usize; 64], loads: &mut [f64; 64], pads: &mut usize, toss_ups: &mut usize) -> usize {
+    unsafe { c::wejdarox_pad_order(file.as_ptr(), file.len(), ranks.as_mut_ptr(), loads.as_mut_ptr(), pads, toss_ups) }
 }

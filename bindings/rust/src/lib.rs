@@ -198,9 +198,19 @@ pub struct Pad {
     pub load: f64,
 }
 
+/// The answer for a panel file.
+#[derive(Clone, Debug, PartialEq)]
+pub struct PadOrder {
+    /// The pads in the order to lift them.
+    pub pads: Vec<Pad>,
+    /// In how many columns another row had the pivot's magnitude, so that the first was taken.
+    pub toss_ups: usize,
+}
+
 /// The pads of a panel file in the order to lift them. Refusals: 8, 1, 3, 5, 6, 7.
-pub fn pad_order(file: &[u8]) -> Result<Vec<Pad>, Refusal> {
-    let (mut ranks, mut loads, mut pads) = ([0; MOST], [0.0; MOST], 0);
-    Refusal::told(calls::pad_order(file, &mut ranks, &mut loads, &mut pads))?;
-    Ok(ranks[..pads].iter().map(|&number| Pad { number, load: loads[number - 1] }).collect())
+pub fn pad_order(file: &[u8]) -> Result<PadOrder, Refusal> {
+    let (mut ranks, mut loads, mut pads, mut toss_ups) = ([0; MOST], [0.0; MOST], 0, 0);
+    Refusal::told(calls::pad_order(file, &mut ranks, &mut loads, &mut pads, &mut toss_ups))?;
+    let pads = ranks[..pads].iter().map(|&number| Pad { number, load: loads[number - 1] }).collect();
+    Ok(PadOrder { pads, toss_ups })
 }

@@ -3,7 +3,7 @@ use std::fs;
 use std::io::Write;
 use std::path::{Path, PathBuf};
 use std::process::{Command, Stdio};
-use wejdarox::{pad_order, rank, Lu, Pad, Refusal};
+use wejdarox::{pad_order, rank, Lu, Pad, PadOrder, Refusal};
 
 // ---- random inputs, the same in every run
 
@@ -250,9 +250,11 @@ fn panel_files() {
     for turn in 0..300 {
         let n = 1 + random.below(if turn % 8 == 0 { 64 } else { 9 });
         let (a, b) = (random.matrix(n, n), random.numbers(n, 1));
-        let parts = || -> Result<Vec<Pad>, Refusal> {
-            let loads = Lu::factor(&a, n, n)?.solve(&b, 1)?;
-            Ok(rank(&loads)?.into_iter().map(|number| Pad { number, load: loads[number - 1] }).collect())
+        let parts = || -> Result<PadOrder, Refusal> {
+            let lu = Lu::factor(&a, n, n)?;
+            let loads = lu.solve(&b, 1)?;
+            let pads = rank(&loads)?.into_iter().map(|number| Pad { number, load: loads[number - 1] }).collect();
+            Ok(PadOrder { pads, toss_ups: lu.toss_ups() })
         };
         let whole = file(n, &a, &b);
         assert_eq!(pad_order(&whole), parts());
@@ -273,9 +275,9 @@ fn crossings() {
         let bytes = fs::read(repository().join("crossings").join(name)).expect("the file");
         let made = match pad_order(&bytes) {
             Err(refusal) => vec![format!("refused {}", refusal.number())],
-            Ok(pads) => {
-                let head = format!("pads {}", pads.len());
-                std::iter::once(head).chain(pads.iter().map(|pad| format!("{} {:016x}", pad.number, pad.load.to_bits()))).collect()
+            Ok(order) => {
+                let head = format!("pads {}", order.pads.len());
+                std::iter::once(head).chain(order.pads.iter().map(|pad| format!("{} {:016x}", pad.number, pad.load.to_bits()))).collect()
             }
         };
         assert_eq!(made, wanted, "{name}");

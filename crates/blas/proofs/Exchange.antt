@@ -9,8 +9,8 @@ use borrow.Author.Tests.{ltb-true, eqb-true, eqb-false, lt-ltb}
 use lib.Dec.{ltb, eqb}
 use lib.ListN.{length, getD, set, length-set}
 use lib.Seq.{getD-set-same, getD-set-other, set-getD, set-set, ext-getD}
-use Rattle.blas.specs.Column.{exchanged}
-use Rattle.blas.proofs.Choice.{test-cases, cond-cases, and-first, and-second}
+use Rattle.blas.specs.Blas.{exchanged}
+use Rattle.numbers.proofs.Choice.{test-cases, cond-cases, and-first, and-second}
 
 -- ---- the row that stands at k once rows a and b are exchanged
 abbrev pub other : ℕ → ℕ → ℕ → ℕ
@@ -74,7 +74,8 @@ module _ {A : Type 0} (d : A) (a b : ℕ) where
   -- what stands above both places stays
   pub exchanged-above : (l : List A) (k : ℕ) → k < a → k < b → getD (exchanged d a b l) k d ≡ getD l k d
   exchanged-above l k ka kb =
-      exchanged-cases (length l) (λ ha hb. getD-exchanged l k ha hb ∙ ap (λ (j : ℕ). getD l j d) (other-same a b k ka kb)) (λ out. ap (λ (x : List A). getD x k d) (out l refl))
+      exchanged-cases (length l) (λ ha hb. getD-exchanged l k ha hb ∙ ap (λ (j : ℕ). getD l j d) (other-same a b k ka kb))
+      (λ out. ap (λ (x : List A). getD x k d) (out l refl))
 
   pub exchanged-twice : (l : List A) → exchanged d a b (exchanged d a b l) ≡ l
   exchanged-twice l =

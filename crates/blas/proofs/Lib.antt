@@ -1,14 +1,3 @@
-pub mod Choice
-pub mod Each
 pub mod Exchange
-pub mod Finite
-pub mod FiniteTest
-pub mod One
-pub mod OnePass
-pub mod Pivot
-pub mod Product
 pub mod Rows
 pub mod Sum
-pub mod Tied
-pub mod TossUp
-pub mod Walk

@@ -8,9 +8,10 @@ use lib.Dec.{ltb, eqb}
 use lib.ListN.{length}
 use lib.Seq.{ext-getD}
 use lib.Ieee.{Float, nan, binary64, add, mul}
-use Rattle.blas.specs.Column.{Column, entry, swapRows, scaleFrom, axpyFrom, copied}
-use Rattle.blas.proofs.Choice.{test-cases, cond-cases}
-use Rattle.blas.proofs.Each.{length-each, each-at, each-before, each-stop}
+use Rattle.numbers.specs.Column.{Column, entry}
+use Rattle.blas.specs.Blas.{swapRows, scaleFrom, axpyFrom, copied}
+use Rattle.numbers.proofs.Choice.{test-cases, cond-cases}
+use Rattle.numbers.proofs.Each.{length-each, each-at, each-before, each-stop}
 use Rattle.blas.proofs.Exchange.{other, other-same, other-from, other-range, exchanged-cases, length-exchanged, getD-exchanged}
 
 pub length-scale : (from : ℕ) (r : Float) (c : Column) → length (scaleFrom from r c) ≡ length c
@@ -73,7 +74,8 @@ axpy-swap from a b u l c fa fb =
     done : Column
     done = axpyFrom from u l c
 
-    rows : length l ≡ length c → a < length c → b < length c → (k : ℕ) → k < length (axpyFrom from u l' c') → entry (axpyFrom from u l' c') k ≡ entry (swapRows a b done) k
+    rows : length l ≡ length c → a < length c → b < length c → (k : ℕ) → k < length (axpyFrom from u l' c')
+        → entry (axpyFrom from u l' c') k ≡ entry (swapRows a b done) k
     rows e ha hb k h =
         let j = other a b k in
         let hk : k < length c = simp (length-axpy, length-exchanged) at h in

@@ -6,8 +6,8 @@ use native.Mathlib.Omega.{arith}
 use borrow.Author.Tests.{eq-eqb}
 use lib.ListN.{length, take, drop}
 use lib.Ieee.{Float}
-use Rattle.blas.specs.Each.{eachFrom, turnsFrom}
-use Rattle.blas.specs.Column.{Column}
+use Rattle.numbers.specs.Each.{eachFrom, turnsFrom}
+use Rattle.numbers.specs.Column.{Column}
 use Rattle.blas.specs.Dot.{addProduct, addBlock, eightSums, pairSums, dotOf}
 
 -- block j, lent as the part from j * 8 to j * 8 + 8

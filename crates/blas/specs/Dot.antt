@@ -5,9 +5,9 @@ use Prim.Native.Nat.{ℕ, _+_, _*_, _/_, _%_}
 use lib.Dec.{eqb}
 use lib.ListN.{length, take, drop}
 use lib.Ieee.{Float, nan, binary64, add, mul}
-use Rattle.blas.specs.Each.{eachFrom, turnsFrom}
-use Rattle.blas.specs.Numbers.{zero64}
-use Rattle.blas.specs.Column.{Column, entry, zeros}
+use Rattle.numbers.specs.Each.{eachFrom, turnsFrom}
+use Rattle.numbers.specs.Numbers.{zero64}
+use Rattle.numbers.specs.Column.{Column, entry, zeros}
 
 -- a sum with the product in row k added to it, both rounded
 unfoldable pub addProduct : Column → Column → ℕ → Float → Float

@@ -1,5 +1,2 @@
-pub mod Numbers
-pub mod Each
-pub mod Column
-pub mod TossUp
+pub mod Blas
 pub mod Dot

@@ -1,11 +1,11 @@
-// Prints what `panel::text` answers for each file of crossings/, under its name. The names are its six arguments.
+// Prints what `panel_text::text` answers for each file of crossings/, under its name. The names are its six arguments.
 
 // Prints the answer for an open file.
 fn print_answer(fd: i32) {
     let mut file = [0u8; 33287];
     let held = io::read_full(fd, &mut file);
     let mut out = [0u8; 1288];
-    let count = panel::text(&file[..held], &mut out);
+    let count = panel_text::text(&file[..held], &mut out);
     io::write_all(1, &out[..count]);
 }
 

@@ -1,21 +1,21 @@
 // The calls for C and Rust, under plain names: a slice is a pointer and a length, a refusal's number is the answer (0 for none), and a further number is
 // written through a pointer. Each hands its arguments on and adds nothing of its own; include/wejdarox.h is the caller's side.
 ghost use mathlib.Core.Path.{_≡_};
-ghost use Rattle.store.specs.Columns.{columns};
+ghost use Rattle.refusals.specs.Outcome.{numberOf};
 ghost use Rattle.ranking.specs.Ranking.{ranking};
-ghost use Rattle.lu.specs.Factoring.{recordOf, factoring};
-ghost use Rattle.lu.specs.Adding.{factorsIn, adding};
-ghost use Rattle.lu.specs.TossUps.{tossUps, ownTossUp};
+ghost use Rattle.factors.specs.Factors.{recordOf, recordAfter};
+ghost use Rattle.lu.specs.Factoring.{factoring, factoringAnswer, pairsIn, tossedIn};
+ghost use Rattle.adding.specs.Adding.{adding, addingAnswer};
 ghost use Rattle.from_factors.specs.Solving.{solving, inverting};
-ghost use Rattle.from_factors.specs.Determinant.{numberOf, testNumberOf, determining, inverseTest};
-ghost use Rattle.panel.specs.Ordering.{ordering};
-ghost use Rattle.ffi.specs.Exports.{tossesOf, valueAfter, truthAfter};
+ghost use Rattle.from_factors.specs.Determinant.{determining, inverseTest};
+ghost use Rattle.crossing.specs.Ordering.{ordering};
+ghost use Rattle.ffi.specs.Exports.{valueAfter, resultAfter, padsIn};
+use adding::Added;
+use crossing::Order;
+use factors::Record;
 use from_factors::Det;
 use from_factors::Invertible;
-use lu::Added;
 use lu::Factored;
-use lu::Record;
-use panel::Order;
 
 // Factors the m by n matrix a. Refused: no pairs and no toss-ups.
 #[no_mangle]
@@ -28,11 +28,11 @@ pub extern "C" fn wejdarox_factor(
     pairs: &mut usize,
     toss_ups: &mut usize,
 ) -> usize
-    ensures { λ r. ⌜ r ≡ factoring m n (now (a .entry)) (now (factors .entry)) (now (swaps .entry)) .number ⌝ }
-    ensures { λ _. ⌜ now (factors .exit) ≡ factoring m n (now (a .entry)) (now (factors .entry)) (now (swaps .entry)) .factors ⌝ }
-    ensures { λ _. ⌜ now (swaps .exit) ≡ factoring m n (now (a .entry)) (now (factors .entry)) (now (swaps .entry)) .store ⌝ }
-    ensures { λ _. ⌜ now (pairs .exit) ≡ factoring m n (now (a .entry)) (now (factors .entry)) (now (swaps .entry)) .told .pairs ⌝ }
-    ensures { λ _. ⌜ now («toss_ups» .exit) ≡ tossesOf (factoring m n (now (a .entry)) (now (factors .entry)) (now (swaps .entry))) (tossUps m (columns m n (now (a .entry)))) ⌝ }
+    ensures { λ r. ⌜ r ≡ numberOf (factoringAnswer m n (now (a .entry)) (now (factors .entry)) (now (swaps .entry))) ⌝ }
+    ensures { λ _. ⌜ now (factors .exit) ≡ factoring m n (now (a .entry)) (now (factors .entry)) (now (swaps .entry)) .left .factors ⌝ }
+    ensures { λ _. ⌜ now (swaps .exit) ≡ factoring m n (now (a .entry)) (now (factors .entry)) (now (swaps .entry)) .left .store ⌝ }
+    ensures { λ _. ⌜ now (pairs .exit) ≡ pairsIn (factoringAnswer m n (now (a .entry)) (now (factors .entry)) (now (swaps .entry))) ⌝ }
+    ensures { λ _. ⌜ now («toss_ups» .exit) ≡ tossedIn (factoringAnswer m n (now (a .entry)) (now (factors .entry)) (now (swaps .entry))) ⌝ }
 {
     match lu::factor(a, m, n, factors, swaps) {
         Factored::Accepted {
@@ -62,11 +62,16 @@ pub extern "C" fn wejdarox_add_column(
     pairs: &mut usize,
     toss_ups: &mut usize,
 ) -> usize
-    ensures { λ r. ⌜ r ≡ adding (recordOf m n (now (pairs .entry))) (now (factors .entry)) (now (column .entry)) (now (swaps .entry)) .number ⌝ }
-    ensures { λ _. ⌜ now (factors .exit) ≡ adding (recordOf m n (now (pairs .entry))) (now (factors .entry)) (now (column .entry)) (now (swaps .entry)) .factors ⌝ }
-    ensures { λ _. ⌜ now (swaps .exit) ≡ adding (recordOf m n (now (pairs .entry))) (now (factors .entry)) (now (column .entry)) (now (swaps .entry)) .store ⌝ }
-    ensures { λ _. ⌜ now (pairs .exit) ≡ adding (recordOf m n (now (pairs .entry))) (now (factors .entry)) (now (column .entry)) (now (swaps .entry)) .told .pairs ⌝ }
-    ensures { λ _. ⌜ now («toss_ups» .exit) ≡ tossesOf (adding (recordOf m n (now (pairs .entry))) (now (factors .entry)) (now (column .entry)) (now (swaps .entry))) (ownTossUp m (factorsIn m n (now (pairs .entry)) (now (factors .entry)) (now (swaps .entry))) (now (column .entry))) ⌝ }
+    ensures { λ r. ⌜ r ≡ numberOf (addingAnswer (recordOf m n (now (pairs .entry))) (now (factors .entry)) (now (column .entry)) (now (swaps .entry))) ⌝ }
+    ensures { λ _. ⌜ now (factors .exit)
+        ≡ adding (recordOf m n (now (pairs .entry))) (now (factors .entry)) (now (column .entry)) (now (swaps .entry)) .left .factors ⌝ }
+    ensures { λ _. ⌜ now (swaps .exit)
+        ≡ adding (recordOf m n (now (pairs .entry))) (now (factors .entry)) (now (column .entry)) (now (swaps .entry)) .left .store ⌝ }
+    ensures { λ _. ⌜ now (pairs .exit)
+        ≡ recordAfter (recordOf m n (now (pairs .entry)))
+        (adding (recordOf m n (now (pairs .entry))) (now (factors .entry)) (now (column .entry)) (now (swaps .entry)) .answer) .pairs ⌝ }
+    ensures { λ _. ⌜ now («toss_ups» .exit)
+        ≡ tossedIn (addingAnswer (recordOf m n (now (pairs .entry))) (now (factors .entry)) (now (column .entry)) (now (swaps .entry))) ⌝ }
 {
     let was = *pairs;
     let held = Record {
@@ -74,7 +79,7 @@ pub extern "C" fn wejdarox_add_column(
         columns: n,
         pairs: was,
     };
-    match lu::add_column(factors, column, swaps, held) {
+    match adding::add_column(factors, column, swaps, held) {
         Added::Accepted {
             told,
             toss_ups: tossed,
@@ -102,8 +107,8 @@ pub extern "C" fn wejdarox_solve(
     k: usize,
     x: &mut [f64],
 ) -> usize
-    ensures { λ r. ⌜ r ≡ solving (recordOf m n pairs) (now (factors .entry)) (now (swaps .entry)) k (now (b .entry)) (now (x .entry)) .number ⌝ }
-    ensures { λ _. ⌜ now (x .exit) ≡ solving (recordOf m n pairs) (now (factors .entry)) (now (swaps .entry)) k (now (b .entry)) (now (x .entry)) .result ⌝ }
+    ensures { λ r. ⌜ r ≡ numberOf (solving (recordOf m n pairs) (now (factors .entry)) (now (swaps .entry)) k (now (b .entry)) (now (x .entry)) .answer) ⌝ }
+    ensures { λ _. ⌜ now (x .exit) ≡ solving (recordOf m n pairs) (now (factors .entry)) (now (swaps .entry)) k (now (b .entry)) (now (x .entry)) .left ⌝ }
 {
     let told = Record {
         rows: m,
@@ -123,8 +128,8 @@ pub extern "C" fn wejdarox_inverse(
     pairs: usize,
     x: &mut [f64],
 ) -> usize
-    ensures { λ r. ⌜ r ≡ inverting (recordOf m n pairs) (now (factors .entry)) (now (swaps .entry)) (now (x .entry)) .number ⌝ }
-    ensures { λ _. ⌜ now (x .exit) ≡ inverting (recordOf m n pairs) (now (factors .entry)) (now (swaps .entry)) (now (x .entry)) .result ⌝ }
+    ensures { λ r. ⌜ r ≡ numberOf (inverting (recordOf m n pairs) (now (factors .entry)) (now (swaps .entry)) (now (x .entry)) .answer) ⌝ }
+    ensures { λ _. ⌜ now (x .exit) ≡ inverting (recordOf m n pairs) (now (factors .entry)) (now (swaps .entry)) (now (x .entry)) .left ⌝ }
 {
     let told = Record {
         rows: m,
@@ -145,7 +150,7 @@ pub extern "C" fn wejdarox_determinant(
     value: &mut f64,
 ) -> usize
     ensures { λ r. ⌜ r ≡ numberOf (determining (recordOf m n pairs) (now (factors .entry)) (now (swaps .entry))) ⌝ }
-    ensures { λ _. ⌜ now (value .exit) ≡ valueAfter (determining (recordOf m n pairs) (now (factors .entry)) (now (swaps .entry))) (now (value .entry)) ⌝ }
+    ensures { λ _. ⌜ now (value .exit) ≡ resultAfter (determining (recordOf m n pairs) (now (factors .entry)) (now (swaps .entry))) (now (value .entry)) ⌝ }
 {
     let told = Record {
         rows: m,
@@ -176,8 +181,9 @@ pub extern "C" fn wejdarox_is_invertible(
     pairs: usize,
     invertible: &mut bool,
 ) -> usize
-    ensures { λ r. ⌜ r ≡ testNumberOf (inverseTest (recordOf m n pairs) (now (factors .entry)) (now (swaps .entry))) ⌝ }
-    ensures { λ _. ⌜ now (invertible .exit) ≡ truthAfter (inverseTest (recordOf m n pairs) (now (factors .entry)) (now (swaps .entry))) (now (invertible .entry)) ⌝ }
+    ensures { λ r. ⌜ r ≡ numberOf (inverseTest (recordOf m n pairs) (now (factors .entry)) (now (swaps .entry))) ⌝ }
+    ensures { λ _. ⌜ now (invertible .exit)
+        ≡ valueAfter (inverseTest (recordOf m n pairs) (now (factors .entry)) (now (swaps .entry))) (now (invertible .entry)) ⌝ }
 {
     let told = Record {
         rows: m,
@@ -196,32 +202,39 @@ pub extern "C" fn wejdarox_is_invertible(
 // Ranks the n loads.
 #[no_mangle]
 pub extern "C" fn wejdarox_rank(loads: &[f64], n: usize, ranks: &mut [usize]) -> usize
-    ensures { λ r. ⌜ r ≡ ranking n (now (loads .entry)) (now (ranks .entry)) .number ⌝ }
-    ensures { λ _. ⌜ now (ranks .exit) ≡ ranking n (now (loads .entry)) (now (ranks .entry)) .ranks ⌝ }
+    ensures { λ r. ⌜ r ≡ numberOf (ranking n (now (loads .entry)) (now (ranks .entry)) .answer) ⌝ }
+    ensures { λ _. ⌜ now (ranks .exit) ≡ ranking n (now (loads .entry)) (now (ranks .entry)) .left ⌝ }
 {
     refusals::number_of(ranking::rank(loads, n, ranks))
 }
 
-// The whole answer for a panel file, its number of pads through pads. Refused: no pads.
+// The whole answer for a panel file, its number of pads through pads and of toss-ups through toss_ups. Refused: no pads and no toss-ups.
 #[no_mangle]
 pub extern "C" fn wejdarox_pad_order(
     file: &[u8],
     ranks: &mut [usize; 64],
     loads: &mut [f64; 64],
     pads: &mut usize,
+    toss_ups: &mut usize,
 ) -> usize
-    ensures { λ r. ⌜ r ≡ ordering (now (file .entry)) (now (ranks .entry)) (now (loads .entry)) .number ⌝ }
-    ensures { λ _. ⌜ now (ranks .exit) ≡ ordering (now (file .entry)) (now (ranks .entry)) (now (loads .entry)) .ranks ⌝ }
-    ensures { λ _. ⌜ now (loads .exit) ≡ ordering (now (file .entry)) (now (ranks .entry)) (now (loads .entry)) .loads ⌝ }
-    ensures { λ _. ⌜ now (pads .exit) ≡ ordering (now (file .entry)) (now (ranks .entry)) (now (loads .entry)) .pads ⌝ }
+    ensures { λ r. ⌜ r ≡ numberOf (ordering (now (file .entry)) (now (ranks .entry)) (now (loads .entry)) .answer) ⌝ }
+    ensures { λ _. ⌜ now (ranks .exit) ≡ ordering (now (file .entry)) (now (ranks .entry)) (now (loads .entry)) .left .ranks ⌝ }
+    ensures { λ _. ⌜ now (loads .exit) ≡ ordering (now (file .entry)) (now (ranks .entry)) (now (loads .entry)) .left .loads ⌝ }
+    ensures { λ _. ⌜ now (pads .exit) ≡ padsIn (ordering (now (file .entry)) (now (ranks .entry)) (now (loads .entry)) .answer) ⌝ }
+    ensures { λ _. ⌜ now («toss_ups» .exit) ≡ tossedIn (ordering (now (file .entry)) (now (ranks .entry)) (now (loads .entry)) .answer) ⌝ }
 {
-    match panel::pad_order(file, ranks, loads) {
-        Order::Pads(n) => {
+    match crossing::pad_order(file, ranks, loads) {
+        Order::Pads {
+            pads: n,
+            toss_ups: tossed,
+        } => {
             *pads = n;
+            *toss_ups = tossed;
             0
         }
         Order::Refused(number) => {
             *pads = 0;
+            *toss_ups = 0;
             number
         }
     }

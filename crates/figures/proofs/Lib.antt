@@ -1,8 +1,6 @@
-pub mod Outcomes
 pub mod Table
 pub mod WrongAnswers
 pub mod WrongColumns
-pub mod WrongExports
 pub mod WrongFiles
 pub mod WrongSwaps
 pub mod WrongPrograms

@@ -1,6 +1,6 @@
--- Two wrong programs for each call of `lu` beside factoring and adding, for the triangular solves and for the ranking: one that always refuses, one that leaves
--- its slice as it was (for an answer of one number or truth: one that always gives the same). No program that meets the contract does what they do, shown at a
--- concrete input. Assumes nothing.
+-- Two wrong programs for each call on factors beside factoring, adding and removing, for the triangular solves and for the ranking: one that always refuses,
+-- one that leaves its slice as it was (for an answer of one number or truth: one that always gives the same). No program that meets the contract does what
+-- they do, shown at a concrete input. Assumes nothing.
 use mathlib.Core.Path.{_≡_, refl, sym, ap, _∙_}
 use mathlib.Core.Bool.{Bool, true, false}
 use mathlib.Core.List.{List, [], _∷_}
@@ -8,36 +8,35 @@ use Prim.Native.Nat.{ℕ}
 use native.Mathlib.Omega.{arith}
 use lib.IntN.{pos}
 use lib.Ieee.{Float, fin, add, sub, mul, div, neg, eq, ofBits}
-use Rattle.blas.specs.Each.{eachFrom, turnsFrom, listOf}
-use Rattle.blas.specs.Numbers.{isZero}
-use Rattle.blas.specs.Column.{Column, entry, axpyFrom, allFinite, zeros}
+use Rattle.numbers.specs.Each.{eachFrom, turnsFrom, listOf}
+use Rattle.numbers.specs.Numbers.{isZero}
+use Rattle.numbers.specs.Column.{Column, entry, zeros}
+use Rattle.blas.specs.Blas.{axpyFrom}
+use Rattle.finite.specs.Finite.{allFinite}
 use Rattle.blas.specs.Dot.{addProduct, addBlock, eightSums, pairSums, dotOf}
 use Rattle.store.specs.Columns.{columns, flat, isMatrix, onColumns}
-use Rattle.refusals.specs.Refusals.{firstOf, outside, Outcome, seventh, tested}
+use Rattle.refusals.specs.Outcome.{Outcome, done, refused, firstOf, tested, andThen, Call, leaving}
+use Rattle.refusals.specs.Refusals.{outside, seventh}
+use Rattle.refusals.proofs.Strength.{OneOutcome, one-outcome, ShutsOut, shut-out, BothShutOut, both, Strong, strong, done-refused}
 use Rattle.permutation_sequence.specs.SwapList.{pairsOf, holds, goodPair, goodPairs, goodList}
-use Rattle.triangles.specs.Rows.{passOf}
+use Rattle.solve_by_rows.specs.Rows.{passOf}
 use Rattle.solve.specs.declared.Pass.{Pass}
 use Rattle.solve.specs.declared.Pass.the-variants.{Lower, Upper, GivenDiagonal, TransposedLower, TransposedUpper, CorrectedDiagonal}
-use Rattle.solve.specs.Triangular.{lowerRow, upperRow, keptRow, transposedLowerRow, transposedUpperRow, solvedRow, turn, solvedColumn, solvedFrom, solvedInPlace}
+use Rattle.solve.specs.Triangular.{lowerRow, upperRow, keptRow, transposedLowerRow, transposedUpperRow, solvedRow, turn, solvedColumn, solvedFrom}
+use Rattle.solve.specs.Triangular.{solvedInPlace}
 use Rattle.solve.specs.Calls.{sizesOutside, lengthsFit, numbersFinite, zeroFrom, zeroOnDiagonal, refusalOf, solving}
-use Rattle.ranking.specs.Ranking.{Ranking, ranking, rankingRefusal}
+use Rattle.ranking.specs.Ranking.{ranking, rankingRefusal}
 use Rattle.ranking.proofs.Figures.{one-three-three}
-use Rattle.from_factors.specs.declared.Asks.{Asks}
-use Rattle.lu.specs.declared.Record.{Record}
-use Rattle.from_factors.specs.declared.Det.{Det}
-use Rattle.from_factors.specs.declared.Det.the-variants.{Number}
-use Rattle.from_factors.specs.declared.Invertible.{Invertible}
-use Rattle.from_factors.specs.declared.Invertible.the-variants.{Is}
-use Rattle.lu.specs.Factoring.{Factoring, storeOf, recordOf, numbersOf, factoring}
-use Rattle.lu.specs.Adding.{factorsIn, adding}
-use Rattle.lu.specs.TossUps.{tossUps, ownTossUp}
-use Rattle.from_factors.specs.Taken.{takenRefusal}
+use Rattle.factors.specs.declared.Asks.{Asks}
+use Rattle.factors.specs.declared.Record.{Record}
+use Rattle.lu.specs.Factoring.{factoringAnswer, factoring}
+use Rattle.factors.specs.Factors.{storeOf, recordOf, numbersOf, Slices, Factoring}
+use Rattle.adding.specs.Adding.{addingAnswer, adding}
+use Rattle.factors.specs.Held.{heldRefusal}
 use Rattle.from_factors.specs.Triangles.{lowerOf, upperOf, lowerFactor, upperFactor, lowering, uppering}
-use Rattle.from_factors.specs.Solving.{inverting}
-use Rattle.from_factors.specs.Solving.{solving as lu-solving, trSolving}
+use Rattle.from_factors.specs.Solving.{inverting, solving as lu-solving, trSolving}
 use Rattle.from_factors.specs.Determinant.{diagonalProduct, determining, inverseTest}
-use Rattle.from_factors.proofs.Figures.{computes, n0, n1, n2, n4, n8, transposed-figure}
-use Rattle.figures.proofs.Outcomes.{OneOutcome, one-outcome, ShutsOut, shut-out, BothShutOut, both, Strong, strong}
+use Rattle.from_factors.proofs.Figures.{computes, transposes, leaves, n0, n1, n2, n4, n8, ones, transposed-figure}
 
 -- ---- the triangular solves
 
@@ -45,7 +44,7 @@ use Rattle.figures.proofs.Outcomes.{OneOutcome, one-outcome, ShutsOut, 
 abbrev Sides : Type 0
 Sides = ℕ × (ℕ × (Column × (Column × Column)))
 
-abbrev bySides : Pass → Sides → Outcome
+abbrev bySides : Pass → Sides → Call (Unit {0}) Column
 bySides pass x = solving pass (x .0) (x .1 .0) (x .1 .1 .0) (x .1 .1 .1 .0) (x .1 .1 .1 .1)
 
 -- rows (2, 0) and (0, 4), right-hand side (4, 8): 2 and 2, by every pass that reads the diagonal
@@ -53,11 +52,14 @@ abbrev diagonal : Sides
 diagonal = (2, (1, (n2 ∷ n0 ∷ n0 ∷ n4 ∷ [], (n4 ∷ n8 ∷ [], n0 ∷ n0 ∷ []))))
 
 abbrev SolvesTwo : Pass → Type 0
-SolvesTwo pass = bySides pass diagonal ≡ record { number = 0; result = n2 ∷ n2 ∷ [] }
+SolvesTwo pass = bySides pass diagonal ≡ leaves (n2 ∷ n2 ∷ [])
 
 -- a name for all that has to unfold for a solve to compute
 solves : Type 0
-unfolding add sub mul div neg eq ofBits eachFrom turnsFrom isZero axpyFrom allFinite addProduct addBlock eightSums pairSums dotOf columns flat isMatrix onColumns firstOf outside seventh tested lowerRow upperRow keptRow transposedLowerRow transposedUpperRow solvedRow turn solvedColumn solvedFrom solvedInPlace sizesOutside lengthsFit numbersFinite zeroFrom zeroOnDiagonal refusalOf solving
+unfolding add sub mul div neg eq ofBits eachFrom turnsFrom isZero axpyFrom allFinite addProduct addBlock eightSums pairSums dotOf columns flat isMatrix
+    onColumns
+    firstOf outside seventh tested lowerRow upperRow keptRow transposedLowerRow transposedUpperRow solvedRow turn solvedColumn solvedFrom solvedInPlace
+    sizesOutside lengthsFit numbersFinite zeroFrom zeroOnDiagonal refusalOf solving
 solves = Unit {0}
 
 lower-two : SolvesTwo Lower
@@ -80,11 +82,11 @@ transposed-upper-two = refl
 abbrev held : Sides → Column
 held x = x .1 .1 .1 .1
 
-two-not-zero : {c : Column} → c ≡ n2 ∷ n2 ∷ [] → c ≡ n0 ∷ n0 ∷ [] → ⊥
-two-not-zero e d = let z : _≡_ {A = ℕ} 0 1 = cc in omega arith
+two-not-zero : n2 ∷ n2 ∷ [] ≡ n0 ∷ n0 ∷ [] → ⊥
+two-not-zero d = let z : _≡_ {A = ℕ} 0 1 = cc in omega arith
 
 by-diagonal : (pass : Pass) → SolvesTwo pass → BothShutOut (bySides pass) held
-by-diagonal pass e = both (bySides pass) held diagonal (ap (λ (o : Outcome). o .number) e) (two-not-zero (ap (λ (o : Outcome). o .result) e))
+by-diagonal pass e = both (bySides pass) held diagonal e two-not-zero
 
 pub solve-lower-triangular : BothShutOut (bySides Lower) held
 solve-lower-triangular = by-diagonal Lower lower-two
@@ -108,7 +110,7 @@ solve-lower-triangular-with-diag =
 two-not-four : n2 ∷ [] ≡ n4 ∷ [] → ⊥
 two-not-four d = let z : _≡_ {A = ℕ} 1 2 = cc in omega arith
 
-abbrev byCorrected : Float × Sides → Outcome
+abbrev byCorrected : Float × Sides → Call (Unit {0}) Column
 byCorrected x = bySides (CorrectedDiagonal (x .0)) (x .1)
 
 pub solve-lower-triangular-with-diag-corrected : BothShutOut byCorrected (λ x. held (x .1))
@@ -121,7 +123,7 @@ pub not-the-undivided : ShutsOut byCorrected (λ x. bySides (GivenDiagonal (x .0
 unfolding solves
 not-the-undivided =
     shut-out byCorrected (λ x. bySides (GivenDiagonal (x .0)) (x .1)) (n2, (1, (1, (n0 ∷ [], (n4 ∷ [], n0 ∷ [])))))
-    (λ d. let e : n2 ∷ [] ≡ n4 ∷ [] = ap (λ (o : Outcome). o .result) d in two-not-four e)
+    (λ d. let e : n2 ∷ [] ≡ n4 ∷ [] = ap (λ (o : Call (Unit {0}) Column). o .left) d in two-not-four e)
 
 -- idle; and the same whatever it is given
 abbrev inPlace : Pass × (ℕ × (ℕ × (Column × Column))) → Column
@@ -155,23 +157,23 @@ zero-on-diagonal =
 
 -- ---- the calls on factors
 
-abbrev Taken : Type 0
-Taken = Record × (Column × List ℕ)
+abbrev Held : Type 0
+Held = Record × (Column × List ℕ)
 
 -- rows (2, 0) and (1, 4) packed, without a swap
-abbrev packed : Taken
+abbrev packed : Held
 packed = (recordOf 2 2 0, (n2 ∷ n1 ∷ n0 ∷ n4 ∷ [], storeOf []))
 
--- a record of no rows
-abbrev nothing : Taken
-nothing = (recordOf 0 0 0, ([], storeOf []))
+-- a record of no rows, and the same slices
+abbrev no-rows : Held
+no-rows = (recordOf 0 2 0, (n2 ∷ n1 ∷ n0 ∷ n4 ∷ [], storeOf []))
 
-abbrev triangle : (Record → Column → List ℕ → Column → Outcome) → Taken × Column → Outcome
+abbrev triangle : (Record → Column → List ℕ → Column → Call (Unit {0}) Column) → Held × Column → Call (Unit {0}) Column
 triangle call x = call (x .0 .0) (x .0 .1 .0) (x .0 .1 .1) (x .1)
 
 -- a name for all that has to unfold for L and U to compute
-triangles : Type 0
-unfolding computes solves takenRefusal numbersOf storeOf goodPair goodPairs goodList pairsOf holds lowerOf upperOf lowerFactor upperFactor lowering uppering listOf flat
+unfoldable pub triangles : Type 0
+unfolding computes solves numbersOf storeOf lowerOf upperOf lowerFactor upperFactor lowering uppering
 triangles = Unit {0}
 
 pub l : BothShutOut (triangle lowering) (λ x. x .1)
@@ -186,96 +188,95 @@ pub inverse : BothShutOut (triangle inverting) (λ x. x .1)
 unfolding triangles
 inverse = both (triangle inverting) (λ x. x .1) ((recordOf 1 1 0, (n1 ∷ [], storeOf [])), zeros 1) refl (λ d. let z : _≡_ {A = ℕ} 0 1 = cc in omega arith)
 
-abbrev loadsBy : Taken × (ℕ × (Column × Column)) → Outcome
+abbrev loadsBy : Held × (ℕ × (Column × Column)) → Call (Unit {0}) Column
 loadsBy x = lu-solving (x .0 .0) (x .0 .1 .0) (x .0 .1 .1) (x .1 .0) (x .1 .1 .0) (x .1 .1 .1)
 
 pub solve : BothShutOut loadsBy (λ x. x .1 .1 .1)
 unfolding triangles
-solve = both loadsBy (λ x. x .1 .1 .1) (packed, (1, (n4 ∷ n8 ∷ [], zeros 2))) refl (λ d. let z : _≡_ {A = ℕ} 0 1 = cc in omega arith)
+solve = both loadsBy (λ x. x .1 .1 .1) (packed, (1, (n4 ∷ n8 ∷ [], ones 2))) refl (λ d. let z : _≡_ {A = ℕ} 0 1 = cc in omega arith)
 
 -- the transposed solve; and a program that solves the system itself gives 2 and 1 where this gives 0 and 2
-abbrev trLoadsBy : Taken × (ℕ × (Column × Column)) → Outcome
+abbrev trLoadsBy : Held × (ℕ × (Column × Column)) → Call (Unit {0}) Column
 trLoadsBy x = trSolving (x .0 .0) (x .0 .1 .0) (x .0 .1 .1) (x .1 .0) (x .1 .1 .0) (x .1 .1 .1)
 
-abbrev tr-packed : Taken × (ℕ × (Column × Column))
-tr-packed = (packed, (1, (n4 ∷ n8 ∷ [], zeros 2)))
+abbrev tr-packed : Held × (ℕ × (Column × Column))
+tr-packed = (packed, (1, (n4 ∷ n8 ∷ [], ones 2)))
 
 pub tr-solve : BothShutOut trLoadsBy (λ x. x .1 .1 .1)
 unfolding triangles
 tr-solve =
-    both trLoadsBy (λ x. x .1 .1 .1) tr-packed (ap (λ (o : Outcome). o .number) transposed-figure)
-    (λ d. let e : n0 ∷ n2 ∷ [] ≡ n0 ∷ n0 ∷ [] = sym (ap (λ (o : Outcome). o .result) transposed-figure) ∙ d in let z : _≡_ {A = ℕ} 0 1 = cc in omega arith)
+    both trLoadsBy (λ x. x .1 .1 .1) tr-packed transposed-figure (λ d. let z : _≡_ {A = ℕ} 0 1 = cc in omega arith)
 
 pub not-the-system : ShutsOut trLoadsBy loadsBy
 unfolding triangles
 not-the-system =
     shut-out trLoadsBy loadsBy tr-packed
-    (λ d. let e = sym (ap (λ (o : Outcome). o .result) transposed-figure) ∙ ap (λ (o : Outcome). o .result) d in let z : _≡_ {A = ℕ} 0 1 = cc in omega arith)
+    (λ d. let e : n0 ∷ n2 ∷ [] ≡ n2 ∷ n1 ∷ [] = ap (λ (o : Call (Unit {0}) Column). o .left)
+    (sym transposed-figure ∙ d) in let z : _≡_ {A = ℕ} 0 1 = cc in omega arith)
 
 -- the same always; and the product without the sign
-abbrev determinantBy : Taken → Det
+abbrev determinantBy : Held → Outcome Float
 determinantBy x = determining (x .0) (x .1 .0) (x .1 .1)
 
-pub determinant : Strong determinantBy (ShutsOut determinantBy (λ x. Number (diagonalProduct (x .0 .rows) (columns (x .0 .rows) (x .0 .rows) (x .1 .0)))))
+abbrev unsigned : Held → Outcome Float
+unsigned x = done (diagonalProduct (x .0 .rows) (columns (x .0 .rows) (x .0 .rows) (x .1 .0)))
+
+pub determinant : Strong determinantBy (ShutsOut determinantBy unsigned)
 unfolding triangles
 determinant =
-    strong determinantBy packed nothing (λ d. let z : _≡_ {A = ℕ} 0 1 = cc in omega arith)
-    (shut-out determinantBy (λ x. Number (diagonalProduct (x .0 .rows) (columns (x .0 .rows) (x .0 .rows) (x .1 .0))))
-    (recordOf 2 2 1, (n2 ∷ n0 ∷ n0 ∷ n1 ∷ [], storeOf ((0, 1) ∷ []))) (λ d. let z : _≡_ {A = ℕ} 0 1 = cc in omega arith))
+    strong determinantBy packed no-rows done-refused
+    (shut-out determinantBy unsigned (recordOf 2 2 1, (n2 ∷ n0 ∷ n0 ∷ n1 ∷ [], storeOf ((0, 1) ∷ []))) (λ d. let z : _≡_ {A = ℕ} 0 1 = cc in omega arith))
 
 -- the same always; and never a refusal
-abbrev invertibleBy : Taken → Invertible
+abbrev invertibleBy : Held → Outcome Bool
 invertibleBy x = inverseTest (x .0) (x .1 .0) (x .1 .1)
 
-pub is-invertible : Strong invertibleBy ((test : Taken → Bool) → ShutsOut invertibleBy (λ x. Is (test x)))
+pub is-invertible : Strong invertibleBy ((test : Held → Bool) → ShutsOut invertibleBy (λ x. done (test x)))
 unfolding triangles
 is-invertible =
-    strong invertibleBy packed nothing (λ d. let z : _≡_ {A = ℕ} 0 1 = cc in omega arith)
-    (λ test. shut-out invertibleBy (λ x. Is (test x)) nothing (λ d. let z : _≡_ {A = ℕ} 0 1 = cc in omega arith))
+    strong invertibleBy packed no-rows done-refused
+    (λ test. shut-out invertibleBy (λ x. done (test x)) no-rows (λ d. done-refused (sym d)))
 
 -- the same always; and the swap store not read
-abbrev refusalBy : Asks × Taken → ℕ
-refusalBy x = takenRefusal (x .0) (x .1 .0) (x .1 .1 .0) (x .1 .1 .1)
+abbrev refusalBy : Asks × Held → ℕ
+refusalBy x = heldRefusal (x .1 .1 .0) (x .1 .1 .1) (x .1 .0) (x .0)
 
 abbrev asks : Asks
-asks = record { square = true; solves = false; sizes = true; lengths = true; numbers = true }
+asks = record { square = true; solves = false; sizes = true; lengths = true; list = true; numbers = true }
 
-pub taken-refusal : Strong refusalBy (ShutsOut refusalBy (λ x. takenRefusal (x .0) (x .1 .0) (x .1 .1 .0) (storeOf [])))
+abbrev store-unread : Asks × Held → ℕ
+store-unread x = heldRefusal (x .1 .1 .0) (storeOf []) (x .1 .0) (x .0)
+
+pub held-refusal : Strong refusalBy (ShutsOut refusalBy store-unread)
 unfolding triangles
-taken-refusal =
-    strong refusalBy (asks, packed) (asks, nothing) (λ d. omega (arith, d))
-    (shut-out refusalBy (λ x. takenRefusal (x .0) (x .1 .0) (x .1 .1 .0) (storeOf [])) (asks, (recordOf 2 2 1, (n2 ∷ n0 ∷ n0 ∷ n1 ∷ [], storeOf ((0, 1) ∷ []))))
-    (λ d. omega (arith, d)))
+held-refusal =
+    strong refusalBy (asks, packed) (asks, no-rows) (λ d. omega (arith, d))
+    (shut-out refusalBy store-unread (asks, (recordOf 2 2 1, (n2 ∷ n0 ∷ n0 ∷ n1 ∷ [], storeOf ((0, 1) ∷ [])))) (λ d. omega (arith, d)))
 
 -- factoring, building up and adding, toss-ups and all: one outcome. What they shut out is in WrongPrograms; building up has factoring's meaning.
-abbrev factors : ℕ × (ℕ × (Column × (Column × List ℕ))) → Factoring × ℕ
-factors x = (factoring (x .0) (x .1 .0) (x .1 .1 .0) (x .1 .1 .1 .0) (x .1 .1 .1 .1), tossUps (x .0) (columns (x .0) (x .1 .0) (x .1 .1 .0)))
+abbrev factors : ℕ × (ℕ × (Column × (Column × List ℕ))) → Outcome (Record × ℕ) × Slices
+factors x = (
+  factoringAnswer (x .0) (x .1 .0) (x .1 .1 .0) (x .1 .1 .1 .0) (x .1 .1 .1 .1),
+  factoring (x .0) (x .1 .0) (x .1 .1 .0) (x .1 .1 .1 .0) (x .1 .1 .1 .1) .left,
+)
 
 pub factor : OneOutcome factors
 factor = one-outcome factors
 
-abbrev adds : Record × (Column × (Column × List ℕ)) → Factoring × ℕ
-adds x =
-    (adding (x .0) (x .1 .0) (x .1 .1 .0) (x .1 .1 .1), ownTossUp (x .0 .rows) (factorsIn (x .0 .rows) (x .0 .columns) (x .0 .pairs) (x .1 .0) (x .1 .1 .1)) (x .1 .1 .0))
+abbrev adds : Record × (Column × (Column × List ℕ)) → Outcome (Record × ℕ) × Slices
+adds x = (addingAnswer (x .0) (x .1 .0) (x .1 .1 .0) (x .1 .1 .1), adding (x .0) (x .1 .0) (x .1 .1 .0) (x .1 .1 .1) .left)
 
 pub add-column : OneOutcome adds
 add-column = one-outcome adds
 
 -- ---- the ranking: the same always; and the slice left as it was
 
-abbrev ranksBy : ℕ × (Column × List ℕ) → Ranking
+abbrev ranksBy : ℕ × (Column × List ℕ) → Call (Unit {0}) (List ℕ)
 ranksBy x = ranking (x .0) (x .1 .0) (x .1 .1)
 
 -- loads 1, -3, 3
 abbrev three : ℕ × (Column × List ℕ)
 three = (3, (n1 ∷ fin true 3 (pos 0) ∷ fin false 3 (pos 0) ∷ [], 0 ∷ 0 ∷ 0 ∷ []))
 
-no-loads : ranking 0 [] [] ≡ record { number = 1; ranks = [] }
-unfolding ranking rankingRefusal firstOf outside
-no-loads = refl
-
-pub rank : Strong ranksBy ((number : ℕ × (Column × List ℕ) → ℕ) → ShutsOut ranksBy (λ x. record { number = number x; ranks = x .1 .1 }))
-rank =
-    strong ranksBy three (0, ([], [])) (λ d. let e = sym one-three-three ∙ d ∙ no-loads in omega (arith, ap (λ (o : Ranking). o .number) e))
-    (λ number. shut-out ranksBy (λ x. record { number = number x; ranks = x .1 .1 }) three
-    (λ d. let e = sym (ap (λ (o : Ranking). o .ranks) one-three-three) ∙ ap (λ (o : Ranking). o .ranks) d in let z : _≡_ {A = ℕ} 0 2 = cc in omega arith))
+pub rank : BothShutOut ranksBy (λ x. x .1 .1)
+rank = both ranksBy (λ x. x .1 .1) three one-three-three (λ d. let z : _≡_ {A = ℕ} 0 2 = cc in omega arith)

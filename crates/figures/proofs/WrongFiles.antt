@@ -1,53 +1,72 @@
--- Two wrong programs for each call of `panel_file` and `panel`, as in `WrongAnswers`: all that always give the same, and those that never refuse (for the writer and
--- the text: that leave the slice as it was). Shown at an empty file (8) and at a head with no pads (1); for the writer at no pads (1), at a matrix of no numbers (3) and at
--- one pad. Assumes nothing.
-use mathlib.Core.Path.{_≡_, refl, ap, ap₂, _∙_}
+-- Two wrong programs for each call on a panel file, at slices as the calls take them: one that always refuses, shown at an accepted file of one pad (matrix 1,
+-- reading 2), and one that leaves its slices as they were (for an answer of one number: that always gives the same, and that never refuses). For the writer at
+-- no pads (1), at a matrix of no numbers (3) and at one pad. Assumes nothing.
+use mathlib.Core.Path.{_≡_, refl, sym, ap, ap₂, _∙_}
 use mathlib.Core.Bool.{true, false, false≢true}
 use mathlib.Core.List.{List, [], _∷_, _++_}
 use Prim.Native.Nat.{ℕ, zero, suc}
 use native.Mathlib.Omega.{arith}
-use lib.ListN.{getD, replicate}
+use lib.ListN.{getD, drop, replicate}
 use lib.Dec.{T}
 use lib.Ieee.{Float, binary64, fits}
 use lib.Ieee.Fits.{nan-fits}
 use lib.Ieee.Bits.{ofBits-fits}
-use Rattle.blas.specs.Column.{Column, entry, zeros}
-use Rattle.blas.proofs.Finite.{finite-zeros}
-use Rattle.refusals.specs.Refusals.{firstOf, outside}
-use Rattle.panel_file.specs.File.{littleEndian, fieldAt, headed}
-use Rattle.panel_file.specs.Reading.{readingRefusal, Reading, reading}
-use Rattle.panel_file.specs.Writing.{writingRefusal, writtenOf, numberOf, countOf, Writing}
+use Rattle.numbers.specs.Column.{Column, entry, zeros}
+use Rattle.min_max.specs.TossUp.{sharedFrom, tossUp}
+use Rattle.elimination.specs.TossUps.{tossAt, tossFrom, tossUps}
+use Rattle.finite.proofs.Finite.{finite-zeros}
+use Rattle.refusals.specs.Outcome.{Outcome, done, refused, numberOf, firstOf, tested, andThen, Call}
+use Rattle.refusals.specs.Refusals.{outside}
+use Rattle.refusals.proofs.Strength.{ShutsOut, shut-out, BothShutOut, both, Strong, strong, Keeps, StrongBy, strong-by, done-refused}
+use Rattle.panel_file.specs.File.{littleEndian, fieldAt, headed, numberAt, padsOf}
+use Rattle.panel_file.specs.Reading.{fileTests, fileRefusal, Stores, stores, readingRefusal, filled, reading}
+use Rattle.panel_file.specs.Writing.{writingRefusal, bytesWritten, written, Writing}
 use Rattle.panel_file.specs.declared.Written.{Written}
 use Rattle.panel_file.specs.declared.Written.the-variants.{Bytes, Refused as NotWritten}
-use Rattle.panel_file.proofs.Writes.{Fit, not-refused, outcome-refused}
+use Rattle.panel_file.proofs.Writing.{Fit, not-refused, write-refused}
 use Rattle.panel_file.proofs.Crossings.{one-writing}
-use Rattle.from_factors.specs.declared.Det.the-variants.{Number, Refused}
-use Rattle.panel.specs.Text.{written, decimal, refusedText}
-use Rattle.refusals.specs.Refusals.{Outcome}
-use Rattle.panel.specs.Ordering.{Ordering, ordering, stiffness, textOf}
-use Rattle.panel.specs.Moving.{moving, movesTextOf}
-use Rattle.figures.proofs.Outcomes.{ShutsOut, shut-out, Strong, strong, TwoShutOut, two, Keeps, StrongBy, strong-by}
+use Rattle.ranking.specs.Ranking.{ahead, insertPad, ranked, padsTo}
+use Rattle.from_factors.proofs.Figures.{computes, transposes, n0, n1, n2}
+use Rattle.crossing.specs.Below.{factorsOf, solutionBy, determinantBy}
+use Rattle.crossing.specs.Factors.{factorsIn, stiffness, settledIn}
+use Rattle.crossing.specs.Ordering.{loadsOf, ranksLeft, Ranks, ordering}
+use Rattle.crossing.specs.Moving.{movesRefusal, movesOf, moving}
+use Rattle.panel_text.specs.Text.{written as writtenOver, decimal, lineOf, linesOf, padsText, refusedText}
+use Rattle.panel_text.specs.Printed.{orderText, textOf, changeText, movesTextOf}
 
--- a name for all that has to unfold for a file to be refused
-refuses : Type 0
-unfolding firstOf outside littleEndian fieldAt headed readingRefusal reading writingRefusal writtenOf numberOf countOf ordering stiffness textOf moving movesTextOf written decimal refusedText
-refuses = Unit {0}
+-- a name for all that has to unfold for a file to be read, factored and solved
+answers : Type 0
+unfolding transposes sharedFrom tossUp tossAt tossFrom tossUps firstOf outside tested andThen littleEndian fieldAt headed numberAt fileTests fileRefusal
+    readingRefusal reading factorsOf solutionBy
+    determinantBy factorsIn stiffness settledIn ahead insertPad ranked padsTo loadsOf ranksLeft ordering movesRefusal movesOf moving
+answers = Unit {0}
+
+-- `LXP`, version 1, one pad: its matrix 1.0, its reading 2.0; and no file at all, which is refused with 8
+abbrev onePadFile : List ℕ
+onePadFile = 76 ∷ 88 ∷ 80 ∷ 1 ∷ 0 ∷ 1 ∷ 0 ∷ 0 ∷ 0 ∷ 0 ∷ 0 ∷ 0 ∷ 240 ∷ 63 ∷ 0 ∷ 0 ∷ 0 ∷ 0 ∷ 0 ∷ 0 ∷ 0 ∷ 64 ∷ []
 
 abbrev empty : List ℕ
 empty = []
 
--- `LXP`, version 1, no pads
-abbrev noPads : List ℕ
-noPads = 76 ∷ 88 ∷ 80 ∷ 1 ∷ 0 ∷ 0 ∷ []
+zero-one : (c d : Column) → n1 ∷ c ≡ n0 ∷ d → ⊥
+zero-one c d e = let z : _≡_ {A = ℕ} 0 1 = cc in omega arith
 
-abbrev reads : List ℕ × (Column × Column) → Reading
-reads x = reading (x .0) (x .1 .0) (x .1 .1)
+zero-two : (c d : Column) → n2 ∷ c ≡ n0 ∷ d → ⊥
+zero-two c d e = let z : _≡_ {A = ℕ} 0 1 = cc in omega arith
 
-pub read : Strong reads ((made : List ℕ × (Column × Column) → Reading) → ((x : List ℕ × (Column × Column)) → made x .number ≡ 0) → ShutsOut reads made)
-unfolding refuses
+-- ---- reading: a file and the two stores
+
+abbrev reads : List ℕ × Stores → Call ℕ Stores
+reads x = reading (x .0) (x .1)
+
+abbrev fresh : Stores
+fresh = stores (zeros 4096) (zeros 64)
+
+pub read : BothShutOut reads (λ x. x .1)
+unfolding answers
 read =
-    strong reads (empty, ([], [])) (noPads, ([], [])) (λ d. omega (arith, ap (λ (o : Reading). o .number) d))
-    (λ made accepts. shut-out reads made (empty, ([], [])) (λ d. omega (arith, ap (λ (o : Reading). o .number) d ∙ accepts (empty, ([], [])))))
+    both reads (λ x. x .1) (onePadFile, fresh) {a = 1} {made = filled onePadFile fresh} refl
+    (λ d. zero-one (drop 1 (zeros 4096)) (zeros 4095) (ap (λ (s : Stores). s .matrix) d))
 
 -- a crossing of doubles, as every slice of `f64` holds, and the slice to write to
 pub record Crossing : Type 0 where
@@ -75,27 +94,24 @@ onePad = record { n = 1; matrix = zeros 1; readings = zeros 1; out = zeroBytes; 
     are (suc zero) = ofBits-fits binary64 0
     are (suc (suc k)) = nan-fits binary64
 
-abbrev writes : Crossing → Written × List ℕ → Type 0
-writes x o = Writing (x .n) (x .matrix) (x .readings) (x .out) (o .0) (o .1)
+abbrev writes : Crossing → Call ℕ (List ℕ) → Type 0
+writes x made = Writing (x .n) (x .matrix) (x .readings) (x .out) made
 
 -- whatever it answers, it leaves the slice as it was
-abbrev idle : (Crossing → Written) → Crossing → Written × List ℕ
-idle answer x = (answer x, x .out)
+abbrev idle : (Crossing → Outcome ℕ) → Crossing → Call ℕ (List ℕ)
+idle answer x = record { answer = answer x; left = x .out }
 
-pub write : StrongBy writes ((answer : Crossing → Written) → Keeps writes (idle answer) → ⊥)
-unfolding refuses
+pub write : StrongBy writes ((answer : Crossing → Outcome ℕ) → Keeps writes (idle answer) → ⊥)
+unfolding answers writingRefusal bytesWritten numberOf
 write =
-    strong-by writes (λ x o q a b. both (one-writing (x .n) (x .matrix) (x .readings) (x .out) (o .0) (q .0) (o .1) (q .1) a b))
-    none noNumbers (NotWritten 1, []) (NotWritten 3, [])
-    (outcome-refused 0 [] [] [] 1 refl (λ d. omega arith))
-    (outcome-refused 1 [] [] [] 3 refl (λ d. omega arith))
-    (λ d. omega (arith, ap (λ (o : Written × List ℕ). numberOf (o .0)) d))
+    strong-by writes (λ x o q a b. one-writing (x .n) (x .matrix) (x .readings) (x .out) o q a b)
+    none noNumbers (written (NotWritten 1) []) (written (NotWritten 3) [])
+    (write-refused 0 [] [] [] 1 refl (λ d. omega (arith, d)))
+    (write-refused 1 [] [] [] 3 refl (λ d. omega (arith, d)))
+    (λ d. omega (arith, ap (λ (o : Call ℕ (List ℕ)). numberOf (o .answer)) d))
     (λ answer keeps. not-idle (answer onePad) (keeps onePad))
   where
-    both : {o q : Written × List ℕ} → (o .0 ≡ q .0) × (o .1 ≡ q .1) → o ≡ q
-    both e = ap₂ (λ (a : Written) (s : List ℕ). (a, s)) (e .0) (e .1)
-
-    not-idle : (a : Written) → Writing 1 (zeros 1) (zeros 1) zeroBytes a zeroBytes → ⊥
+    not-idle : (a : Outcome ℕ) → Writing 1 (zeros 1) (zeros 1) zeroBytes (record { answer = a; left = zeroBytes }) → ⊥
     not-idle a w =
         let fit : Fit 1 (zeros 1) (zeros 1) 22 = record {
           size = record { at-least = omega arith; at-most = omega arith };
@@ -105,54 +121,83 @@ write =
           matrix-finite = finite-zeros 1;
           readings-finite = finite-zeros 1;
         } in
-        let answer : a ≡ Bytes 22 = w .answers ∙ ap (λ (k : ℕ). writtenOf k 22) (not-refused 1 (zeros 1) (zeros 1) 22 fit) in
-        false≢true (rw answer at (w .file (ap numberOf answer) .head))
+        let answer : a ≡ done 22 = w .answers ∙ ap (λ (k : ℕ). tested k refused (done 22)) (not-refused 1 (zeros 1) (zeros 1) 22 fit) in
+        false≢true (w .file (ap numberOf answer) .head)
 
-abbrev orders : List ℕ × (List ℕ × Column) → Ordering
-orders x = ordering (x .0) (x .1 .0) (x .1 .1)
+-- ---- the order: a file, and the slices for 64 ranks and 64 loads
 
-pub pad-order : Strong orders ((made : List ℕ × (List ℕ × Column) → Ordering) → ((x : List ℕ × (List ℕ × Column)) → made x .number ≡ 0) → ShutsOut orders made)
-unfolding refuses
+abbrev orders : List ℕ × Ranks → Call (ℕ × ℕ) Ranks
+orders x = ordering (x .0) (x .1 .ranks) (x .1 .loads)
+
+abbrev unranked : Ranks
+unranked = record { ranks = replicate 64 0; loads = zeros 64 }
+
+pub pad-order : BothShutOut orders (λ x. x .1)
+unfolding answers
 pad-order =
-    strong orders (empty, ([], [])) (noPads, ([], [])) (λ d. omega (arith, ap (λ (o : Ordering). o .number) d))
-    (λ made accepts. shut-out orders made (empty, ([], [])) (λ d. omega (arith, ap (λ (o : Ordering). o .number) d ∙ accepts (empty, ([], [])))))
+    both orders (λ x. x .1) (onePadFile, unranked) {a = (1, 0)} {made = record { ranks = 1 ∷ drop 1 (replicate 64 0); loads = n2 ∷ drop 1 (zeros 64) }} refl
+    (λ d. zero-two (drop 1 (zeros 64)) (zeros 63) (ap (λ (r : Ranks). r .loads) d))
 
-pub stiffness-call : Strong stiffness ((number : List ℕ → Float) → ShutsOut stiffness (λ x. Number (number x)))
-unfolding refuses
+-- ---- the stiffness: the same always; never a refusal; and always one
+
+one-stiff : stiffness onePadFile ≡ done n1
+unfolding answers
+one-stiff = refl
+
+abbrev NeverRefused : Type 0
+NeverRefused = (number : List ℕ → Float) → ShutsOut stiffness (λ x. done (number x))
+
+abbrev AlwaysRefused : Type 0
+AlwaysRefused = (number : List ℕ → ℕ) → ShutsOut stiffness (λ x. refused (number x))
+
+pub stiffness-call : Strong stiffness (NeverRefused × AlwaysRefused)
+unfolding answers
 stiffness-call =
-    strong stiffness empty noPads eight-one (λ number. shut-out stiffness (λ x. Number (number x)) empty (no-number (number empty)))
-  where
-    eight-one : Refused 8 ≡ Refused 1 → ⊥
-    eight-one d = let z : _≡_ {A = ℕ} 8 1 = cc in omega arith
+    strong stiffness onePadFile empty (λ d. done-refused (sym one-stiff ∙ d)) (
+      (λ number. shut-out stiffness (λ x. done (number x)) empty (λ d. done-refused (sym d))),
+      (λ number. shut-out stiffness (λ x. refused (number x)) onePadFile (λ d. done-refused (sym one-stiff ∙ d))),
+    )
 
-    no-number : (x : Float) → Refused 8 ≡ Number x → ⊥
-    no-number x d = let z : _≡_ {A = ℕ} 0 1 = cc in omega arith
+-- ---- the moves: a file, a pad and the slice for 64 numbers
 
--- a file, a pad and the slice
-abbrev movesBy : List ℕ × (ℕ × Column) → Outcome
+abbrev movesBy : List ℕ × (ℕ × Column) → Call (ℕ × ℕ) Column
 movesBy x = moving (x .0) (x .1 .0) (x .1 .1)
 
-pub moves : Strong movesBy ((made : List ℕ × (ℕ × Column) → Outcome) → ((x : List ℕ × (ℕ × Column)) → made x .number ≡ 0) → ShutsOut movesBy made)
-unfolding refuses
+pub moves : BothShutOut movesBy (λ x. x .1 .1)
+unfolding answers
 moves =
-    strong movesBy (empty, (1, [])) (noPads, (1, [])) (λ d. omega (arith, ap (λ (o : Outcome). o .number) d))
-    (λ made accepts. shut-out movesBy made (empty, (1, [])) (λ d. omega (arith, ap (λ (o : Outcome). o .number) d ∙ accepts (empty, (1, [])))))
+    both movesBy (λ x. x .1 .1) (onePadFile, (1, zeros 64)) {a = (1, 0)} {made = n1 ∷ drop 1 (zeros 64)} refl (zero-one (drop 1 (zeros 64)) (zeros 63))
 
--- `refused 8` and `refused 1`, with a newline, in a slice of ten bytes
+-- ---- the texts, in a slice of 1288 bytes: `pads 1` with its line; `refused 8`
+
+abbrev Refusing : {Input : Type 0} → (Input → List ℕ) → (Input → List ℕ) → Type 0
+Refusing {Input} prints was = (number : Input → ℕ) → ShutsOut prints (λ x. writtenOver 0 (refusedText (number x)) (was x))
+
 abbrev prints : List ℕ × List ℕ → List ℕ
-prints x = written 0 (textOf (x .0)) (x .1)
+prints x = writtenOver 0 (textOf (x .0)) (x .1)
 
-abbrev ten : List ℕ
-ten = 0 ∷ 0 ∷ 0 ∷ 0 ∷ 0 ∷ 0 ∷ 0 ∷ 0 ∷ 0 ∷ 0 ∷ []
+abbrev blank : List ℕ
+blank = replicate 1288 0
 
-pub text : TwoShutOut prints (λ x. x .1)
-unfolding refuses
-text = two prints (λ x. x .1) (empty, ten) (empty, ten) (noPads, ten) (λ d. omega (arith, ap (λ l. getD l 0 0) d)) (λ d. omega (arith, ap (λ l. getD l 8 0) d))
+-- a printed byte that differs
+differs : (k : ℕ) {o q : List ℕ} → (getD o k 0 ≡ getD q k 0 → ⊥) → o ≡ q → ⊥
+differs k h d = h (ap (λ l. getD l k 0) d)
+
+pub text : Strong prints (ShutsOut prints (λ x. x .1) × Refusing prints (λ x. x .1))
+unfolding answers writtenOver decimal padsText refusedText orderText textOf
+text =
+    strong prints (onePadFile, blank) (empty, blank) (differs 0 (λ d. omega (arith, d))) (
+      shut-out prints (λ x. x .1) (onePadFile, blank) (differs 0 (λ d. omega (arith, d))),
+      (λ number. shut-out prints (λ x. writtenOver 0 (refusedText (number x)) (x .1)) (onePadFile, blank) (differs 0 (λ d. omega (arith, d)))),
+    )
 
 abbrev printsMoves : List ℕ × (ℕ × List ℕ) → List ℕ
-printsMoves x = written 0 (movesTextOf (x .0) (x .1 .0)) (x .1 .1)
+printsMoves x = writtenOver 0 (movesTextOf (x .0) (x .1 .0)) (x .1 .1)
 
-pub moves-text : TwoShutOut printsMoves (λ x. x .1 .1)
-unfolding refuses
+pub moves-text : Strong printsMoves (ShutsOut printsMoves (λ x. x .1 .1) × Refusing printsMoves (λ x. x .1 .1))
+unfolding answers writtenOver decimal lineOf linesOf refusedText changeText movesTextOf
 moves-text =
-    two printsMoves (λ x. x .1 .1) (empty, (1, ten)) (empty, (1, ten)) (noPads, (1, ten)) (λ d. omega (arith, ap (λ l. getD l 0 0) d)) (λ d. omega (arith, ap (λ l. getD l 8 0) d))
+    strong printsMoves (onePadFile, (1, blank)) (empty, (1, blank)) (differs 0 (λ d. omega (arith, d))) (
+      shut-out printsMoves (λ x. x .1 .1) (onePadFile, (1, blank)) (differs 0 (λ d. omega (arith, d))),
+      (λ number. shut-out printsMoves (λ x. writtenOver 0 (refusedText (number x)) (x .1 .1)) (onePadFile, (1, blank)) (differs 0 (λ d. omega (arith, d)))),
+    )

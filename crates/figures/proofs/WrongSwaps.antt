@@ -6,20 +6,25 @@ use Prim.Native.Nat.{ℕ, _+_}
 use native.Mathlib.Omega.{arith}
 use lib.ListN.{replicate}
 use lib.Ieee.{neg, ofBits}
-use Rattle.blas.specs.Each.{eachFrom}
-use Rattle.blas.specs.Column.{Column, allFinite, exchanged}
+use Rattle.numbers.specs.Each.{eachFrom}
+use Rattle.numbers.specs.Column.{Column}
+use Rattle.finite.specs.Finite.{allFinite}
+use Rattle.blas.specs.Blas.{exchanged}
 use Rattle.store.specs.Columns.{columns, flat, isMatrix, onColumns}
 use Rattle.store.specs.Steps.{swapInAll}
-use Rattle.refusals.specs.Refusals.{firstOf, outside, Outcome, tested}
+use Rattle.refusals.specs.Outcome.{Outcome, done, refused, firstOf, tested, Call}
+use Rattle.refusals.specs.Refusals.{outside}
+use Rattle.refusals.proofs.Strength.{ShutsOut, shut-out, BothShutOut, both, Strong, strong, done-refused}
 use Rattle.permutation_sequence.specs.SwapList.{pairsOf, holds, held, withPair, goodPair, goodPairs, goodList}
 use Rattle.permutation_sequence.specs.Permute.{permutedBy, rowsPermuted, inOrder, signOf}
-use Rattle.permutation_sequence.specs.Calls.{permutingRefusal, permuting, permutingRows, permutingColumns, appendingRefusal, Appending, appending}
+use Rattle.permutation_sequence.specs.Calls.{permutingRefusal, permuting, permutingRows, permutingColumns, appendingRefusal, Listed, listed, appending}
 use Rattle.from_factors.proofs.Figures.{n1, n2}
-use Rattle.figures.proofs.Outcomes.{ShutsOut, shut-out, BothShutOut, both, Strong, strong}
 
 -- a name for all that has to unfold for a list to be tested and applied
 applies : Type 0
-unfolding neg ofBits eachFrom allFinite exchanged columns flat isMatrix onColumns swapInAll firstOf outside tested pairsOf holds held withPair goodPair goodPairs goodList permutedBy inOrder signOf permutingRefusal permuting appendingRefusal appending
+unfolding neg ofBits eachFrom allFinite exchanged columns flat isMatrix onColumns swapInAll firstOf outside tested pairsOf holds held withPair goodPair
+    goodPairs
+    goodList permutedBy inOrder signOf permutingRefusal permuting appendingRefusal appending
 applies = Unit {0}
 
 -- a store of 128 numbers with the pair (0, 1) in front
@@ -31,7 +36,7 @@ swap = 0 ∷ 1 ∷ replicate 126 0
 abbrev Permuted : Type 0
 Permuted = ℕ × (ℕ × (ℕ × (List ℕ × Column)))
 
-abbrev permutes : (ℕ → ℕ → ℕ → List ℕ → Column → Outcome) → Permuted → Outcome
+abbrev permutes : (ℕ → ℕ → ℕ → List ℕ → Column → Call (Unit {0}) Column) → Permuted → Call (Unit {0}) Column
 permutes call x = call (x .0) (x .1 .0) (x .1 .1 .0) (x .1 .1 .1 .0) (x .1 .1 .1 .1)
 
 abbrev slice : Permuted → Column
@@ -46,9 +51,6 @@ twoColumns = (1, (2, (1, (swap, n1 ∷ n2 ∷ []))))
 
 exchanged-differs : n2 ∷ n1 ∷ [] ≡ n1 ∷ n2 ∷ [] → ⊥
 exchanged-differs d = let z : _≡_ {A = ℕ} 0 1 = cc in omega arith
-
-none-differs : n2 ∷ n1 ∷ [] ≡ [] → ⊥
-none-differs d = let z : _≡_ {A = ℕ} 0 1 = cc in omega arith
 
 pub permute-rows : BothShutOut (permutes (permutingRows false)) slice
 unfolding applies
@@ -73,18 +75,22 @@ applied x = onColumns (x .1 .0) (x .1 .1 .0) (rowsPermuted (inOrder (x .0) (held
 pub apply-to-rows : Strong applied (ShutsOut applied (λ x. slice (x .1)))
 unfolding applies
 apply-to-rows =
-    strong applied (false, twoRows) (false, (0, (0, (0, ([], []))))) none-differs (shut-out applied (λ x. slice (x .1)) (false, twoRows) exchanged-differs)
+    strong applied (false, twoRows) (false, (2, (1, (0, (swap, n1 ∷ n2 ∷ []))))) exchanged-differs
+    (shut-out applied (λ x. slice (x .1)) (false, twoRows) exchanged-differs)
 
 -- ---- the tests: the same always; and the list untested
 
 abbrev refusal : ℕ × Permuted → ℕ
 refusal x = permutingRefusal (x .0) (x .1 .0) (x .1 .1 .0) (x .1 .1 .1 .0) (x .1 .1 .1 .1 .0) (slice (x .1))
 
-pub permuting-refusal : Strong refusal (ShutsOut refusal (λ x. permutingRefusal (x .0) (x .1 .0) (x .1 .1 .0) 0 (x .1 .1 .1 .1 .0) (slice (x .1))))
+abbrev list-untested : ℕ × Permuted → ℕ
+list-untested x = permutingRefusal (x .0) (x .1 .0) (x .1 .1 .0) 0 (x .1 .1 .1 .1 .0) (slice (x .1))
+
+pub permuting-refusal : Strong refusal (ShutsOut refusal list-untested)
 unfolding applies
 permuting-refusal =
     strong refusal (2, twoRows) (1, twoRows) (λ d. omega (arith, d))
-    (shut-out refusal (λ x. permutingRefusal (x .0) (x .1 .0) (x .1 .1 .0) 0 (x .1 .1 .1 .1 .0) (slice (x .1))) (1, twoRows) (λ d. omega (arith, d)))
+    (shut-out refusal list-untested (1, twoRows) (λ d. omega (arith, d)))
 
 -- bound, most, count, store: the same always; and the pairs unread
 abbrev isGood : ℕ × (ℕ × (ℕ × List ℕ)) → Bool
@@ -101,22 +107,30 @@ is-good-list =
 pub determinant : Strong signOf (ShutsOut signOf (λ pairs. signOf (pairs + 1)))
 unfolding applies
 determinant =
-    strong signOf 0 1 (λ d. let z : _≡_ {A = ℕ} 0 1 = cc in omega arith) (shut-out signOf (λ pairs. signOf (pairs + 1)) 0 (λ d. let z : _≡_ {A = ℕ} 0 1 = cc in omega arith))
+    strong signOf 0 1 (λ d. let z : _≡_ {A = ℕ} 0 1 = cc in omega arith)
+    (shut-out signOf (λ pairs. signOf (pairs + 1)) 0 (λ d. let z : _≡_ {A = ℕ} 0 1 = cc in omega arith))
 
 -- ---- appending: the same always; and nothing written
 
 abbrev Append : Type 0
 Append = ℕ × (ℕ × (ℕ × (ℕ × List ℕ)))
 
-abbrev appends : Append → Appending
+abbrev appends : Append → Call (Unit {0}) Listed
 appends x = appending (x .0) (x .1 .0) (x .1 .1 .0) (x .1 .1 .1 .0) (x .1 .1 .1 .1)
 
--- the pair (0, 1) for two rows
+-- the pair (0, 1) for two rows; and for none, which is refused
 abbrev fresh : Append
 fresh = (2, (0, (1, (0, replicate 128 0))))
 
-pub append-permutation : Strong appends ((number : Append → ℕ) → ShutsOut appends (λ x. record { number = number x; pairs = x .1 .1 .1 .0; store = x .1 .1 .1 .1 }))
+abbrev refused-append : Append
+refused-append = (0, (0, (1, (0, replicate 128 0))))
+
+abbrev NothingWritten : Type 0
+NothingWritten = (answer : Append → Outcome (Unit {0})) → ShutsOut appends (λ x. record { answer = answer x; left = listed (x .1 .1 .1 .0) (x .1 .1 .1 .1) })
+
+pub append-permutation : Strong appends NothingWritten
 unfolding applies
 append-permutation =
-    strong appends fresh (0, (0, (1, (0, [])))) (λ d. omega (arith, ap (λ (o : Appending). o .number) d))
-    (λ number. shut-out appends (λ x. record { number = number x; pairs = x .1 .1 .1 .0; store = x .1 .1 .1 .1 }) fresh (λ d. omega (arith, ap (λ (o : Appending). o .pairs) d)))
+    strong appends fresh refused-append (λ d. done-refused (ap (λ (o : Call (Unit {0}) Listed). o .answer) d))
+    (λ answer. shut-out appends (λ x. record { answer = answer x; left = listed (x .1 .1 .1 .0) (x .1 .1 .1 .1) }) fresh
+    (λ d. omega (arith, ap (λ (o : Call (Unit {0}) Listed). o .left .pairs) d)))

@@ -7,23 +7,25 @@ use mathlib.Core.List.{List, []}
 use Prim.Native.Nat.{ℕ, _<_}
 use native.Mathlib.Omega.{arith}
 use lib.ListN.{length}
-use Rattle.blas.specs.Column.{Column, allFinite}
-use Rattle.blas.proofs.Choice.{and-first}
-use Rattle.blas.proofs.Each.{length-each, each-at}
+use Rattle.numbers.specs.Column.{Column}
+use Rattle.finite.specs.Finite.{allFinite}
+use Rattle.numbers.proofs.Choice.{and-first}
+use Rattle.numbers.proofs.Each.{length-each, each-at}
 use Rattle.store.specs.Columns.{columns, flat, isMatrix, HasRows}
 use Rattle.store.specs.Steps.{Matrix, column}
 use Rattle.store.proofs.Columns.{sized, length-columns, columns-rows, columns-flat, each-rows}
-use Rattle.refusals.specs.Refusals.{Outcome, seventh}
+use Rattle.refusals.specs.Outcome.{numberOf, Call, leaving}
+use Rattle.refusals.specs.Refusals.{seventh}
+use Rattle.refusals.proofs.Outcomes.{tested-none, none-given, seventh-number, seventh-stands}
 use Rattle.permutation_sequence.specs.SwapList.{Swaps, pairsOf}
 use Rattle.permutation_sequence.specs.Permute.{permute}
 use Rattle.permutation_sequence.proofs.Permute.{length-permute}
 use Rattle.solve.specs.declared.Pass.the-variants.{Upper, GivenDiagonal, TransposedUpper, TransposedUnitLower}
 use Rattle.solve.proofs.Lengths.{length-solved}
-use Rattle.solve.proofs.Outcomes.{none-given, seventh-number, seventh-stands}
-use Rattle.lu.specs.declared.Record.{Record}
-use Rattle.from_factors.specs.Taken.{takenRefusal}
+use Rattle.factors.specs.declared.Record.{Record}
+use Rattle.factors.specs.Held.{heldRefusal}
+use Rattle.factors.proofs.Held.{passed}
 use Rattle.from_factors.specs.Solving.{Way, solved, trSolved, solvedAll, solvedBy, solveAsks, solvingBy, solving, trSolving}
-use Rattle.from_factors.proofs.Taken.{passed, tested-passed}
 
 -- a way to solve that keeps a column's length
 abbrev Keeps : Way → Type 0
@@ -49,41 +51,42 @@ module _ (way : Way) (keeps : Keeps way) where
     abbrev swaps : Swaps
     swaps = pairsOf (r .pairs) store
 
-    abbrev call : Outcome
+    abbrev call : Call (Unit {0}) Column
     call = solvingBy way r factors store k b x
 
     -- a call that its tests let pass
-    made : takenRefusal (solveAsks n k b x) r factors store ≡ 0 → call ≡ seventh (solvedBy way r factors store (columns n k b))
-    made e = tested-passed (takenRefusal (solveAsks n k b x) r factors store) x (seventh (solvedBy way r factors store (columns n k b))) e
+    made : heldRefusal factors store r (solveAsks n k b x) ≡ 0 → call ≡ seventh (solvedBy way r factors store (columns n k b))
+    made e = tested-none (heldRefusal factors store r (solveAsks n k b x)) (leaving x) (seventh (solvedBy way r factors store (columns n k b))) e
 
-    none : call .number ≡ 0 → takenRefusal (solveAsks n k b x) r factors store ≡ 0
-    none e = none-given (takenRefusal (solveAsks n k b x) r factors store) x _ e
+    none : numberOf (call .answer) ≡ 0 → heldRefusal factors store r (solveAsks n k b x) ≡ 0
+    none e = none-given (heldRefusal factors store r (solveAsks n k b x)) x _ e
 
-    way-columns : call .number ≡ 0 → columns n k (call .result) ≡ solvedAll way n cs swaps (columns n k b)
+    way-columns : numberOf (call .answer) ≡ 0 → columns n k (call .left) ≡ solvedAll way n cs swaps (columns n k b)
     unfolding solvedAll
     way-columns e =
         let o = made (none e) in
-        let p = passed (solveAsks n k b x) r factors store (none e) in
+        let p = passed factors store r (solveAsks n k b x) (none e) in
         let sides = and-first (isMatrix n k b) (isMatrix n k x) (p .lengths) in
         let all = solvedAll way n cs swaps (columns n k b) in
         let wide : length all ≡ k = length-each _ 0 (columns n k b) ∙ length-columns n k b in
         let tall : HasRows n all = each-rows n _ 0 (columns n k b) (λ j c e. keeps n cs swaps c ∙ e) (columns-rows n k b (sized n k b sides .size)) in
-        ap (λ (q : Outcome). columns n k (q .result)) o
-        ∙ ap (columns n k) (seventh-stands (flat all) (sym (ap (λ (q : Outcome). q .number) o) ∙ e))
+        ap (λ (q : Call (Unit {0}) Column). columns n k (q .left)) o
+        ∙ ap (columns n k) (seventh-stands (flat all) (sym (ap (λ (q : Call (Unit {0}) Column). numberOf (q .answer)) o) ∙ e))
         ∙ ap (λ (c : ℕ). columns n c (flat all)) (sym wide)
         ∙ columns-flat n all tall
 
-    way-column : (j : ℕ) → j < k → call .number ≡ 0 → column (columns n k (call .result)) j ≡ way n cs swaps (column (columns n k b) j)
+    way-column : (j : ℕ) → j < k → numberOf (call .answer) ≡ 0 → column (columns n k (call .left)) j ≡ way n cs swaps (column (columns n k b) j)
     unfolding solvedAll
     way-column j h e = ap (λ (c : Matrix). column c j) (way-columns e) ∙ each-at _ 0 (columns n k b) j [] (omega arith) (rw length-columns h)
 
-    way-seven : takenRefusal (solveAsks n k b x) r factors store ≡ 0 → call .number ≡ cond (allFinite (flat (solvedAll way n cs swaps (columns n k b)))) 0 7
-    way-seven e = ap (λ (q : Outcome). q .number) (made e) ∙ seventh-number (solvedBy way r factors store (columns n k b))
+    way-seven : heldRefusal factors store r (solveAsks n k b x) ≡ 0
+        → numberOf (call .answer) ≡ cond (allFinite (flat (solvedAll way n cs swaps (columns n k b)))) 0 7
+    way-seven e = ap (λ (q : Call (Unit {0}) Column). numberOf (q .answer)) (made e) ∙ seventh-number (solvedBy way r factors store (columns n k b))
 
   way-alone : (r : Record) (factors : Column) (store : List ℕ) (k l : ℕ) (b d x y : Column) (i j : ℕ) → i < k → j < l
-      → solvingBy way r factors store k b x .number ≡ 0 → solvingBy way r factors store l d y .number ≡ 0
+      → numberOf (solvingBy way r factors store k b x .answer) ≡ 0 → numberOf (solvingBy way r factors store l d y .answer) ≡ 0
       → column (columns (r .rows) k b) i ≡ column (columns (r .rows) l d) j
-      → column (columns (r .rows) k (solvingBy way r factors store k b x .result)) i ≡ column (columns (r .rows) l (solvingBy way r factors store l d y .result)) j
+      → column (columns (r .rows) k (solvingBy way r factors store k b x .left)) i ≡ column (columns (r .rows) l (solvingBy way r factors store l d y .left)) j
   way-alone r factors store k l b d x y i j hi hj e f same =
       way-column r factors store k b x i hi e
       ∙ ap (way (r .rows) (columns (r .rows) (r .rows) factors) (pairsOf (r .pairs) store)) same
@@ -92,41 +95,41 @@ module _ (way : Way) (keeps : Keeps way) where
 -- ---- the two calls
 module _ (r : Record) (factors : Column) (store : List ℕ) (k : ℕ) (b x : Column) where
   -- THEOREM. An accepted solution column is its own right-hand column, solved.
-  pub accepted-column : (j : ℕ) → j < k → solving r factors store k b x .number ≡ 0
-      → column (columns (r .rows) k (solving r factors store k b x .result)) j
+  pub accepted-column : (j : ℕ) → j < k → numberOf (solving r factors store k b x .answer) ≡ 0
+      → column (columns (r .rows) k (solving r factors store k b x .left)) j
       ≡ solved (r .rows) (columns (r .rows) (r .rows) factors) (pairsOf (r .pairs) store) (column (columns (r .rows) k b) j)
   unfolding solving
   accepted-column = way-column solved solve-keeps r factors store k b x
 
-  pub accepted-tr-column : (j : ℕ) → j < k → trSolving r factors store k b x .number ≡ 0
-      → column (columns (r .rows) k (trSolving r factors store k b x .result)) j
+  pub accepted-tr-column : (j : ℕ) → j < k → numberOf (trSolving r factors store k b x .answer) ≡ 0
+      → column (columns (r .rows) k (trSolving r factors store k b x .left)) j
       ≡ trSolved (r .rows) (columns (r .rows) (r .rows) factors) (pairsOf (r .pairs) store) (column (columns (r .rows) k b) j)
   unfolding trSolving
   accepted-tr-column = way-column trSolved tr-solve-keeps r factors store k b x
 
   -- THEOREM. A call that its tests let pass is refused with 7 exactly where some number of some solved column is not finite.
-  pub seven-by-all : takenRefusal (solveAsks (r .rows) k b x) r factors store ≡ 0
-      → solving r factors store k b x .number ≡ cond (allFinite (solvedBy solved r factors store (columns (r .rows) k b))) 0 7
+  pub seven-by-all : heldRefusal factors store r (solveAsks (r .rows) k b x) ≡ 0
+      → numberOf (solving r factors store k b x .answer) ≡ cond (allFinite (solvedBy solved r factors store (columns (r .rows) k b))) 0 7
   unfolding solving
   seven-by-all = way-seven solved solve-keeps r factors store k b x
 
-  pub tr-seven-by-all : takenRefusal (solveAsks (r .rows) k b x) r factors store ≡ 0
-      → trSolving r factors store k b x .number ≡ cond (allFinite (solvedBy trSolved r factors store (columns (r .rows) k b))) 0 7
+  pub tr-seven-by-all : heldRefusal factors store r (solveAsks (r .rows) k b x) ≡ 0
+      → numberOf (trSolving r factors store k b x .answer) ≡ cond (allFinite (solvedBy trSolved r factors store (columns (r .rows) k b))) 0 7
   unfolding trSolving
   tr-seven-by-all = way-seven trSolved tr-solve-keeps r factors store k b x
 
 -- THEOREM. Two accepted calls by one record, factors and store: equal right-hand columns, wherever they stand and whatever stands beside them, have
 -- equal solution columns.
 pub column-alone : (r : Record) (factors : Column) (store : List ℕ) (k l : ℕ) (b d x y : Column) (i j : ℕ) → i < k → j < l
-    → solving r factors store k b x .number ≡ 0 → solving r factors store l d y .number ≡ 0
+    → numberOf (solving r factors store k b x .answer) ≡ 0 → numberOf (solving r factors store l d y .answer) ≡ 0
     → column (columns (r .rows) k b) i ≡ column (columns (r .rows) l d) j
-    → column (columns (r .rows) k (solving r factors store k b x .result)) i ≡ column (columns (r .rows) l (solving r factors store l d y .result)) j
+    → column (columns (r .rows) k (solving r factors store k b x .left)) i ≡ column (columns (r .rows) l (solving r factors store l d y .left)) j
 unfolding solving
 column-alone = way-alone solved solve-keeps
 
 pub tr-column-alone : (r : Record) (factors : Column) (store : List ℕ) (k l : ℕ) (b d x y : Column) (i j : ℕ) → i < k → j < l
-    → trSolving r factors store k b x .number ≡ 0 → trSolving r factors store l d y .number ≡ 0
+    → numberOf (trSolving r factors store k b x .answer) ≡ 0 → numberOf (trSolving r factors store l d y .answer) ≡ 0
     → column (columns (r .rows) k b) i ≡ column (columns (r .rows) l d) j
-    → column (columns (r .rows) k (trSolving r factors store k b x .result)) i ≡ column (columns (r .rows) l (trSolving r factors store l d y .result)) j
+    → column (columns (r .rows) k (trSolving r factors store k b x .left)) i ≡ column (columns (r .rows) l (trSolving r factors store l d y .left)) j
 unfolding trSolving
 tr-column-alone = way-alone trSolved tr-solve-keeps

@@ -1,9 +1,12 @@
 pub mod Accepted
 pub mod Alone
-pub mod Answers
 pub mod Figures
-pub mod Signed
+pub mod Lasting
+pub mod Promises
+pub mod Reason
+pub mod ReasonFigures
+pub mod Seven
 pub mod Solved
-pub mod Taken
 pub mod Triangles
+pub mod Unread
 pub mod Written

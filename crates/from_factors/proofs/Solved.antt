@@ -5,10 +5,10 @@ use mathlib.Core.Bool.{Bool, true, false}
 use mathlib.Core.List.{List}
 use Prim.Native.Nat.{ℕ}
 use lib.ListN.{length}
-use Rattle.blas.specs.Each.{eachFrom}
-use Rattle.blas.specs.Numbers.{one64}
-use Rattle.blas.specs.Column.{Column}
-use Rattle.blas.proofs.Each.{length-each, each-each}
+use Rattle.numbers.specs.Each.{eachFrom}
+use Rattle.numbers.specs.Numbers.{one64}
+use Rattle.numbers.specs.Column.{Column}
+use Rattle.numbers.proofs.Each.{length-each, each-each}
 use Rattle.store.specs.Columns.{columns, flat, isMatrix, onColumns}
 use Rattle.store.specs.Steps.{Matrix}
 use Rattle.store.proofs.Columns.{sized, same-matrix, length-columns, flat-columns, columns-rows, each-rows, on-same, on-columns}
@@ -38,7 +38,8 @@ module _ (n k : ℕ) where
 
   -- rows swapped, and one pass
   pub by-swaps : (backwards : Bool) (most pairs : ℕ) (store : List ℕ) (x y : Column) → isMatrix n k x ≡ true → goodList n most pairs store ≡ true
-      → y ≡ onColumns n k (rowsPermuted (inOrder backwards (held pairs store))) x → length y ≡ length x → Each (permute (inOrder backwards (pairsOf pairs store))) x y
+      → y ≡ onColumns n k (rowsPermuted (inOrder backwards (held pairs store))) x → length y ≡ length x
+      → Each (permute (inOrder backwards (pairsOf pairs store))) x y
   by-swaps backwards most pairs store x y h list made long =
       let swaps = inOrder backwards (pairsOf pairs store) in
       let each : Matrix → Matrix = λ cs. eachFrom (λ j c. permute swaps c) 0 cs in
@@ -52,7 +53,8 @@ module _ (n k : ℕ) where
             (each-rows n _ 0 (columns n k x) (λ j c e. length-permute swaps c ∙ e) (columns-rows n k x (sized n k x h .size)));
       }
 
-  pub by-pass : (pass : Pass) (factors x y : Column) → isMatrix n n factors ≡ true → isMatrix n k x ≡ true → y ≡ solvedInPlace pass n k factors x → length y ≡ length x
+  pub by-pass : (pass : Pass) (factors x y : Column) → isMatrix n n factors ≡ true → isMatrix n k x ≡ true → y ≡ solvedInPlace pass n k factors x
+      → length y ≡ length x
       → Each (solvedColumn pass n (columns n n factors)) x y
   unfolding solvedFrom
   by-pass pass factors x y matrix h made long =

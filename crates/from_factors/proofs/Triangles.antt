@@ -8,11 +8,11 @@ use borrow.Author.Tests.{ltb-true, ltb-false}
 use lib.Dec.{ltb}
 use lib.ListN.{length, take, drop, length-replicate, take-append-drop, List·getD-eq-default}
 use lib.Seq.{length-take-le, take-all, take-at, drop-nil, drop-append-add, ext-getD}
-use Rattle.blas.specs.Each.{listOf}
-use Rattle.blas.specs.Numbers.{zero64, one64}
-use Rattle.blas.specs.Column.{Column, zeros}
-use Rattle.blas.proofs.Choice.{test-cases}
-use Rattle.blas.proofs.Each.{length-list, list-at}
+use Rattle.numbers.specs.Each.{listOf}
+use Rattle.numbers.specs.Numbers.{zero64, one64}
+use Rattle.numbers.specs.Column.{Column, zeros}
+use Rattle.numbers.proofs.Choice.{test-cases}
+use Rattle.numbers.proofs.Each.{length-list, list-at}
 use Rattle.store.specs.Columns.{HasRows}
 use Rattle.store.specs.Steps.{Matrix, column}
 use Rattle.from_factors.specs.Triangles.{lowerOf, upperOf, lowerFactor, upperFactor}
@@ -56,11 +56,14 @@ module _ (m : ℕ) (cs : Matrix) (rows : HasRows m cs) where
       (λ t.
       let hk : j < k = ltb-true j k t in
       let low : column (listOf k (λ i. lowerOf i (column cs i))) j ≡ lowerOf j c = list-at k _ j [] hk in
-      ap₂ (λ (u l : Column). take (j + 1) u ++ drop (j + 1) l) up low ∙ ap₂ (λ (u l : Column). u ++ l) (down-to k j c (omega arith) hk) (below j c) ∙ take-append-drop (j + 1) c)
+      ap₂ (λ (u l : Column). take (j + 1) u ++ drop (j + 1) l) up low ∙ ap₂ (λ (u l : Column). u ++ l) (down-to k j c (omega arith) hk) (below j c)
+      ∙ take-append-drop (j + 1) c)
       (λ t.
       let hk : k ≤ j = ltb-false j k t in
-      let low : column (listOf k (λ i. lowerOf i (column cs i))) j ≡ [] = List·getD-eq-default (listOf k (λ i. lowerOf i (column cs i))) [] {n = j} (rw length-list hk) in
-      ap₂ (λ (u l : Column). u ++ l) (ap (take (j + 1)) up ∙ all-rows k j c (omega arith) hk (omega arith)) (ap (drop (j + 1)) low ∙ drop-nil (j + 1)) ∙ append-nil c)
+      let low : column (listOf k (λ i. lowerOf i (column cs i))) j ≡ [] =
+      List·getD-eq-default (listOf k (λ i. lowerOf i (column cs i))) [] {n = j} (rw length-list hk) in
+      ap₂ (λ (u l : Column). u ++ l) (ap (take (j + 1)) up ∙ all-rows k j c (omega arith) hk (omega arith)) (ap (drop (j + 1)) low ∙ drop-nil (j + 1))
+      ∙ append-nil c)
 
   -- THEOREM. L and U put together are the packed factors.
   pub triangles-packed : let n = length cs in

@@ -10,10 +10,11 @@ use borrow.Rule.Slice.PartMut.{midOf, putMid, mid-len, same-len-mid, post-is}
 use lib.ListN.{length, set, take, drop, length-replicate, drop-of-length-le}
 use lib.Seq.{length-take-le, take-take, drop-cons, set-at}
 use lib.Ieee.{nan}
-use Rattle.blas.specs.Each.{eachFrom, listOf}
-use Rattle.blas.specs.Numbers.{zero64, one64}
-use Rattle.blas.specs.Column.{Column, copied, zeros}
-use Rattle.blas.proofs.Each.{each-list}
+use Rattle.numbers.specs.Each.{eachFrom, listOf}
+use Rattle.numbers.specs.Numbers.{zero64, one64}
+use Rattle.numbers.specs.Column.{Column, zeros}
+use Rattle.blas.specs.Blas.{copied}
+use Rattle.numbers.proofs.Each.{each-list}
 use Rattle.blas.proofs.Rows.{copied-whole}
 use Rattle.store.specs.Columns.{columns, flat, isMatrix}
 use Rattle.store.proofs.Columns.{sized, length-columns, flat-columns, column-turn, column-stop}
@@ -73,6 +74,8 @@ module _ (j : ℕ) (src dst copy : Column) (fits : length dst ≤ length src) (c
       let len : length copy ≡ k = ap length first-rows ∙ length-take-le k src fits in
       let least : min k (j + 1) ≡ j + 1 = omega arith in
       let below : z ≡ zeros (k - (j + 1)) = e ∙ ap zeros (mid-len (j + 1) (length copy) copy (omega arith) ∙ ap (λ (i : ℕ). i - (j + 1)) len) in
-      let after : drop (length copy - (j + 1)) (drop (j + 1) copy) ≡ [] = post-is (j + 1) (length copy) copy (omega arith) ∙ drop-of-length-le copy {i = length copy} (omega arith) in
-      let front : take (j + 1) copy ≡ take (min k (j + 1)) src = ap (take (j + 1)) first-rows ∙ take-take (j + 1) k src (omega arith) ∙ ap (λ (i : ℕ). take i src) (sym least) in
+      let after : drop (length copy - (j + 1)) (drop (j + 1) copy) ≡ [] =
+      post-is (j + 1) (length copy) copy (omega arith) ∙ drop-of-length-le copy {i = length copy} (omega arith) in
+      let front : take (j + 1) copy ≡ take (min k (j + 1)) src =
+      ap (take (j + 1)) first-rows ∙ take-take (j + 1) k src (omega arith) ∙ ap (λ (i : ℕ). take i src) (sym least) in
       ap₂ (λ (a b : Column). a ++ b) front (ap₂ (λ (a b : Column). a ++ b) below after ∙ append-nil (zeros (k - (j + 1))))

@@ -1,24 +1,24 @@
 -- Document 01, "Solving": the determinant, and the invertible test; and what the two calls answer on every input.
-use mathlib.Core.Bool.{true, false, not, cond}
+use mathlib.Core.Bool.{Bool, true, false, not, cond}
 use mathlib.Core.List.{List}
 use Prim.Native.Nat.{ℕ}
-use lib.Dec.{eqb}
 use lib.Ieee.{Float, binary64, mul}
 use lib.Ieee.Scale.{finite}
-use Rattle.blas.specs.Each.{turnsFrom}
-use Rattle.blas.specs.Numbers.{one64}
-use Rattle.blas.specs.Column.{Column, entry}
+use Rattle.numbers.specs.Each.{turnsFrom}
+use Rattle.numbers.specs.Numbers.{one64}
+use Rattle.numbers.specs.Column.{Column, entry}
 use Rattle.store.specs.Columns.{columns}
 use Rattle.store.specs.Steps.{Matrix, column}
+use Rattle.refusals.specs.Outcome.{Outcome, done, refused, tested, andThen}
 use Rattle.permutation_sequence.specs.Permute.{signOf}
 use Rattle.solve.specs.Calls.{zeroOnDiagonal}
-use Rattle.lu.specs.declared.Record.{Record}
-use Rattle.from_factors.specs.declared.Asks.{Asks}
+use Rattle.factors.specs.declared.Record.{Record}
+use Rattle.factors.specs.declared.Asks.{Asks}
+use Rattle.factors.specs.Held.{heldRefusal}
 use Rattle.from_factors.specs.declared.Det.{Det}
 use Rattle.from_factors.specs.declared.Det.the-variants.{Number, Refused}
 use Rattle.from_factors.specs.declared.Invertible.{Invertible}
 use Rattle.from_factors.specs.declared.Invertible.the-variants.{Is, Refused as NotTested}
-use Rattle.from_factors.specs.Taken.{takenRefusal}
 
 -- "1 times each diagonal in turn"
 unfoldable pub timesDiagonal : Matrix → ℕ → Float → Float
@@ -33,35 +33,30 @@ determinantOf n cs pairs = mul binary64 (diagonalProduct n cs) (signOf pairs)
 
 -- what both calls ask: a square matrix
 abbrev pub squareAsks : Asks
-squareAsks = record { square = true; solves = false; sizes = true; lengths = true; numbers = true }
+squareAsks = record { square = true; solves = false; sizes = true; lengths = true; list = true; numbers = true }
 
--- "either one number or a refusal with its number": a finite number, else 7
-unfoldable pub numberOr7 : Float → Det
-numberOr7 x = cond (finite x) (Number x) (Refused 7)
+-- "either one number or a refusal with its number": what each case of the answer stands for
+unfoldable pub determined : Det → Outcome Float
+determined (Number x) = done x
+determined (Refused number) = refused number
+
+-- a finite number, else 7
+unfoldable pub numberOr7 : Float → Outcome Float
+numberOr7 x = cond (finite x) (done x) (refused 7)
 
 -- the product of the diagonal without the sign, or the refusal before the work
-unfoldable pub producing : Record → Column → List ℕ → Det
-producing r factors store =
-    let number = takenRefusal squareAsks r factors store in
-    cond (eqb number 0) (Number (diagonalProduct (r .rows) (columns (r .rows) (r .rows) factors))) (Refused number)
+unfoldable pub producing : Record → Column → List ℕ → Outcome Float
+producing r factors store = tested (heldRefusal factors store r squareAsks) refused (done (diagonalProduct (r .rows) (columns (r .rows) (r .rows) factors)))
 
-unfoldable pub determining : Record → Column → List ℕ → Det
-determining r factors store =
-    let number = takenRefusal squareAsks r factors store in
-    cond (eqb number 0) (numberOr7 (determinantOf (r .rows) (columns (r .rows) (r .rows) factors) (r .pairs))) (Refused number)
+unfoldable pub determining : Record → Column → List ℕ → Outcome Float
+determining r factors store = andThen (producing r factors store) (λ d. numberOr7 (mul binary64 d (signOf (r .pairs))))
 
--- what each case of the answer stands for in document 01: the refusal number, 0 for none, and the value
-unfoldable pub numberOf : Det → ℕ
-numberOf (Number x) = 0
-numberOf (Refused number) = number
+-- ---- the invertible test: no zero on the diagonal
 
--- "Invertible: no zero on the diagonal"
-unfoldable pub inverseTest : Record → Column → List ℕ → Invertible
-inverseTest r factors store =
-    let number = takenRefusal squareAsks r factors store in
-    cond (eqb number 0) (Is (not (zeroOnDiagonal (r .rows) factors))) (NotTested number)
+-- what each case of the answer stands for
+unfoldable pub testedInverse : Invertible → Outcome Bool
+testedInverse (Is holds) = done holds
+testedInverse (NotTested number) = refused number
 
--- document 01's number for each case of the answer
-unfoldable pub testNumberOf : Invertible → ℕ
-testNumberOf (Is b) = 0
-testNumberOf (NotTested number) = number
+unfoldable pub inverseTest : Record → Column → List ℕ → Outcome Bool
+inverseTest r factors store = tested (heldRefusal factors store r squareAsks) refused (done (not (zeroOnDiagonal (r .rows) factors)))

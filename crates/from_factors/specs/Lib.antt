@@ -1,4 +1,4 @@
-pub mod Taken
 pub mod Triangles
 pub mod Solving
 pub mod Determinant
+pub mod Reason

@@ -4,19 +4,21 @@ use mathlib.Core.Bool.{Bool, true, false, not, _&&_}
 use mathlib.Core.List.{List, reverse}
 use Prim.Native.Nat.{ℕ}
 use lib.ListN.{set}
-use Rattle.blas.specs.Each.{eachFrom, listOf}
-use Rattle.blas.specs.Numbers.{one64}
-use Rattle.blas.specs.Column.{Column, allFinite, zeros}
+use Rattle.numbers.specs.Each.{eachFrom, listOf}
+use Rattle.numbers.specs.Numbers.{one64}
+use Rattle.numbers.specs.Column.{Column, zeros}
+use Rattle.finite.specs.Finite.{allFinite}
 use Rattle.store.specs.Columns.{columns, flat, isMatrix}
 use Rattle.store.specs.Steps.{Matrix}
-use Rattle.refusals.specs.Refusals.{outside, Outcome, seventh, tested}
+use Rattle.refusals.specs.Outcome.{tested, Call, leaving}
+use Rattle.refusals.specs.Refusals.{outside, seventh}
 use Rattle.permutation_sequence.specs.SwapList.{Swaps, pairsOf}
 use Rattle.permutation_sequence.specs.Permute.{permute}
 use Rattle.solve.specs.declared.Pass.the-variants.{Upper, GivenDiagonal, TransposedUpper, TransposedUnitLower}
 use Rattle.solve.specs.Triangular.{solvedColumn}
-use Rattle.lu.specs.declared.Record.{Record}
-use Rattle.from_factors.specs.declared.Asks.{Asks}
-use Rattle.from_factors.specs.Taken.{takenRefusal}
+use Rattle.factors.specs.declared.Record.{Record}
+use Rattle.factors.specs.declared.Asks.{Asks}
+use Rattle.factors.specs.Held.{heldRefusal}
 
 -- how one right-hand column is solved: by the n by n columns of the factors, and by the swaps
 abbrev pub Way : Type 0
@@ -53,24 +55,27 @@ solvedBy way r factors store bs = flat (solvedAll way (r .rows) (columns (r .row
 -- ---- the calls
 
 abbrev pub solveAsks : ℕ → ℕ → Column → Column → Asks
-solveAsks n k b x = record { square = true; solves = true; sizes = not (outside 1 k); lengths = isMatrix n k b && isMatrix n k x; numbers = allFinite b }
+solveAsks n k b x =
+    record { square = true; solves = true; sizes = not (outside 1 k); lengths = isMatrix n k b && isMatrix n k x; list = true; numbers = allFinite b }
 
 -- k right-hand columns b, and the slice for the solution, which held x
-abbrev pub solvingBy : Way → Record → Column → List ℕ → ℕ → Column → Column → Outcome
+abbrev pub solvingBy : Way → Record → Column → List ℕ → ℕ → Column → Column → Call (Unit {0}) Column
 solvingBy way r factors store k b x =
-    tested (takenRefusal (solveAsks (r .rows) k b x) r factors store) x (seventh (solvedBy way r factors store (columns (r .rows) k b)))
+    tested (heldRefusal factors store r (solveAsks (r .rows) k b x)) (leaving x)
+    (seventh (solvedBy way r factors store (columns (r .rows) k b)))
 
-unfoldable pub solving : Record → Column → List ℕ → ℕ → Column → Column → Outcome
+unfoldable pub solving : Record → Column → List ℕ → ℕ → Column → Column → Call (Unit {0}) Column
 solving r factors store k b x = solvingBy solved r factors store k b x
 
 -- "refusals: as for solve, in the same order"
-unfoldable pub trSolving : Record → Column → List ℕ → ℕ → Column → Column → Outcome
+unfoldable pub trSolving : Record → Column → List ℕ → ℕ → Column → Column → Call (Unit {0}) Column
 trSolving r factors store k b x = solvingBy trSolved r factors store k b x
 
 abbrev pub inverseAsks : ℕ → Column → Asks
-inverseAsks n x = record { square = true; solves = true; sizes = true; lengths = isMatrix n n x; numbers = true }
+inverseAsks n x = record { square = true; solves = true; sizes = true; lengths = isMatrix n n x; list = true; numbers = true }
 
 -- "solve with the identity"
-unfoldable pub inverting : Record → Column → List ℕ → Column → Outcome
+unfoldable pub inverting : Record → Column → List ℕ → Column → Call (Unit {0}) Column
 inverting r factors store x =
-    tested (takenRefusal (inverseAsks (r .rows) x) r factors store) x (seventh (solvedBy solved r factors store (identity (r .rows))))
+    tested (heldRefusal factors store r (inverseAsks (r .rows) x)) (leaving x)
+    (seventh (solvedBy solved r factors store (identity (r .rows))))

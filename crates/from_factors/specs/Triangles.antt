@@ -3,15 +3,15 @@ use mathlib.Core.Bool.{true, false}
 use mathlib.Core.List.{List, _∷_, _++_}
 use Prim.Native.Nat.{ℕ, _+_, _-_, min}
 use lib.ListN.{take, drop}
-use Rattle.blas.specs.Each.{listOf}
-use Rattle.blas.specs.Numbers.{one64}
-use Rattle.blas.specs.Column.{Column, zeros}
+use Rattle.numbers.specs.Each.{listOf}
+use Rattle.numbers.specs.Numbers.{one64}
+use Rattle.numbers.specs.Column.{Column, zeros}
 use Rattle.store.specs.Columns.{columns, flat, isMatrix}
 use Rattle.store.specs.Steps.{Matrix, column}
-use Rattle.refusals.specs.Refusals.{Outcome, tested}
-use Rattle.lu.specs.declared.Record.{Record}
-use Rattle.from_factors.specs.declared.Asks.{Asks}
-use Rattle.from_factors.specs.Taken.{takenRefusal}
+use Rattle.refusals.specs.Outcome.{done, tested, Call, leaving}
+use Rattle.factors.specs.declared.Record.{Record}
+use Rattle.factors.specs.declared.Asks.{Asks}
+use Rattle.factors.specs.Held.{heldRefusal}
 
 -- column j of L, and of U with k rows, c being the packed column
 unfoldable pub lowerOf : ℕ → Column → Column
@@ -29,17 +29,17 @@ upperFactor k n cs = listOf n (λ j. upperOf k j (column cs j))
 
 -- what a call asks that reads a triangle into a slice of k rows and n columns
 abbrev pub readAsks : ℕ → ℕ → Column → Asks
-readAsks k n out = record { square = false; solves = false; sizes = true; lengths = isMatrix k n out; numbers = true }
+readAsks k n out = record { square = false; solves = false; sizes = true; lengths = isMatrix k n out; list = true; numbers = true }
 
 -- the two calls: what they answer and leave, on every input
-unfoldable pub lowering : Record → Column → List ℕ → Column → Outcome
+unfoldable pub lowering : Record → Column → List ℕ → Column → Call (Unit {0}) Column
 lowering r factors store out =
     let k = min (r .rows) (r .columns) in
-    tested (takenRefusal (readAsks (r .rows) k out) r factors store) out
-    (record { number = 0; result = flat (lowerFactor k (columns (r .rows) (r .columns) factors)) })
+    tested (heldRefusal factors store r (readAsks (r .rows) k out)) (leaving out)
+    (record { answer = done tt; left = flat (lowerFactor k (columns (r .rows) (r .columns) factors)) })
 
-unfoldable pub uppering : Record → Column → List ℕ → Column → Outcome
+unfoldable pub uppering : Record → Column → List ℕ → Column → Call (Unit {0}) Column
 uppering r factors store out =
     let k = min (r .rows) (r .columns) in
-    tested (takenRefusal (readAsks k (r .columns) out) r factors store) out
-    (record { number = 0; result = flat (upperFactor k (r .columns) (columns (r .rows) (r .columns) factors)) })
+    tested (heldRefusal factors store r (readAsks k (r .columns) out)) (leaving out)
+    (record { answer = done tt; left = flat (upperFactor k (r .columns) (columns (r .rows) (r .columns) factors)) })

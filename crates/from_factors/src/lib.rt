@@ -1,27 +1,20 @@
-// What is read off the factors of `lu`: L, U, solutions (also of the transposed system), the inverse, the determinant and the invertible test; linalg/lu.rs of nalgebra 0.35.0.
+// What is read off the factors of `lu`: L, U, solutions (also of the transposed system), the inverse, the determinant and the invertible test; linalg/lu.rs
+// of nalgebra 0.35.0.
 ghost use mathlib.Core.Path.{_≡_};
 ghost use mathlib.Core.Bool.{true};
 ghost use Prim.Native.Nat.{_+_, _*_, _<_, _≤_, min};
 ghost use lib.ListN.{length};
 ghost use Rattle.store.specs.Columns.{columns, flat, isMatrix};
-ghost use Rattle.refusals.specs.Refusals.{answerOf};
+ghost use Rattle.refusals.specs.Refusals.{answered};
 ghost use Rattle.permutation_sequence.specs.SwapList.{goodList};
-ghost use Rattle.from_factors.specs.Taken.{takenRefusal};
 ghost use Rattle.from_factors.specs.Triangles.{lowerOf, upperOf, lowerFactor, upperFactor, lowering, uppering};
 ghost use Rattle.from_factors.specs.Solving.{solved, trSolved, wayOf, solvedBy, solvingBy, solving, trSolving, unitColumn, identity, inverting};
-ghost use Rattle.from_factors.specs.Determinant.{diagonalProduct, producing, numberOr7, determining, inverseTest};
-use lu::Record;
+ghost use Rattle.from_factors.specs.Determinant.{diagonalProduct, determined, producing, numberOr7, determining, testedInverse, inverseTest};
+use factors::Asks;
+use factors::Record;
+use factors::held_refusal;
 use refusals::Answer;
 use solve::Pass;
-
-// What a call on factors asks besides: a square matrix, one that can be solved, and that its further sizes, lengths and numbers are good.
-pub struct Asks {
-    pub square: bool,
-    pub solves: bool,
-    pub sizes: bool,
-    pub lengths: bool,
-    pub numbers: bool,
-}
 
 // The determinant, or a refusal's number.
 pub enum Det {
@@ -33,30 +26,6 @@ pub enum Det {
 pub enum Invertible {
     Is(bool),
     Refused(usize),
-}
-
-// The refusal that a call on factors meets, 0 for none: the record, the factors and the swap store tested together.
-pub fn taken_refusal(asks: Asks, told: Record, factors: &[f64], swaps: &[usize]) -> usize
-    ensures { λ r. ⌜ r ≡ takenRefusal asks told (now (factors .entry)) (now (swaps .entry)) ⌝ }
-{
-    let m = told.rows;
-    let n = told.columns;
-    let sizes = refusals::outside(1, m) | refusals::outside(0, n) | !asks.sizes;
-    let shape = asks.square & (m != n);
-    let lengths = store::is_matrix(factors, m, n) & (swaps.len() == 128) & asks.lengths;
-    let list = permutation_sequence::is_good_list(swaps, told.pairs, m, store::min(m, n));
-    let numbers = blas::all_finite_long(factors) & asks.numbers;
-    let singular = asks.solves & solve::zero_on_diagonal(factors, m);
-    let from4 = refusals::first(
-        4,
-        !list,
-        refusals::first(5, !numbers, refusals::first(6, singular, 0)),
-    );
-    refusals::first(
-        1,
-        sizes,
-        refusals::first(2, shape, refusals::first(3, !lengths, from4)),
-    )
 }
 
 // Column j of L from the packed column: +0.0 above the diagonal, and one on it.
@@ -85,8 +54,8 @@ fn lower_columns(out: &mut [f64], m: usize, n: usize, k: usize, factors: &[f64])
 
 // The lower triangular matrix of the factors, m by min(m, n).
 pub fn l(factors: &[f64], swaps: &[usize], told: Record, out: &mut [f64]) -> Answer
-    ensures { λ r. ⌜ r ≡ answerOf (lowering told (now (factors .entry)) (now (swaps .entry)) (now (out .entry)) .number) ⌝ }
-    ensures { λ _. ⌜ now (out .exit) ≡ lowering told (now (factors .entry)) (now (swaps .entry)) (now (out .entry)) .result ⌝ }
+    ensures { λ r. ⌜ answered r ≡ lowering told (now (factors .entry)) (now (swaps .entry)) (now (out .entry)) .answer ⌝ }
+    ensures { λ _. ⌜ now (out .exit) ≡ lowering told (now (factors .entry)) (now (swaps .entry)) (now (out .entry)) .left ⌝ }
 {
     let m = told.rows;
     let n = told.columns;
@@ -97,9 +66,10 @@ pub fn l(factors: &[f64], swaps: &[usize], told: Record, out: &mut [f64]) -> Ans
         solves: false,
         sizes: true,
         lengths,
+        list: true,
         numbers: true,
     };
-    let number = taken_refusal(asks, told, factors, swaps);
+    let number = held_refusal(factors, swaps, told, asks);
     if number != 0 {
         return refusals::answer_for(number);
     }
@@ -138,8 +108,8 @@ fn upper_columns(out: &mut [f64], m: usize, n: usize, k: usize, factors: &[f64])
 
 // The upper triangular matrix of the factors, min(m, n) by n.
 pub fn u(factors: &[f64], swaps: &[usize], told: Record, out: &mut [f64]) -> Answer
-    ensures { λ r. ⌜ r ≡ answerOf (uppering told (now (factors .entry)) (now (swaps .entry)) (now (out .entry)) .number) ⌝ }
-    ensures { λ _. ⌜ now (out .exit) ≡ uppering told (now (factors .entry)) (now (swaps .entry)) (now (out .entry)) .result ⌝ }
+    ensures { λ r. ⌜ answered r ≡ uppering told (now (factors .entry)) (now (swaps .entry)) (now (out .entry)) .answer ⌝ }
+    ensures { λ _. ⌜ now (out .exit) ≡ uppering told (now (factors .entry)) (now (swaps .entry)) (now (out .entry)) .left ⌝ }
 {
     let m = told.rows;
     let n = told.columns;
@@ -150,9 +120,10 @@ pub fn u(factors: &[f64], swaps: &[usize], told: Record, out: &mut [f64]) -> Ans
         solves: false,
         sizes: true,
         lengths,
+        list: true,
         numbers: true,
     };
-    let number = taken_refusal(asks, told, factors, swaps);
+    let number = held_refusal(factors, swaps, told, asks);
     if number != 0 {
         return refusals::answer_for(number);
     }
@@ -168,8 +139,8 @@ fn solve_mut(factors: &[f64], swaps: &[usize], told: Record, x: &mut [f64], k: u
 {
     let n = told.rows;
     permutation_sequence::apply_to_rows(x, n, k, swaps, told.pairs, false);
-    triangles::solve_in_place(false, factors, n, x, k);
-    triangles::solve_in_place(true, factors, n, x, k);
+    solve_by_rows::solve_in_place(false, factors, n, x, k);
+    solve_by_rows::solve_in_place(true, factors, n, x, k);
 }
 
 // The same by the transposed system: transposed upper, transposed unit lower, rows swapped by the list in reverse.
@@ -214,24 +185,25 @@ fn solve_by(
     k: usize,
     x: &mut [f64],
 ) -> Answer
-    ensures { λ r. ⌜ r ≡ answerOf (solvingBy (wayOf transposed) told (now (factors .entry)) (now (swaps .entry)) k (now (b .entry)) (now (x .entry)) .number) ⌝ }
-    ensures { λ _. ⌜ now (x .exit) ≡ solvingBy (wayOf transposed) told (now (factors .entry)) (now (swaps .entry)) k (now (b .entry)) (now (x .entry)) .result ⌝ }
+    ensures { λ r. ⌜ answered r ≡ solvingBy (wayOf transposed) told (now (factors .entry)) (now (swaps .entry)) k (now (b .entry)) (now (x .entry)) .answer ⌝ }
+    ensures { λ _. ⌜ now (x .exit) ≡ solvingBy (wayOf transposed) told (now (factors .entry)) (now (swaps .entry)) k (now (b .entry)) (now (x .entry)) .left ⌝ }
 {
     let n = told.rows;
     let sizes = !refusals::outside(1, k);
     let lengths = store::is_matrix(b, n, k) & store::is_matrix(x, n, k);
-    let numbers = blas::all_finite(b);
-    let number = taken_refusal(
+    let numbers = finite::all_finite(b);
+    let number = held_refusal(
+        factors,
+        swaps,
+        told,
         Asks {
             square: true,
             solves: true,
             sizes,
             lengths,
+            list: true,
             numbers,
         },
-        told,
-        factors,
-        swaps,
     );
     if number != 0 {
         return refusals::answer_for(number);
@@ -250,8 +222,8 @@ pub fn solve(
     k: usize,
     x: &mut [f64],
 ) -> Answer
-    ensures { λ r. ⌜ r ≡ answerOf (solving told (now (factors .entry)) (now (swaps .entry)) k (now (b .entry)) (now (x .entry)) .number) ⌝ }
-    ensures { λ _. ⌜ now (x .exit) ≡ solving told (now (factors .entry)) (now (swaps .entry)) k (now (b .entry)) (now (x .entry)) .result ⌝ }
+    ensures { λ r. ⌜ answered r ≡ solving told (now (factors .entry)) (now (swaps .entry)) k (now (b .entry)) (now (x .entry)) .answer ⌝ }
+    ensures { λ _. ⌜ now (x .exit) ≡ solving told (now (factors .entry)) (now (swaps .entry)) k (now (b .entry)) (now (x .entry)) .left ⌝ }
 {
     solve_by(false, factors, swaps, told, b, k, x)
 }
@@ -265,8 +237,8 @@ pub fn tr_solve(
     k: usize,
     x: &mut [f64],
 ) -> Answer
-    ensures { λ r. ⌜ r ≡ answerOf (trSolving told (now (factors .entry)) (now (swaps .entry)) k (now (b .entry)) (now (x .entry)) .number) ⌝ }
-    ensures { λ _. ⌜ now (x .exit) ≡ trSolving told (now (factors .entry)) (now (swaps .entry)) k (now (b .entry)) (now (x .entry)) .result ⌝ }
+    ensures { λ r. ⌜ answered r ≡ trSolving told (now (factors .entry)) (now (swaps .entry)) k (now (b .entry)) (now (x .entry)) .answer ⌝ }
+    ensures { λ _. ⌜ now (x .exit) ≡ trSolving told (now (factors .entry)) (now (swaps .entry)) k (now (b .entry)) (now (x .entry)) .left ⌝ }
 {
     solve_by(true, factors, swaps, told, b, k, x)
 }
@@ -296,22 +268,23 @@ fn fill_with_identity(x: &mut [f64], n: usize)
 
 // The inverse, into x: solve with the identity.
 pub fn inverse(factors: &[f64], swaps: &[usize], told: Record, x: &mut [f64]) -> Answer
-    ensures { λ r. ⌜ r ≡ answerOf (inverting told (now (factors .entry)) (now (swaps .entry)) (now (x .entry)) .number) ⌝ }
-    ensures { λ _. ⌜ now (x .exit) ≡ inverting told (now (factors .entry)) (now (swaps .entry)) (now (x .entry)) .result ⌝ }
+    ensures { λ r. ⌜ answered r ≡ inverting told (now (factors .entry)) (now (swaps .entry)) (now (x .entry)) .answer ⌝ }
+    ensures { λ _. ⌜ now (x .exit) ≡ inverting told (now (factors .entry)) (now (swaps .entry)) (now (x .entry)) .left ⌝ }
 {
     let n = told.rows;
     let lengths = store::is_matrix(x, n, n);
-    let number = taken_refusal(
+    let number = held_refusal(
+        factors,
+        swaps,
+        told,
         Asks {
             square: true,
             solves: true,
             sizes: true,
             lengths,
+            list: true,
             numbers: true,
         },
-        told,
-        factors,
-        swaps,
     );
     if number != 0 {
         return refusals::answer_for(number);
@@ -339,16 +312,17 @@ fn diagonal_product(factors: &[f64], n: usize) -> f64
 
 // The product of the diagonal, or the refusal before the work.
 fn product(factors: &[f64], swaps: &[usize], told: Record) -> Det
-    ensures { λ r. ⌜ r ≡ producing told (now (factors .entry)) (now (swaps .entry)) ⌝ }
+    ensures { λ r. ⌜ determined r ≡ producing told (now (factors .entry)) (now (swaps .entry)) ⌝ }
 {
     let asks = Asks {
         square: true,
         solves: false,
         sizes: true,
         lengths: true,
+        list: true,
         numbers: true,
     };
-    let number = taken_refusal(asks, told, factors, swaps);
+    let number = held_refusal(factors, swaps, told, asks);
     if number != 0 {
         return Det::Refused(number);
     }
@@ -357,9 +331,9 @@ fn product(factors: &[f64], swaps: &[usize], told: Record) -> Det
 
 // A finite number, or refusal 7.
 fn number_or_7(x: f64) -> Det
-    ensures { λ r. ⌜ r ≡ numberOr7 x ⌝ }
+    ensures { λ r. ⌜ determined r ≡ numberOr7 x ⌝ }
 {
-    if blas::is_finite(x) {
+    if numbers::is_finite(x) {
         Det::Number(x)
     } else {
         Det::Refused(7)
@@ -368,7 +342,7 @@ fn number_or_7(x: f64) -> Det
 
 // The determinant of the factored matrix.
 pub fn determinant(factors: &[f64], swaps: &[usize], told: Record) -> Det
-    ensures { λ r. ⌜ r ≡ determining told (now (factors .entry)) (now (swaps .entry)) ⌝ }
+    ensures { λ r. ⌜ determined r ≡ determining told (now (factors .entry)) (now (swaps .entry)) ⌝ }
 {
     let answer = product(factors, swaps, told);
     let Det::Number(res) = answer else {
@@ -379,16 +353,17 @@ pub fn determinant(factors: &[f64], swaps: &[usize], told: Record) -> Det
 
 // Whether the factored matrix is invertible: no zero on the diagonal.
 pub fn is_invertible(factors: &[f64], swaps: &[usize], told: Record) -> Invertible
-    ensures { λ r. ⌜ r ≡ inverseTest told (now (factors .entry)) (now (swaps .entry)) ⌝ }
+    ensures { λ r. ⌜ testedInverse r ≡ inverseTest told (now (factors .entry)) (now (swaps .entry)) ⌝ }
 {
     let asks = Asks {
         square: true,
         solves: false,
         sizes: true,
         lengths: true,
+        list: true,
         numbers: true,
     };
-    let number = taken_refusal(asks, told, factors, swaps);
+    let number = held_refusal(factors, swaps, told, asks);
     if number != 0 {
         return Invertible::Refused(number);
     }

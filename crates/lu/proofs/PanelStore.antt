@@ -9,9 +9,9 @@ use native.Mathlib.Omega.{arith}
 use borrow.Rule.Slice.PartMut.{midOf, putMid, same-len-mid}
 use lib.ListN.{length, take, drop, length-drop, length-append, take-append-drop, drop-of-length-le, List·getD-append}
 use lib.Seq.{take-all, take-at, drop-at, drop-drop, length-take-le}
-use Rattle.blas.specs.Each.{eachFrom, turnsFrom}
-use Rattle.blas.specs.Column.{Column}
-use Rattle.blas.proofs.Each.{length-each, each-each, each-same}
+use Rattle.numbers.specs.Each.{eachFrom, turnsFrom}
+use Rattle.numbers.specs.Column.{Column}
+use Rattle.numbers.proofs.Each.{length-each, each-each, each-same}
 use Rattle.store.specs.Columns.{columns, HasRows, isMatrix, onColumns}
 use Rattle.store.specs.Steps.{Matrix}
 use Rattle.store.proofs.Columns.{sized, is-matrix, length-columns, columns-rows, columns-split, on-columns, each-rows}
@@ -20,17 +20,17 @@ use Rattle.permutation_sequence.specs.Permute.{permute, rowsPermuted, inOrder}
 use Rattle.permutation_sequence.proofs.Permute.{rows-each, length-permute}
 use Rattle.permutation_sequence.proofs.SwapList.{held-all}
 use Rattle.lu.specs.declared.Counts.{Counts}
-use Rattle.lu.specs.Elimination.{Factors, step}
-use Rattle.lu.specs.Factoring.{storeOf}
-use Rattle.lu.specs.Adding.{update}
-use Rattle.lu.specs.Held.{Held, Stepped}
-use Rattle.lu.specs.Own.{afterPanel}
-use Rattle.lu.specs.TossUps.{tossFrom}
+use Rattle.factors.specs.Factors.{Factors, storeOf}
+use Rattle.elimination.specs.Elimination.{step}
+use Rattle.elimination.specs.Adding.{update}
+use Rattle.lu.specs.Inner.{Held, Stepped}
+use Rattle.updates.specs.Updates.{afterPanel}
+use Rattle.elimination.specs.TossUps.{tossFrom}
 use Rattle.lu.proofs.Panels.{extend, passed, panel-steps, panel-toss}
-use Rattle.lu.proofs.Step.{swaps-turns}
-use Rattle.lu.proofs.Swaps.{length-store, pairs-store}
-use Rattle.lu.proofs.Updates.{updates-same}
-use Rattle.lu.proofs.Widen.{updates, afterSteps}
+use Rattle.elimination.proofs.Step.{swaps-turns}
+use Rattle.factors.proofs.Swaps.{length-store, pairs-store}
+use Rattle.updates.proofs.Updates.{updates-same}
+use Rattle.elimination.proofs.Widen.{updates, afterSteps}
 
 -- ---- the pairs behind the first h
 pairs-drop : (h p : ℕ) (store : List ℕ) → h ≤ p → drop h (pairsOf p store) ≡ pairsOf (p - h) (drop (2 * h) store)
@@ -111,7 +111,9 @@ module _ (m n i : ℕ) (s : Column) (store : List ℕ) (counts r : Counts) (fits
 
     -- the rest with the panel's swaps, and the whole with it
     module _ (c1 u : Column) (lc : length c1 ≡ length (midOf z (length t - z) t))
-        (e1 : c1 ≡ onColumns m (n - e) (rowsPermuted (inOrder false (held (r .pairs - counts .pairs) (midOf (2 * counts .pairs) (length store1 - 2 * counts .pairs) store1)))) (midOf z (length t - z) t))
+        (e1 : c1 ≡ onColumns m (n - e)
+        (rowsPermuted (inOrder false (held (r .pairs - counts .pairs) (midOf (2 * counts .pairs) (length store1 - 2 * counts .pairs) store1))))
+        (midOf z (length t - z) t))
         (lu : length u ≡ length (putMid z (length t - z) t c1)) (eu : columns m n u ≡ afterPanel i (e - i) e (columns m n (putMid z (length t - z) t c1))) where
       abbrev v : Column
       v = putMid z (length t - z) t c1
@@ -119,7 +121,8 @@ module _ (m n i : ℕ) (s : Column) (store : List ℕ) (counts r : Counts) (fits
       -- nothing is behind the rest
       v-is : v ≡ s1 ++ c1
       v-is =
-          ap₂ (λ (x y : Column). x ++ (c1 ++ y)) (take-at s1 (drop z s) z long1) (drop-of-length-le (drop z t) {i = length t - z} (omega (arith, length-drop z t)))
+          ap₂ (λ (x y : Column). x ++ (c1 ++ y)) (take-at s1 (drop z s) z long1)
+          (drop-of-length-le (drop z t) {i = length t - z} (omega (arith, length-drop z t)))
           ∙ ap (λ (y : Column). s1 ++ y) (append-nil c1)
 
       pub v-long : length v ≡ length s
@@ -167,7 +170,8 @@ module _ (m n i : ℕ) (s : Column) (store : List ℕ) (counts r : Counts) (fits
         unfolding inOrder
         c1-columns =
             let new = drop before (g .swaps) in
-            let fit : isMatrix m (n - e) (drop z s) ≡ true = let most = sized m n s fits .columns-most in is-matrix m (n - e) (drop z s) (sized m n s fits .rows-most) (omega arith) behind-long in
+            let fit : isMatrix m (n - e) (drop z s) ≡ true = let most =
+            sized m n s fits .columns-most in is-matrix m (n - e) (drop z s) (sized m n s fits .rows-most) (omega arith) behind-long in
             let done = rows-each new rest in
             ap (columns m (n - e)) (e1 ∙ ap₂ (λ (p : Swaps) (x : Column). onColumns m (n - e) (rowsPermuted p) x) swaps-new behind)
             ∙ on-columns m (n - e) (rowsPermuted new) (drop z s) fit (ap length done ∙ length-each _ 0 rest ∙ length-columns m (n - e) (drop z s))
@@ -191,7 +195,8 @@ module _ (m n i : ℕ) (s : Column) (store : List ℕ) (counts r : Counts) (fits
             ∙ each-same _ (λ j c. turnsFrom (update (g .columns)) i 4 c) (length (g .columns)) ds
             (λ j c l x. updates-same ds (g .columns) i 4 c (λ q y. List·getD-append (g .columns) swapped [] q (rw wide y)))
             ∙ each-behind (turnsFrom (update (g .columns)) i 4) (g .columns) swapped
-            ∙ ap (λ (cs : Matrix). g .columns ++ cs) (each-each (λ j c. turnsFrom (update (g .columns)) i 4 c) (λ j c. permute (drop before (g .swaps)) c) 0 rest)
+            ∙ ap (λ (cs : Matrix). g .columns ++ cs) (each-each (λ j c. turnsFrom (update (g .columns)) i 4 c)
+            (λ j c. permute (drop before (g .swaps)) c) 0 rest)
 
         stepped : turnsFrom step i (e - i) f ≡ extend g (passed i 4 before g rest)
         unfolding g front

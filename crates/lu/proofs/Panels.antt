@@ -8,20 +8,21 @@ use borrow.Author.Tests.{ltb-true, ltb-false}
 use lib.Dec.{ltb}
 use lib.ListN.{length, drop, length-append, List·getD-append}
 use lib.Seq.{getD-append-seam}
-use Rattle.blas.specs.Each.{eachFrom, turnsFrom}
-use Rattle.blas.specs.Column.{Column}
-use Rattle.blas.proofs.Choice.{test-cases}
-use Rattle.blas.proofs.Each.{each-same}
+use Rattle.numbers.specs.Each.{eachFrom, turnsFrom}
+use Rattle.numbers.specs.Column.{Column}
+use Rattle.numbers.proofs.Choice.{test-cases}
+use Rattle.numbers.proofs.Each.{each-same}
 use Rattle.store.specs.Columns.{HasRows}
 use Rattle.store.specs.Steps.{Matrix}
 use Rattle.permutation_sequence.specs.Permute.{permute}
-use Rattle.lu.specs.Elimination.{Factors, step}
-use Rattle.lu.specs.Adding.{widen}
-use Rattle.lu.specs.TossUps.{tossFrom}
-use Rattle.lu.proofs.Step.{length-turns}
-use Rattle.lu.proofs.Tossing.{toss-front}
-use Rattle.lu.proofs.Updates.{updates-same}
-use Rattle.lu.proofs.Widen.{updates, afterSteps, steps-widen}
+use Rattle.factors.specs.Factors.{Factors}
+use Rattle.elimination.specs.Elimination.{step}
+use Rattle.elimination.specs.Adding.{widen}
+use Rattle.elimination.specs.TossUps.{tossFrom}
+use Rattle.elimination.proofs.Step.{length-turns}
+use Rattle.elimination.proofs.Tossing.{toss-front}
+use Rattle.updates.proofs.Updates.{updates-same}
+use Rattle.elimination.proofs.Widen.{updates, afterSteps, steps-widen}
 
 -- factors with more columns behind them
 abbrev pub extend : Factors → Matrix → Factors
@@ -46,14 +47,16 @@ passed i k h g rest = eachFrom (λ j c. afterSteps i k h g c) 0 rest
 -- the same by factors with one column more
 passed-widen : (i k h : ℕ) (g : Factors) (y : Column) → i + k ≤ length (g .columns) → (x : Column) → afterSteps i k h (widen g y) x ≡ afterSteps i k h g x
 unfolding afterSteps updates
-passed-widen i k h g y l x = updates-same (g .columns ++ y ∷ []) (g .columns) i k (permute (drop h (g .swaps)) x) (λ q t. List·getD-append (g .columns) (y ∷ []) [] q (omega arith))
+passed-widen i k h g y l x =
+    updates-same (g .columns ++ y ∷ []) (g .columns) i k (permute (drop h (g .swaps)) x) (λ q t. List·getD-append (g .columns) (y ∷ []) [] q (omega arith))
 
 -- THEOREM. The steps on the whole: those on the front, and what they make of each column behind it.
 pub panel-steps : (m i k : ℕ) (f : Factors) (rest : Matrix) → i + k ≤ m → i + k ≤ length (f .columns) → HasRows m (f .columns) → HasRows m rest
     → turnsFrom step i k (extend f rest) ≡ extend (turnsFrom step i k f) (passed i k (length (f .swaps)) (turnsFrom step i k f) rest)
 unfolding eachFrom
 panel-steps m i k f [] hm hn rows behind =
-    ap (λ (cs : Matrix). turnsFrom step i k (with cs f)) (append-nil (f .columns)) ∙ ap (λ (cs : Matrix). with cs (turnsFrom step i k f)) (sym (append-nil (turnsFrom step i k f .columns)))
+    ap (λ (cs : Matrix). turnsFrom step i k (with cs f)) (append-nil (f .columns))
+    ∙ ap (λ (cs : Matrix). with cs (turnsFrom step i k f)) (sym (append-nil (turnsFrom step i k f .columns)))
 panel-steps m i k f (c ∷ rest) hm hn rows behind =
     let h = length (f .swaps) in
     let g = turnsFrom step i k f in
@@ -62,7 +65,8 @@ panel-steps m i k f (c ∷ rest) hm hn rows behind =
     let one : turnsFrom step i k (widen f c) ≡ widen g y = steps-widen m f c rows i k hm hn in
     let len : length c ≡ m = behind 0 (omega arith) in
     ap (λ (cs : Matrix). turnsFrom step i k (with cs f)) (sym (append-assoc (f .columns) (c ∷ []) rest))
-    ∙ panel-steps m i k (widen f c) rest hm (omega (arith, length-append (f .columns) (c ∷ []))) (rows-snoc m (f .columns) c rows len) (λ j l. behind (suc j) (omega arith))
+    ∙ panel-steps m i k (widen f c) rest hm (omega (arith, length-append (f .columns) (c ∷ []))) (rows-snoc m (f .columns) c rows len)
+    (λ j l. behind (suc j) (omega arith))
     ∙ ap (λ (e : Factors). extend e (passed i k h e rest)) one
     ∙ ap (λ (ds : Matrix). extend (widen g y) ds) (each-same _ _ 0 rest (λ j x l t. passed-widen i k h g y kg x))
     ∙ ap (λ (cs : Matrix). with cs g) (append-assoc (g .columns) (y ∷ []) (passed i k h g rest))

@@ -1,46 +1,33 @@
 -- What the elimination's factors are like, and how they stand in the outcome of an accepted factoring: as many columns as the matrix has, each of m
 -- entries, and rising pairs that fit the store. Assumes nothing.
 use mathlib.Core.Path.{_≡_, ap, _∙_}
-use mathlib.Core.Bool.{true}
+use mathlib.Core.Bool.{true, cond}
 use mathlib.Core.List.{List}
 use Prim.Native.Nat.{ℕ, _*_, _≤_, min}
 use native.Mathlib.Omega.{arith}
-use borrow.Author.Tests.{eqb-true, eq-eqb}
-use lib.Dec.{eqb}
 use lib.ListN.{length}
-use Rattle.blas.specs.Column.{Column, allFinite}
-use Rattle.blas.proofs.Choice.{test-cases, cond-cases}
+use Rattle.numbers.specs.Column.{Column}
+use Rattle.finite.specs.Finite.{allFinite}
+use Rattle.numbers.proofs.Choice.{test-cases}
 use Rattle.store.specs.Columns.{columns, flat, HasRows}
-use Rattle.store.specs.Steps.{Matrix}
 use Rattle.store.proofs.Columns.{sized, length-columns, columns-rows, length-flat}
-use Rattle.lu.specs.Elimination.{Factors, unfactored, eliminate}
-use Rattle.lu.specs.Factoring.{storeOf, factoringRefusal, Factoring, recordOf, settled, factoring}
-use Rattle.lu.proofs.Recorded.{Rising, eliminate-rising, rising-few}
-use Rattle.lu.proofs.Step.{length-steps, rows-steps}
-use Rattle.lu.proofs.Told.{Passed, passed}
+use Rattle.factors.specs.Factors.{Factors, slices}
+use Rattle.elimination.specs.Elimination.{eliminate}
+use Rattle.lu.specs.Factoring.{factoringRefusal, acceptedAs, settled, factoring}
+use Rattle.elimination.proofs.Recorded.{Rising, eliminate-rising, rising-few}
+use Rattle.elimination.proofs.Step.{length-eliminate, rows-eliminate}
+use Rattle.refusals.specs.Outcome.{numberOf}
+use Rattle.refusals.proofs.Outcomes.{none-given}
+use Rattle.lu.proofs.Told.{Passed, passed, worked}
 
--- ---- the shape of the elimination's factors
-pub length-eliminate : (m : ℕ) (a : Matrix) → length (eliminate m a .columns) ≡ length a
-unfolding eliminate
-length-eliminate m a = length-steps (min m (length a)) (unfactored a)
-
-pub rows-eliminate : (m : ℕ) (a : Matrix) → HasRows m a → HasRows m (eliminate m a .columns)
-unfolding eliminate
-rows-eliminate m a rows = rows-steps m (min m (length a)) (unfactored a) rows
-
--- the factors of the m by n matrix that the slice a holds, and the outcome of a factoring that is accepted
+-- the factors of the m by n matrix that the slice a holds
 abbrev pub factorsOf : ℕ → ℕ → Column → Factors
 factorsOf m n a = eliminate m (columns m n a)
 
-abbrev pub acceptedAs : ℕ → ℕ → Factors → Factoring
-acceptedAs m n f = record { number = 0; told = recordOf m n (length (f .swaps)); factors = flat (f .columns); store = storeOf (f .swaps) }
-
 -- an outcome that gives no number has no refusal before the work
-pub no-refusal : (m n : ℕ) (a out : Column) (store : List ℕ) → factoring m n a out store .number ≡ 0 → factoringRefusal m n a out store ≡ 0
+pub no-refusal : (m n : ℕ) (a out : Column) (store : List ℕ) → numberOf (factoring m n a out store .answer) ≡ 0 → factoringRefusal m n a out store ≡ 0
 unfolding factoring
-no-refusal m n a out store =
-    cond-cases (λ (o : Factoring). o .number ≡ 0 → factoringRefusal m n a out store ≡ 0) (eqb (factoringRefusal m n a out store) 0)
-    (λ t e. eqb-true (factoringRefusal m n a out store) 0 t) (λ t e. e)
+no-refusal m n a out store = none-given (factoringRefusal m n a out store) (slices out store) (settled m n (eliminate m (columns m n a)))
 
 module _ (m n : ℕ) (a out : Column) (store : List ℕ) (none : factoringRefusal m n a out store ≡ 0) where
   abbrev f : Factors
@@ -71,9 +58,15 @@ module _ (m n : ℕ) (a out : Column) (store : List ℕ) (none : factoringRefusa
   few = let h = rising-few m (min m n) (f .swaps) rising in let r = ok .rows .at-most in omega arith
 
   -- the outcome of an accepted factoring
-  pub accepted-is : factoring m n a out store .number ≡ 0 → (factoring m n a out store ≡ acceptedAs m n f) × (allFinite (flat (f .columns)) ≡ true)
-  unfolding factoring settled
+  pub accepted-is : numberOf (factoring m n a out store .answer) ≡ 0 → (factoring m n a out store ≡ acceptedAs m n f) × (allFinite (flat (f .columns)) ≡ true)
+  unfolding settled numberOf
   accepted-is e =
       test-cases (allFinite (flat (eliminate m (columns m n a) .columns)))
-      (λ t. (rw (eq-eqb (factoringRefusal m n a out store) 0 none, t), t))
-      (λ t. absurd (let seven : 7 ≡ 0 = (rw (eq-eqb (factoringRefusal m n a out store) 0 none, t) at e) in omega arith))
+      (λ t. (worked m n a out store none ∙ rw t, t))
+      (λ t. absurd (let seven : 7 ≡ 0 = (rw (worked m n a out store none, t) at e) in omega arith))
+
+  -- a factoring that is not refused before the work is accepted or gives 7
+  pub settled-number : numberOf (factoring m n a out store .answer) ≡ cond (allFinite (flat (f .columns))) 0 7
+  unfolding settled numberOf
+  settled-number =
+      test-cases (allFinite (flat (eliminate m (columns m n a) .columns))) (λ t. rw (worked m n a out store none, t)) (λ t. rw (worked m n a out store none, t))

@@ -8,21 +8,22 @@ use borrow.Rule.Slice.PartMut.{midOf, putMid, same-len-mid}
 use lib.Dec.{eqb}
 use lib.ListN.{length, getD, set}
 use lib.Ieee.{Float, nan, binary64, div}
-use Rattle.blas.specs.Each.{turnsFrom}
-use Rattle.blas.specs.Numbers.{one64, isZero}
-use Rattle.blas.specs.Column.{Column, entry, pivotRow, scaleFrom}
-use Rattle.blas.proofs.Choice.{cond-cases}
-use Rattle.blas.proofs.Pivot.{pivot-from, pivot-to}
+use Rattle.numbers.specs.Each.{turnsFrom}
+use Rattle.numbers.specs.Numbers.{one64, isZero}
+use Rattle.numbers.specs.Column.{Column, entry}
+use Rattle.min_max.specs.Pivot.{pivotRow}
+use Rattle.blas.specs.Blas.{scaleFrom}
+use Rattle.min_max.proofs.Pivot.{pivot-from, pivot-to}
 use Rattle.store.specs.Columns.{columns, isMatrix, onColumns}
 use Rattle.store.specs.Steps.{column, swapInAll, rowsSwapped, eliminated}
 use Rattle.store.proofs.Columns.{sized, same-matrix, length-columns, columns-rows, part-column, column-length, entry-at, column-lent, on-columns}
 use Rattle.store.proofs.Steps.{range-all, length-rowsSwapped, rows-rowsSwapped, length-eliminated, rows-eliminated}
 use Rattle.permutation_sequence.specs.SwapList.{withPair}
-use Rattle.lu.specs.Elimination.{Factors, multipliers, scaled, pivotStep, step, unfactored, eliminate}
-use Rattle.lu.specs.Factoring.{storeOf}
-use Rattle.lu.specs.Held.{Held, Recorded}
-use Rattle.lu.proofs.Step.{pivotAt, skipped}
-use Rattle.lu.proofs.Swaps.{store-record, count-record}
+use Rattle.factors.specs.Factors.{Factors, storeOf}
+use Rattle.elimination.specs.Elimination.{multipliers, scaled, pivotStep, step, unfactored, eliminate}
+use Rattle.lu.specs.Inner.{Held}
+use Rattle.elimination.proofs.Step.{pivotAt, skipped}
+use Rattle.factors.proofs.Swaps.{Recorded, store-record, count-record}
 
 module _ (m n i p : ℕ) (s : Column) (fits : isMatrix m n s ≡ true) (hm : i < m) (hn : i < n) where
   size-of : length s ≡ n * m
@@ -32,7 +33,8 @@ module _ (m n i p : ℕ) (s : Column) (fits : isMatrix m n s ≡ true) (hm : i <
   swapped-columns t e =
       let cs = columns m n s in
       ap (columns m n) e
-      ∙ on-columns m n (rowsSwapped i p 0 n) s fits (length-rowsSwapped i p 0 n cs ∙ length-columns m n s) (rows-rowsSwapped i m p 0 n cs (columns-rows m n s size-of))
+      ∙ on-columns m n (rowsSwapped i p 0 n) s fits (length-rowsSwapped i p 0 n cs ∙ length-columns m n s)
+      (rows-rowsSwapped i m p 0 n cs (columns-rows m n s size-of))
       ∙ range-all i p n cs (omega (arith, length-columns m n s))
 
   -- t is s with its rows swapped, c column i of t with its multipliers, and u the store with the columns to the right updated
@@ -73,7 +75,8 @@ module _ (m n i p : ℕ) (s : Column) (fits : isMatrix m n s ≡ true) (hm : i <
     pivot-number = entry-at m n i p s nan hn (pivot-within .1)
 
     -- a zero there is a zero pivot
-    pub pivot-zero-there : (d : Float) → d ≡ getD s (i * m + p) nan → isZero d ≡ true → isZero (entry (column (columns m n s) i) (pivotRow i (column (columns m n s) i))) ≡ true
+    pub pivot-zero-there : (d : Float) → d ≡ getD s (i * m + p) nan → isZero d ≡ true
+        → isZero (entry (column (columns m n s) i) (pivotRow i (column (columns m n s) i))) ≡ true
     pivot-zero-there d is z = ap isZero (sym (is ∙ pivot-number ∙ ap (entry (column (columns m n s) i)) found)) ∙ z
 
 -- ---- one step on the slices
@@ -105,15 +108,6 @@ module _ (m n i : ℕ) (f : Factors) (s : Column) (store : List ℕ) (pairs p : 
             ∙ store-record (f .swaps) i (pivotAt i f) few;
         is-pairs = rec .count ∙ (λ x. cond (eqb (row-is x) i) (h .is-pairs x) (h .is-pairs x + 1)) ∙ count-record (f .swaps) i (pivotAt i f) few;
       })
-
--- at most one pair more
-pub few-recorded : (i p pairs pairs' : ℕ) (was is : List ℕ) → Recorded i p pairs pairs' was is → pairs ≤ i → pairs' ≤ i + 1
-few-recorded i p pairs pairs' was is rec h =
-    rw (rec .count) (cond-cases (λ (k : ℕ). k ≤ i + 1) (eqb p i) (λ t. omega arith) (λ t. omega arith))
-
-pub more-recorded : (i p pairs pairs' : ℕ) (was is : List ℕ) → Recorded i p pairs pairs' was is → pairs ≤ pairs'
-more-recorded i p pairs pairs' was is rec =
-    rw (rec .count) (cond-cases (λ (k : ℕ). pairs ≤ k) (eqb p i) (λ t. omega arith) (λ t. omega arith))
 
 -- ---- before the first step
 module _ (m n : ℕ) (s : Column) where

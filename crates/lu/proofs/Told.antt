@@ -1,26 +1,50 @@
--- Factoring's outcomes, each from what the tests on the way to it found. Assumes nothing.
+-- Factoring's outcomes, each from what the tests on the way to it found; and what an answer tells. Assumes nothing.
 use mathlib.Core.Path.{_≡_, refl, sym, ap, ap₂, _∙_}
 use mathlib.Core.Bool.{true, false, not, _&&_, _||_}
 use mathlib.Core.List.{List, []}
-use Prim.Native.Nat.{ℕ}
-use borrow.Author.Tests.{eqb-true, eq-eqb, ne-eqb, not-false}
+use Prim.Native.Nat.{ℕ, suc}
+use native.Mathlib.Omega.{arith}
+use borrow.Author.Tests.{eqb-true, eq-eqb, not-false}
 use lib.Dec.{eqb}
 use lib.ListN.{length, replicate}
-use Rattle.blas.specs.Column.{Column, allFinite, zeros}
-use Rattle.blas.proofs.Choice.{and-first, and-second}
+use Rattle.numbers.specs.Column.{Column, zeros}
+use Rattle.finite.specs.Finite.{allFinite}
+use Rattle.numbers.proofs.Choice.{and-first, and-second}
 use Rattle.store.specs.Columns.{columns, flat, isMatrix}
 use Rattle.store.proofs.Columns.{flat-columns}
+use Rattle.refusals.specs.Outcome.{Outcome, done, refused, andThen, leaving}
 use Rattle.refusals.specs.Refusals.{outside}
-use Rattle.refusals.proofs.Tests.{first-none, neither, Inside, inside}
+use Rattle.refusals.proofs.Outcomes.{Numbered, first-none, none-first, tested-none, tested-some}
+use Rattle.refusals.proofs.Tests.{neither, Inside, inside, not-outside}
+use Rattle.factors.specs.declared.Record.{Record}
+use Rattle.factors.specs.Factors.{Factors, numbersOf, storeOf, recordOf, slices}
+use Rattle.elimination.specs.Elimination.{eliminate}
+use Rattle.elimination.specs.TossUps.{tossUps}
 use Rattle.lu.specs.declared.Factored.{Factored}
 use Rattle.lu.specs.declared.Factored.the-variants.{Accepted, Refused}
-use Rattle.lu.specs.Elimination.{Factors, eliminate}
-use Rattle.lu.specs.Factoring.{numbersOf, storeOf, factoringRefusal, factoring, recordOf, settled, factoredOf}
-use Rattle.lu.specs.Held.{Held}
-use Rattle.lu.specs.TossUps.{tossUps}
+use Rattle.lu.specs.Factoring.{factoringTests, factoringRefusal, factoring, settled, factored, withTossUps, factoringAnswer}
+use Rattle.lu.specs.Inner.{Held, Settled}
+
+-- ---- what an answer tells of the outcome
+done-same : {A : Type 0} (a b : A) → done a ≡ done b → a ≡ b
+done-same a b e = cc
+
+pub told-accepted : (tossed : ℕ) (o : Outcome Record) (told : Record) (own : ℕ) → done (told, own) ≡ withTossUps tossed o → (o ≡ done told) × (own ≡ tossed)
+unfolding withTossUps andThen
+told-accepted tossed (done r) told own e =
+    let was : Record × ℕ = (told, own) in
+    let is : Record × ℕ = (r, tossed) in
+    let same : was ≡ is = done-same was is e in
+    (ap (λ (p : Record × ℕ). done (p .0)) (sym same), ap (λ (p : Record × ℕ). p .1) same)
+told-accepted tossed (refused k) told own e = absurd (let z : _≡_ {A = ℕ} 0 1 = cc in omega arith)
+
+pub told-refused : (tossed : ℕ) (o : Outcome Record) (number : ℕ) → refused number ≡ withTossUps tossed o → o ≡ refused number
+unfolding withTossUps andThen
+told-refused tossed (done r) number e = absurd (let z : _≡_ {A = ℕ} 0 1 = cc in omega arith)
+told-refused tossed (refused k) number e = cc
 
 module _ (m n : ℕ) (a out : Column) (store : List ℕ) where
-  -- what is known where factoring is not refused before the work
+  -- what is known where factoring is not refused before the work, and that nothing more is asked
   pub record Passed : Type 0 where
     pub rows : Inside 1 m
     pub cols : Inside 0 n
@@ -29,63 +53,82 @@ module _ (m n : ℕ) (a out : Column) (store : List ℕ) where
     pub room : length store ≡ 128
     pub numbers : allFinite a ≡ true
 
+  numbered : Numbered (factoringTests m n a out store)
+  numbered = (some 0, (some 2, (some 4, tt)))
+    where
+      some : (k : ℕ) → suc k ≡ 0 → ⊥
+      some k e = omega (arith, e)
+
   pub passed : factoringRefusal m n a out store ≡ 0 → Passed
   unfolding factoringRefusal
   passed e =
-      let p = first-none 0 (outside 1 m || outside 0 n) _ e in
-      let q = first-none 2 (not (isMatrix m n a && isMatrix m n out && eqb (length store) 128)) _ (p .1) in
-      let r = first-none 4 (not (allFinite a)) [] (q .1) in
-      let sizes = neither (outside 1 m) (outside 0 n) (p .0) in
-      let lengths = not-false (isMatrix m n a && isMatrix m n out && eqb (length store) 128) (q .0) in
-      let both = and-first (isMatrix m n a && isMatrix m n out) (eqb (length store) 128) lengths in
+      let t = first-none (factoringTests m n a out store) numbered e in
+      let sizes = neither (outside 1 m) (outside 0 n) (t .0) in
+      let two = isMatrix m n a && isMatrix m n out in
+      let lengths = not-false (two && eqb (length store) 128) (t .1 .0) in
+      let both = and-first two (eqb (length store) 128) lengths in
       record {
         rows = inside 1 m (sizes .0);
         cols = inside 0 n (sizes .1);
         matrix = and-first (isMatrix m n a) (isMatrix m n out) both;
         slice = and-second (isMatrix m n a) (isMatrix m n out) both;
-        room = eqb-true (length store) 128 (and-second (isMatrix m n a && isMatrix m n out) (eqb (length store) 128) lengths);
-        numbers = not-false (allFinite a) (r .0);
+        room = eqb-true (length store) 128 (and-second two (eqb (length store) 128) lengths);
+        numbers = not-false (allFinite a) (t .1 .1 .0);
       }
 
+  pub passes : Passed → factoringRefusal m n a out store ≡ 0
+  unfolding factoringRefusal
+  passes p =
+      none-first (factoringTests m n a out store) (
+        rw (not-outside 1 m (p .rows .at-least) (p .rows .at-most), not-outside 0 n (p .cols .at-least) (p .cols .at-most)),
+        (rw (p .matrix, p .slice, eq-eqb (length store) 128 (p .room)), (rw (p .numbers), tt)),
+      )
+
+  -- past the tests the outcome is the settled elimination
+  pub worked : factoringRefusal m n a out store ≡ 0 → factoring m n a out store ≡ settled m n (eliminate m (columns m n a))
+  unfolding factoring
+  worked none = tested-none _ _ _ none
+
   -- the promise of the call: its answer, the factors and the swap store
-  abbrev Promise : Factored → Column → List ℕ → Type 0
-  Promise r f s = (r ≡ factoredOf (factoring m n a out store) (tossUps m (columns m n a))) × ((f ≡ factoring m n a out store .factors) × (s ≡ factoring m n a out store .store))
+  abbrev pub Promise : Factored → Column → List ℕ → Type 0
+  Promise r f s =
+      (factored r ≡ factoringAnswer m n a out store) × ((f ≡ factoring m n a out store .left .factors) × (s ≡ factoring m n a out store .left .store))
 
   pub promise-refused : (number : ℕ) → number ≡ factoringRefusal m n a out store → (number ≡ 0 → ⊥) → Promise (Refused number) out store
-  unfolding factoring factoredOf
-  promise-refused number e ne = let t = ne-eqb number 0 ne in rw (← e, t, t) (refl, (refl, refl))
+  unfolding factoring factored factoringAnswer withTossUps andThen
+  promise-refused number e ne =
+      rw (tested-some _ (leaving (slices out store)) (settled m n (eliminate m (columns m n a))) (λ z. ne (e ∙ z))) (ap refused e, (refl, refl))
 
-  module _ (number : ℕ) (is : number ≡ factoringRefusal m n a out store) (none : number ≡ 0) where
-    worked : factoring m n a out store ≡ settled m n (eliminate m (columns m n a))
-    unfolding factoring
-    worked = rw (eq-eqb (factoringRefusal m n a out store) 0 (sym is ∙ none))
+  -- past the tests, from what the elimination settled on
+  pub promise-settled : (number : ℕ) (s : Column) (r : Factored) (s' : Column) (store' : List ℕ) → number ≡ factoringRefusal m n a out store → number ≡ 0
+      → s ≡ a
+      → Settled m n s r s' store' → Promise r s' store'
+  unfolding factoringAnswer
+  promise-settled number s r s' store' is none same made =
+      let w = worked (sym is ∙ none) in
+      rw (w, ← same) (made .answer, (made .factors, made .store))
 
-    pub passed-by : Passed
-    passed-by = passed (sym is ∙ none)
+-- ---- the elimination, settled: s held the matrix, t holds its factors
+module _ (m n : ℕ) (s t : Column) (store : List ℕ) (pairs : ℕ) (h : Held m n (eliminate m (columns m n s)) t store pairs) where
+  abbrev f : Factors
+  f = eliminate m (columns m n s)
 
-    module _ (s s' : Column) (held-store : List ℕ) (pairs : ℕ) (same : s' ≡ a) (h : Held m n (eliminate m (columns m n s')) s held-store pairs) where
-      tossed-is : (tossed : ℕ) → tossed ≡ tossUps m (columns m n s') → tossed ≡ tossUps m (columns m n a)
-      tossed-is tossed counted = counted ∙ ap (λ (b : Column). tossUps m (columns m n b)) same
+  whole : t ≡ flat (f .columns)
+  whole = sym (flat-columns m n t (h .size)) ∙ ap flat (h .is-columns)
 
-      f : Factors
-      f = eliminate m (columns m n a)
+  pub settled-accepted : (tossed : ℕ) → tossed ≡ tossUps m (columns m n s) → allFinite t ≡ true → Settled m n s (Accepted (recordOf m n pairs) tossed) t store
+  unfolding settled factored withTossUps andThen
+  settled-accepted tossed counted e =
+      let all : allFinite (flat (f .columns)) ≡ true = ap allFinite (sym whole) ∙ e in
+      record {
+        answer = rw all (ap₂ (λ (k j : ℕ). done (recordOf m n k, j)) (h .is-pairs) counted);
+        factors = rw all whole;
+        store = rw all (h .is-store);
+      }
 
-      held : Held m n f s held-store pairs
-      unfolding f
-      held = rw same at h
-
-      whole : s ≡ flat (f .columns)
-      whole = sym (flat-columns m n s (held .size)) ∙ ap flat (held .is-columns)
-
-      pub promise-accepted : (tossed : ℕ) → tossed ≡ tossUps m (columns m n s') → allFinite s ≡ true → Promise (Accepted (recordOf m n pairs) tossed) s held-store
-      unfolding settled factoredOf f
-      promise-accepted tossed counted t =
-          let all : allFinite (flat (f .columns)) ≡ true = ap allFinite (sym whole) ∙ t in
-          rw (worked, all) (ap₂ (λ (k j : ℕ). Accepted (recordOf m n k) j) (held .is-pairs) (tossed-is tossed counted), (whole, held .is-store))
-
-      pub promise-overflow : (zeroed : Column) (cleared : List ℕ) → allFinite s ≡ false → zeroed ≡ zeros (length s) → cleared ≡ replicate (length held-store) 0
-          → length held-store ≡ 128 → Promise (Refused 7) zeroed cleared
-      unfolding settled factoredOf f storeOf numbersOf
-      promise-overflow zeroed cleared t z e len =
-          let all : allFinite (flat (f .columns)) ≡ false = ap allFinite (sym whole) ∙ t in
-          rw (worked, all) (refl, (z ∙ ap zeros (held .size), e ∙ ap (λ k. replicate k 0) len))
+  pub settled-overflow : (zeroed : Column) (cleared : List ℕ) → allFinite t ≡ false → zeroed ≡ zeros (length t) → cleared ≡ replicate (length store) 0
+      → length store ≡ 128 → Settled m n s (Refused 7) zeroed cleared
+  unfolding settled factored withTossUps andThen storeOf numbersOf
+  settled-overflow zeroed cleared e z c len =
+      let all : allFinite (flat (f .columns)) ≡ false = ap allFinite (sym whole) ∙ e in
+      record { answer = rw all refl; factors = rw all (z ∙ ap zeros (h .size)); store = rw all (c ∙ ap (λ k. replicate k 0) len) }

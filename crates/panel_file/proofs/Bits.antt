@@ -10,14 +10,15 @@ use lib.ListN.{length, getD, take, drop}
 use lib.Ieee.{Float, nan, inf, fin, binary64, odd, isNan, ofFields, ofBits, nanBits}
 use lib.Ieee.Bits.{nanBits-is}
 use lib.Ieee.Scale.{finite}
-use Rattle.blas.proofs.Walk.{drop-next}
+use Rattle.numbers.proofs.Walk.{drop-next}
 use Rattle.panel_file.specs.File.{littleEndian, fieldAt, headed}
 
 -- ---- a field by its first byte and the rest
 pub field-next : (width : ℕ) (s : List ℕ) (at next : ℕ) → at < length s → next ≡ at + 1 → fieldAt (suc width) s at ≡ getD s at 0 + 256 * fieldAt width s next
 unfolding fieldAt littleEndian
 field-next width s at next h e =
-    ap (λ (l : List ℕ). littleEndian (take (suc width) l)) (drop-next s at 0 h) ∙ ap (λ (k : ℕ). getD s at 0 + 256 * littleEndian (take width (drop k s))) (sym e)
+    ap (λ (l : List ℕ). littleEndian (take (suc width) l)) (drop-next s at 0 h) ∙ ap (λ (k : ℕ). getD s at 0 + 256 * littleEndian (take width (drop k s)))
+    (sym e)
 
 pub field-none : (s : List ℕ) (at : ℕ) → fieldAt 0 s at ≡ 0
 unfolding fieldAt littleEndian

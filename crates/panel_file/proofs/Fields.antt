@@ -13,10 +13,10 @@ use lib.ListN.{length, getD, take, drop, set, length-set}
 use lib.Seq.{length-take-le, take-take, take-add, take-set-le, drop-at, ext-getD, getD-take, getD-drop, getD-set-same}
 use lib.Ieee.{nan, binary64, fits, ofBits, toBits}
 use lib.Ieee.Bits.{ofBits-toBits}
-use Rattle.blas.specs.Each.{listOf}
-use Rattle.blas.specs.Column.{Column, entry}
-use Rattle.blas.proofs.Each.{length-list, list-at}
-use Rattle.blas.proofs.Choice.{test-cases}
+use Rattle.numbers.specs.Each.{listOf}
+use Rattle.numbers.specs.Column.{Column, entry}
+use Rattle.numbers.proofs.Each.{length-list, list-at}
+use Rattle.numbers.proofs.Choice.{test-cases}
 use Rattle.panel_file.specs.File.{littleEndian, fieldAt, bitsAt, headed, padsOf, fileLength, numberAt, matrixOf, AllBytes, IsFile}
 use Rattle.panel_file.proofs.Bits.{field-next, field-none}
 
@@ -52,7 +52,8 @@ front-field w s t at end h a b e = ap littleEndian (sym (cut s a) ∙ ap (drop a
     front : take (at + w) s ≡ take (at + w) t
     front = sym (take-take (at + w) end s h) ∙ ap (take (at + w)) e ∙ take-take (at + w) end t h
 
-front-number : (s t : List ℕ) (k end : ℕ) → 6 + 8 * k + 8 ≤ end → 6 + 8 * k ≤ length s → 6 + 8 * k ≤ length t → take end s ≡ take end t → numberAt s k ≡ numberAt t k
+front-number : (s t : List ℕ) (k end : ℕ) → 6 + 8 * k + 8 ≤ end → 6 + 8 * k ≤ length s → 6 + 8 * k ≤ length t → take end s ≡ take end t
+    → numberAt s k ≡ numberAt t k
 unfolding numberAt
 front-number s t k end h a b e = ap (ofBits binary64) (front-field 8 s t (6 + 8 * k) end h a b e)
 
@@ -118,7 +119,8 @@ put-turn at bits was s rest k p h room =
     let t = set s (at + k) b in
     let there : at + k < length s = omega (arith, p .size) in
     let lt : length t ≡ length s = length-set s (at + k) b in
-    let kept : fieldAt k t at ≡ fieldAt k s at = front-field k t s at (at + k) (omega arith) (omega arith) (omega arith) (take-set-le (at + k) s (at + k) b (omega arith)) in
+    let kept : fieldAt k t at ≡ fieldAt k s at =
+    front-field k t s at (at + k) (omega arith) (omega arith) (omega arith) (take-set-le (at + k) s (at + k) b (omega arith)) in
     let last : fieldAt (suc k) t at ≡ fieldAt k t at + w * getD t (at + k) 0 = field-last k t at (omega arith) in
     let byte : w * getD t (at + k) 0 ≡ w * b = ap (λ (x : ℕ). w * x) (getD-set-same s (at + k) b 0 there) in
     let weight : 256 ^ suc k * q ≡ 256 * (w * q) = ap (λ (x : ℕ). x * q) (pow-succ' 256 k) ∙ mul-assoc 256 w q in
@@ -141,7 +143,8 @@ put-end at bits was s rest k p h small =
 
 -- ---- the head's six bytes, one after the other
 pub head-put : (s : List ℕ) (n : ℕ) → 6 ≤ length s
-    → (headed (set (set (set (set (set (set s 0 76) 1 88) 2 80) 3 1) 4 0) 5 n) ≡ true) × (getD (set (set (set (set (set (set s 0 76) 1 88) 2 80) 3 1) 4 0) 5 n) 5 0 ≡ n)
+    → (headed (set (set (set (set (set (set s 0 76) 1 88) 2 80) 3 1) 4 0) 5 n) ≡ true)
+    × (getD (set (set (set (set (set (set s 0 76) 1 88) 2 80) 3 1) 4 0) 5 n) 5 0 ≡ n)
 unfolding headed fieldAt littleEndian
 head-put [] n h = absurd (omega arith)
 head-put (a ∷ []) n h = absurd (omega arith)
@@ -159,7 +162,8 @@ pub record Filling (from : ℕ) (numbers : Column) (was s : List ℕ) (k : ℕ) 
   pub done : (i : ℕ) → i < k → numberAt s (from + i) ≡ entry numbers i
 
 module _ (from : ℕ) (numbers : Column) (was s : List ℕ) (k : ℕ) (p : Filling from numbers was s k) where
-  pub fill-turn : k < length numbers → 6 + 8 * (from + length numbers) ≤ length was → (next : List ℕ) → length next ≡ length s → take (6 + 8 * (from + k)) next ≡ take (6 + 8 * (from + k)) s
+  pub fill-turn : k < length numbers → 6 + 8 * (from + length numbers) ≤ length was → (next : List ℕ) → length next ≡ length s
+      → take (6 + 8 * (from + k)) next ≡ take (6 + 8 * (from + k)) s
       → bitsAt next (6 + 8 * (from + k)) ≡ toBits binary64 (entry numbers k) → T (fits binary64 (entry numbers k)) → Filling from numbers was next (k + 1)
   unfolding numberAt
   fill-turn h room next l e d double =
@@ -183,13 +187,16 @@ module _ (from : ℕ) (numbers : Column) (was s : List ℕ) (k : ℕ) (p : Filli
       ext-getD nan _ numbers l (λ i u. list-at (length numbers) (λ i. numberAt s (from + i)) i nan (omega arith) ∙ p .done i (omega arith))
 
 -- ---- the head, then the matrix, then the readings: the file. Each piece leaves what stands before it.
-pub file-put : (n : ℕ) (m r : Column) (s₁ s₂ s : List ℕ) → AllBytes s → length m ≡ n * n → length r ≡ n → length s₁ ≡ fileLength n → headed s₁ ≡ true → padsOf s₁ ≡ n
+pub file-put : (n : ℕ) (m r : Column) (s₁ s₂ s : List ℕ) → AllBytes s → length m ≡ n * n → length r ≡ n → length s₁ ≡ fileLength n → headed s₁ ≡ true
+    → padsOf s₁ ≡ n
     → length s₂ ≡ length s₁ → take 6 s₂ ≡ take 6 s₁ → listOf (length m) (λ k. numberAt s₂ (0 + k)) ≡ m
     → length s ≡ length s₂ → take (6 + 8 * (n * n)) s ≡ take (6 + 8 * (n * n)) s₂ → listOf (length r) (λ k. numberAt s (n * n + k)) ≡ r → IsFile s n m r
 file-put n m r s₁ s₂ s each lm lr l₁ head pads l₂ front₂ matrix l front readings =
-    let six : take 6 s ≡ take 6 s₁ = sym (take-take 6 (6 + 8 * (n * n)) s (omega arith)) ∙ ap (take 6) front ∙ take-take 6 (6 + 8 * (n * n)) s₂ (omega arith) ∙ front₂ in
+    let six : take 6 s ≡ take 6 s₁ =
+    sym (take-take 6 (6 + 8 * (n * n)) s (omega arith)) ∙ ap (take 6) front ∙ take-take 6 (6 + 8 * (n * n)) s₂ (omega arith) ∙ front₂ in
     let kept : matrixOf n s ≡ matrixOf n s₂ =
-    ext-getD nan (matrixOf n s) (matrixOf n s₂) (length-list _ _ ∙ sym (length-list _ _)) (λ k h. list-at (n * n) _ k nan (inside k h) ∙ same k (inside k h) ∙ sym (list-at (n * n) _ k nan (inside k h))) in
+    ext-getD nan (matrixOf n s) (matrixOf n s₂) (length-list _ _ ∙ sym (length-list _ _))
+    (λ k h. list-at (n * n) _ k nan (inside k h) ∙ same k (inside k h) ∙ sym (list-at (n * n) _ k nan (inside k h))) in
     record {
       each-byte = each;
       head = front-head s s₁ (omega arith) (omega arith) six ∙ head;

@@ -1,36 +1,31 @@
--- The file of a crossing: no two crossings have the same, and a crossing has no two. Of a file that the reader takes it gives the crossing, and it takes every file
--- of a crossing within the limits. By the numbers' bits, which eight bytes hold one to one. Assumes nothing.
+-- The file of a crossing: no two crossings have the same, and a crossing has no two. Of a file that the reader takes it gives the crossing, and it takes
+-- every file of a crossing within the limits. By the numbers' bits, which eight bytes hold one to one. Assumes nothing.
 use mathlib.Core.Path.{_≡_, refl, sym, ap, ap₂, _∙_}
-use mathlib.Core.Bool.{true, false, _&&_}
+use mathlib.Core.Bool.{true, _&&_}
 use mathlib.Core.List.{List, _++_}
 use Prim.Native.Nat.{ℕ, zero, suc, _+_, _-_, _*_, _/_, _%_, _^_, _≤_, _<_}
 use native.Mathlib.Nat.{zero-add}
 use native.Mathlib.Omega.{arith}
-use borrow.Author.Tests.{ltb-true, ltb-false, eqb-true, eq-eqb}
+use borrow.Author.Tests.{ltb-true, ltb-false, eqb-true}
 use lib.Dec.{ltb, leb, eqb}
 use lib.ListN.{length, getD, take, drop, length-append, length-drop, List·getD-append}
 use lib.Seq.{length-take-le, ext-getD, getD-append-add, getD-take, getD-drop}
 use lib.Ieee.{nan, binary64, ofBits, toBits}
 use lib.Ieee.Bits.{toBits-ofBits}
 use lib.Ieee.Scale.{finite}
-use Rattle.blas.specs.Column.{Column, entry, allFinite}
-use Rattle.blas.proofs.Each.{length-list, list-at}
-use Rattle.blas.proofs.Finite.{finite-append}
-use Rattle.blas.proofs.Choice.{and-both, and-first, and-second, test-cases, cond-cases}
-use Rattle.refusals.specs.Refusals.{firstOf, outside}
-use Rattle.refusals.proofs.Tests.{not-outside}
+use Rattle.numbers.specs.Column.{Column, entry}
+use Rattle.finite.specs.Finite.{allFinite}
+use Rattle.numbers.proofs.Each.{length-list, list-at}
+use Rattle.finite.proofs.Finite.{finite-append}
+use Rattle.numbers.proofs.Choice.{and-both, and-first, and-second, test-cases}
+use Rattle.refusals.specs.Outcome.{done, numberOf, Call, leaving}
+use Rattle.refusals.proofs.Outcomes.{tested-none, none-given}
 use Rattle.panel_file.specs.File.{littleEndian, fieldAt, headed, padsOf, fileLength, numberAt, numbersOf, matrixOf, readingsOf, AllBytes, IsFile}
-use Rattle.panel_file.specs.Reading.{lengthsFit, Reading, readingRefusal, reading}
+use Rattle.panel_file.specs.Reading.{Stores, stores, storesFit, readingRefusal, reading}
 use Rattle.panel_file.proofs.Bits.{field-two, no-nan}
 use Rattle.panel_file.proofs.Fields.{each-part, little-below, little-same}
 use Rattle.panel_file.proofs.Numbers.{number-finite}
-use Rattle.panel_file.proofs.Calls.{accepted}
-
--- the reader's tests, one after the other
-no-refusal : (bytes : List ℕ) (M R : Column) → headed bytes ≡ true → outside 1 (padsOf bytes) ≡ false → lengthsFit bytes M R ≡ true → allFinite (numbersOf (padsOf bytes) bytes) ≡ true
-    → readingRefusal bytes M R ≡ 0
-unfolding readingRefusal firstOf
-no-refusal bytes M R a b c d = rw (a, b, c, d)
+use Rattle.panel_file.proofs.Reading.{no-refusal, reader-whole}
 
 -- ---- two crossings never share a file
 pub record Same (n n' : ℕ) (matrix matrix' readings readings' : Column) : Type 0 where
@@ -74,18 +69,21 @@ numbers-parts n bytes = ext-getD nan (numbersOf n bytes) (m ++ r) (length-list _
     same : (i : ℕ) → i < length (numbersOf n bytes) → entry (numbersOf n bytes) i ≡ entry (m ++ r) i
     same i h =
         let l : length (numbersOf n bytes) ≡ n * n + n = length-list _ _ in
-        list-at (n * n + n) (numberAt bytes) i nan (omega arith) ∙ test-cases (ltb i (n * n)) (λ t. in-matrix (ltb-true _ _ t)) (λ t. in-readings (ltb-false _ _ t) (omega arith))
+        list-at (n * n + n) (numberAt bytes) i nan (omega arith) ∙ test-cases (ltb i (n * n)) (λ t. in-matrix (ltb-true _ _ t))
+        (λ t. in-readings (ltb-false _ _ t) (omega arith))
       where
         in-matrix : i < n * n → numberAt bytes i ≡ entry (m ++ r) i
         in-matrix k =
-            ap (numberAt bytes) (sym (zero-add i)) ∙ sym (list-at (n * n) (λ k. numberAt bytes (0 + k)) i nan k) ∙ sym (List·getD-append m r nan i (omega (arith, lm)))
+            ap (numberAt bytes) (sym (zero-add i)) ∙ sym (list-at (n * n) (λ k. numberAt bytes (0 + k)) i nan k)
+            ∙ sym (List·getD-append m r nan i (omega (arith, lm)))
 
         in-readings : n * n ≤ i → i < n * n + n → numberAt bytes i ≡ entry (m ++ r) i
         in-readings k u =
             let j = i - n * n in
             let place : n * n + j ≡ i = omega arith in
             let there : length m + j ≡ i = omega (arith, lm) in
-            ap (numberAt bytes) (sym place) ∙ sym (list-at n (λ k. numberAt bytes (n * n + k)) j nan (omega arith)) ∙ sym (getD-append-add m r j nan) ∙ ap (entry (m ++ r)) there
+            ap (numberAt bytes) (sym place) ∙ sym (list-at n (λ k. numberAt bytes (n * n + k)) j nan (omega arith)) ∙ sym (getD-append-add m r j nan)
+            ∙ ap (entry (m ++ r)) there
 
 module _ (bytes : List ℕ) (n : ℕ) (m r : Column) (p : IsFile bytes n m r) where
   -- the crossing's numbers in a row
@@ -155,11 +153,13 @@ module _ (b c : List ℕ) (n : ℕ) (m r : Column) (p : IsFile b n m r) (q : IsF
       let below-b : littleEndian (take 8 (drop at b)) < 256 ^ 8 = rw lb at (little-below (take 8 (drop at b)) eb) in
       let below-c : littleEndian (take 8 (drop at c)) < 256 ^ 8 = rw lc at (little-below (take 8 (drop at c)) ec) in
       let number : numberAt b k ≡ numberAt c k =
-      sym (list-at (n * n + n) (numberAt b) k nan h) ∙ ap (λ (l : Column). entry l k) (numbers-are b n m r p ∙ sym (numbers-are c n m r q)) ∙ list-at (n * n + n) (numberAt c) k nan h in
+      sym (list-at (n * n + n) (numberAt b) k nan h) ∙ ap (λ (l : Column). entry l k) (numbers-are b n m r p ∙ sym (numbers-are c n m r q))
+      ∙ list-at (n * n + n) (numberAt c) k nan h in
       little-same _ _ (lb ∙ sym lc) eb ec (bits-same _ _ below-b below-c (number-finite b (n * n + n) (numbers-finite b n m r p fm fr) k h) number)
 
   pub only-file : allFinite m ≡ true → allFinite r ≡ true → b ≡ c
-  only-file fm fr = ext-getD 0 b c (p .whole ∙ sym (q .whole)) (λ i h. test-cases (ltb i 6) (λ t. head-same i (ltb-true _ _ t)) (λ t. behind i h (ltb-false _ _ t)))
+  only-file fm fr =
+      ext-getD 0 b c (p .whole ∙ sym (q .whole)) (λ i h. test-cases (ltb i 6) (λ t. head-same i (ltb-true _ _ t)) (λ t. behind i h (ltb-false _ _ t)))
     where
       behind : (i : ℕ) → i < length b → 6 ≤ i → getD b i 0 ≡ getD c i 0
       behind i h l =
@@ -173,33 +173,40 @@ module _ (b c : List ℕ) (n : ℕ) (m r : Column) (p : IsFile b n m r) (q : IsF
 
 -- ---- what the reader makes of a file
 
--- the outcome of a file of n pads, in stores that held M and R
-abbrev pub readAs : ℕ → Column → Column → Column → Column → Reading
-readAs n m r M R = record { number = 0; pads = n; matrix = m ++ drop (n * n) M; readings = r ++ drop n R }
+-- the outcome of a file of n pads, in the stores s
+abbrev pub readAs : ℕ → Column → Column → Stores → Call ℕ Stores
+readAs n m r s = record { answer = done n; left = stores (m ++ drop (n * n) (s .matrix)) (r ++ drop n (s .readings)) }
 
-pub reading-is : (bytes : List ℕ) (M R : Column) → readingRefusal bytes M R ≡ 0 → reading bytes M R ≡ readAs (padsOf bytes) (matrixOf (padsOf bytes) bytes) (readingsOf (padsOf bytes) bytes) M R
+pub reading-is : (bytes : List ℕ) (s : Stores) → readingRefusal bytes s ≡ 0
+    → reading bytes s ≡ readAs (padsOf bytes) (matrixOf (padsOf bytes) bytes) (readingsOf (padsOf bytes) bytes) s
 unfolding reading
-reading-is bytes M R e = rw e
+reading-is bytes s e = tested-none (readingRefusal bytes s) (leaving s) _ e
 
-pub taken : (bytes : List ℕ) (M R : Column) → reading bytes M R .number ≡ 0 → readingRefusal bytes M R ≡ 0
+pub taken : (bytes : List ℕ) (s : Stores) → numberOf (reading bytes s .answer) ≡ 0 → readingRefusal bytes s ≡ 0
 unfolding reading
-taken bytes M R = cond-cases (λ (o : Reading). o .number ≡ 0 → readingRefusal bytes M R ≡ 0) (eqb (readingRefusal bytes M R) 0) (λ t _. eqb-true _ _ t) (λ t e. e)
+taken bytes s = none-given (readingRefusal bytes s) s _
 
-pub file-read : (bytes : List ℕ) (n : ℕ) (m r M R : Column) → IsFile bytes n m r → 1 ≤ n → n ≤ 64 → allFinite m ≡ true → allFinite r ≡ true → length M ≡ 4096 → length R ≡ 64
-    → reading bytes M R ≡ readAs n m r M R
-file-read bytes n m r M R p low high fm fr lM lR = reading-is bytes M R none ∙ rw (p .pads, p .matrix-read, p .readings-read)
+pub file-read : (bytes : List ℕ) (n : ℕ) (m r : Column) (s : Stores) → IsFile bytes n m r → 1 ≤ n → n ≤ 64 → allFinite m ≡ true → allFinite r ≡ true
+    → storesFit s ≡ true → reading bytes s ≡ readAs n m r s
+file-read bytes n m r s p low high fm fr fit = reading-is bytes s none ∙ rw (p .pads, p .matrix-read, p .readings-read)
   where
-    fits : (eqb (length bytes) (fileLength (padsOf bytes)) && eqb (length M) 4096 && eqb (length R) 64) ≡ true
-    fits = and-both _ _ (and-both _ _ (eq-eqb _ _ (p .whole ∙ ap fileLength (sym (p .pads)))) (eq-eqb _ _ lM)) (eq-eqb _ _ lR)
-
     finite-all : allFinite (numbersOf (padsOf bytes) bytes) ≡ true
     finite-all = ap (λ (k : ℕ). allFinite (numbersOf k bytes)) (p .pads) ∙ numbers-finite bytes n m r p fm fr
 
-    none : readingRefusal bytes M R ≡ 0
-    none = no-refusal bytes M R (p .head) (ap (outside 1) (p .pads) ∙ not-outside 1 n low high) fits finite-all
+    none : readingRefusal bytes s ≡ 0
+    none =
+        no-refusal bytes s fit
+        (record {
+          is-headed = p .head;
+          size = rw (p .pads) (record { at-least = low; at-most = high });
+          fits = refl;
+          file-length = p .whole ∙ ap fileLength (sym (p .pads));
+          numbers = finite-all;
+        })
 
 -- a file that the reader takes is the file of what was read
-pub read-file : (bytes : List ℕ) (M R : Column) → AllBytes bytes → readingRefusal bytes M R ≡ 0 → IsFile bytes (padsOf bytes) (matrixOf (padsOf bytes) bytes) (readingsOf (padsOf bytes) bytes)
-read-file bytes M R each e =
-    let w = accepted bytes M R e .0 in
+pub read-file : (bytes : List ℕ) (s : Stores) → AllBytes bytes → readingRefusal bytes s ≡ 0
+    → IsFile bytes (padsOf bytes) (matrixOf (padsOf bytes) bytes) (readingsOf (padsOf bytes) bytes)
+read-file bytes s each e =
+    let w = reader-whole bytes s e in
     record { each-byte = each; head = w .is-headed; pads = refl; whole = w .file-length; matrix-read = refl; readings-read = refl }

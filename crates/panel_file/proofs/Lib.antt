@@ -1,7 +1,7 @@
 pub mod Bits
 pub mod Numbers
-pub mod Calls
+pub mod Reading
 pub mod Fields
 pub mod Files
-pub mod Writes
+pub mod Writing
 pub mod Crossings

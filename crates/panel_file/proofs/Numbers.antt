@@ -6,11 +6,11 @@ use Prim.Native.Nat.{ℕ, _+_, _*_, _≤_, _<_}
 use lib.ListN.{drop}
 use lib.Ieee.{nan, binary64, ofBits}
 use lib.Ieee.Scale.{finite}
-use Rattle.blas.specs.Each.{listOf}
-use Rattle.blas.specs.Column.{Column, allFinite}
-use Rattle.blas.proofs.Each.{length-list, list-at}
-use Rattle.blas.proofs.Finite.{finite-entry}
-use Rattle.blas.proofs.Walk.{finite-next, finite-end}
+use Rattle.numbers.specs.Each.{listOf}
+use Rattle.numbers.specs.Column.{Column}
+use Rattle.finite.specs.Finite.{allFinite}
+use Rattle.numbers.proofs.Each.{length-list, list-at}
+use Rattle.finite.proofs.Finite.{finite-entry, finite-next, finite-end}
 use Rattle.panel_file.specs.File.{bitsAt, numberAt}
 
 module _ (bytes : List ℕ) (count : ℕ) where

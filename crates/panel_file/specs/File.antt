@@ -7,8 +7,8 @@ use Prim.Native.Nat.{ℕ, _+_, _*_, _<_}
 use lib.Dec.{leb, eqb}
 use lib.ListN.{length, getD, take, drop}
 use lib.Ieee.{Float, binary64, ofBits}
-use Rattle.blas.specs.Each.{listOf}
-use Rattle.blas.specs.Column.{Column}
+use Rattle.numbers.specs.Each.{listOf}
+use Rattle.numbers.specs.Column.{Column}
 
 -- the number that bytes stand for, the least byte first
 unfoldable pub littleEndian : List ℕ → ℕ

@@ -1,13 +1,16 @@
--- What writing a file answers and leaves, on every input. Document 02, 1/13: "Refusals: 1, 3 (also where the lent slice is shorter than the file), 5, in that order,
--- all leaving the slice as it was; the rest of a longer slice stays as it was." What the written bytes are is said by `IsFile`, in the reader's own words.
+-- What writing a file answers and leaves, on every input. Document 02, 1/13: "Refusals: 1, 3 (also where the lent slice is shorter than the file), 5, in
+-- that order, all leaving the slice as it was; the rest of a longer slice stays as it was." What the written bytes are is said by `IsFile`, in the reader's
+-- own words.
 use mathlib.Core.Path.{_≡_}
-use mathlib.Core.Bool.{Bool, not, cond, _&&_}
+use mathlib.Core.Bool.{Bool, not, _&&_}
 use mathlib.Core.List.{List, [], _∷_}
 use Prim.Native.Nat.{ℕ, _*_}
 use lib.Dec.{eqb, leb}
 use lib.ListN.{length, take, drop}
-use Rattle.blas.specs.Column.{Column, allFinite}
-use Rattle.refusals.specs.Refusals.{firstOf, outside}
+use Rattle.numbers.specs.Column.{Column}
+use Rattle.finite.specs.Finite.{allFinite}
+use Rattle.refusals.specs.Outcome.{Outcome, done, refused, numberOf, firstOf, tested, Call}
+use Rattle.refusals.specs.Refusals.{outside}
 use Rattle.panel_file.specs.declared.Written.{Written}
 use Rattle.panel_file.specs.declared.Written.the-variants.{Bytes, Refused}
 use Rattle.panel_file.specs.File.{fileLength, IsFile}
@@ -17,30 +20,29 @@ abbrev pub lengthsFit : ℕ → Column → Column → ℕ → Bool
 lengthsFit n matrix readings room = eqb (length matrix) (n * n) && eqb (length readings) n && leb (fileLength n) room
 
 -- the refusal, 0 for none
-unfoldable pub writingRefusal : ℕ → Column → Column → ℕ → ℕ
-writingRefusal n matrix readings room =
-    firstOf
-    ((1, outside 1 n)
+abbrev pub writingTests : ℕ → Column → Column → ℕ → List (ℕ × Bool)
+writingTests n matrix readings room =
+    (1, outside 1 n)
     ∷ (3, not (lengthsFit n matrix readings room))
     ∷ (5, not (allFinite matrix && allFinite readings))
-    ∷ [])
+    ∷ []
 
--- what the call answers for a refusal number, 0 for none, and a count of bytes; the number and the count that an answer stands for
-unfoldable pub writtenOf : ℕ → ℕ → Written
-writtenOf number count = cond (eqb number 0) (Bytes count) (Refused number)
+unfoldable pub writingRefusal : ℕ → Column → Column → ℕ → ℕ
+writingRefusal n matrix readings room = firstOf (writingTests n matrix readings room)
 
-unfoldable pub numberOf : Written → ℕ
-numberOf (Bytes count) = 0
-numberOf (Refused number) = number
+-- what each case of the answer stands for: the count of bytes, or the refusal
+unfoldable pub bytesWritten : Written → Outcome ℕ
+bytesWritten (Bytes count) = done count
+bytesWritten (Refused number) = refused number
 
-unfoldable pub countOf : Written → ℕ
-countOf (Bytes count) = count
-countOf (Refused number) = 0
+-- an answer with what the slice then holds
+abbrev pub written : Written → List ℕ → Call ℕ (List ℕ)
+written answer left = record { answer = bytesWritten answer; left = left }
 
--- The outcome: the answer, and what the slice, which held `out`, holds afterwards. Refused, it is as it was; else its front is the crossing's file, and the rest is as
--- it was.
-pub record Writing (n : ℕ) (matrix readings : Column) (out : List ℕ) (answer : Written) (left : List ℕ) : Type 0 where
-  pub answers : answer ≡ writtenOf (writingRefusal n matrix readings (length out)) (fileLength n)
-  pub as-it-was : (numberOf answer ≡ 0 → ⊥) → left ≡ out
-  pub file : numberOf answer ≡ 0 → IsFile (take (countOf answer) left) n matrix readings
-  pub rest : numberOf answer ≡ 0 → drop (countOf answer) left ≡ drop (countOf answer) out
+-- The call: its answer, and what the slice, which held `out`, holds afterwards. Refused, it is as it was; else its front is the crossing's file, and the
+-- rest is as it was.
+pub record Writing (n : ℕ) (matrix readings : Column) (out : List ℕ) (made : Call ℕ (List ℕ)) : Type 0 where
+  pub answers : made .answer ≡ tested (writingRefusal n matrix readings (length out)) refused (done (fileLength n))
+  pub as-it-was : (numberOf (made .answer) ≡ 0 → ⊥) → made .left ≡ out
+  pub file : numberOf (made .answer) ≡ 0 → IsFile (take (fileLength n) (made .left)) n matrix readings
+  pub rest : numberOf (made .answer) ≡ 0 → drop (fileLength n) (made .left) ≡ drop (fileLength n) out

@@ -1,16 +1,18 @@
-// Document 01, "Ranking and program": the panel file, read and written. Its meaning is in specs/File, one for both; the reader and the writer test in the documents'
-// order.
+// Document 01, "Ranking and program": the panel file, read and written. Its meaning is in specs/File, one for both; the reader and the writer test in the
+// documents' order.
 ghost use mathlib.Core.Path.{_≡_};
 ghost use mathlib.Core.Bool.{true};
 ghost use Prim.Native.Nat.{ℕ, _+_, _*_, _<_, _≤_};
-ghost use lib.ListN.{length, getD, take};
+ghost use lib.ListN.{length, getD};
 ghost use lib.Ieee.{binary64, ofBits};
 ghost use lib.Ieee.Scale.{finite};
-ghost use Rattle.blas.specs.Each.{listOf};
-ghost use Rattle.blas.specs.Column.{allFinite};
+ghost use Rattle.numbers.specs.Each.{listOf};
+ghost use Rattle.finite.specs.Finite.{allFinite};
+ghost use Rattle.refusals.specs.Outcome.{firstOf};
 ghost use Rattle.panel_file.specs.File.{bitsAt, headed, padsOf, fileLength, numberAt, IsFile};
-ghost use Rattle.panel_file.specs.Reading.{headRefusal, readingRefusal, reading, readOf};
-ghost use Rattle.panel_file.specs.Writing.{writingRefusal, Writing};
+ghost use Rattle.panel_file.specs.Inner.{KeepsBefore};
+ghost use Rattle.panel_file.specs.Reading.{fileTests, fileRefusal, stores, reading, padsRead};
+ghost use Rattle.panel_file.specs.Writing.{writingRefusal, written, Writing};
 
 // What reading a file answers: how many pads it has, or a refusal's number.
 pub enum Panel {
@@ -102,7 +104,7 @@ fn is_headed(file: &[u8]) -> bool
 }
 
 // The number of pads that the head tells, 0 where there is none.
-fn pads_of(file: &[u8]) -> usize
+pub fn pads_of(file: &[u8]) -> usize
     ensures { λ r. ⌜ (r ≡ padsOf (now (file .entry))) × (r < 256) ⌝ }
 {
     if file.len() <= 5 {
@@ -111,40 +113,37 @@ fn pads_of(file: &[u8]) -> usize
     wide(file[5]) as usize
 }
 
-// The refusals 8, 1 and 3, 0 for none.
-fn head_refusal(file: &[u8], matrix: &[f64], readings: &[f64]) -> usize
-    ensures { λ r. ⌜ r ≡ headRefusal (now (file .entry)) (now (matrix .entry)) (now (readings .entry)) ⌝ }
+// The refusal of a file, 0 for none, where the stores that are lent besides fit or not.
+fn refusal_beside(file: &[u8], fit: bool) -> usize
+    ensures { λ r. ⌜ r ≡ firstOf (fileTests fit (now (file .entry))) ⌝ }
 {
     let n = pads_of(file);
-    let lengths = (file.len() == 6 + 8 * (n * n + n))
-        & (matrix.len() == 4096)
-        & (readings.len() == 64);
-    refusals::first(
+    let lengths = fit & (file.len() == 6 + 8 * (n * n + n));
+    let early = refusals::first(
         8,
         !is_headed(file),
         refusals::first(1, refusals::outside(1, n), refusals::first(3, !lengths, 0)),
-    )
-}
-
-// The refusal of a file, 0 for none.
-fn read_refusal(file: &[u8], matrix: &[f64], readings: &[f64]) -> usize
-    ensures { λ r. ⌜ r ≡ readingRefusal (now (file .entry)) (now (matrix .entry)) (now (readings .entry)) ⌝ }
-{
-    let early = head_refusal(file, matrix, readings);
+    );
     if early != 0 {
         return early;
     }
-    let n = pads_of(file);
     refusals::first(5, !numbers_finite(file, n * n + n), 0)
+}
+
+// The refusal of a file by its bytes alone, 0 for none.
+pub fn file_refusal(file: &[u8]) -> usize
+    ensures { λ r. ⌜ r ≡ fileRefusal (now (file .entry)) ⌝ }
+{
+    refusal_beside(file, true)
 }
 
 // Reads a file into two stores, of 4096 and 64 numbers. What lies past the file's own numbers stays as it was.
 pub fn read(file: &[u8], matrix: &mut [f64], readings: &mut [f64]) -> Panel
-    ensures { λ r. ⌜ r ≡ readOf (reading (now (file .entry)) (now (matrix .entry)) (now (readings .entry))) ⌝ }
-    ensures { λ _. ⌜ now (matrix .exit) ≡ reading (now (file .entry)) (now (matrix .entry)) (now (readings .entry)) .matrix ⌝ }
-    ensures { λ _. ⌜ now (readings .exit) ≡ reading (now (file .entry)) (now (matrix .entry)) (now (readings .entry)) .readings ⌝ }
+    ensures { λ r. ⌜ padsRead r ≡ reading (now (file .entry)) (stores (now (matrix .entry)) (now (readings .entry))) .answer ⌝ }
+    ensures { λ _. ⌜ now (matrix .exit) ≡ reading (now (file .entry)) (stores (now (matrix .entry)) (now (readings .entry))) .left .matrix ⌝ }
+    ensures { λ _. ⌜ now (readings .exit) ≡ reading (now (file .entry)) (stores (now (matrix .entry)) (now (readings .entry))) .left .readings ⌝ }
 {
-    let number = read_refusal(file, matrix, readings);
+    let number = refusal_beside(file, (matrix.len() == 4096) & (readings.len() == 64));
     if number != 0 {
         return Panel::Refused(number);
     }
@@ -158,7 +157,7 @@ pub fn read(file: &[u8], matrix: &mut [f64], readings: &mut [f64]) -> Panel
 // Writes the 64 bits at a place, least byte first. What stands before stays.
 fn put_bits(file: &mut [u8], at: usize, bits: u64)
     requires { ⌜ at + 8 ≤ length (now file) ⌝ }
-    ensures { λ _. ⌜ (length (now (file .exit)) ≡ length (now (file .entry))) × (take at (now (file .exit)) ≡ take at (now (file .entry))) × (bitsAt (now (file .exit)) at ≡ bits) ⌝ }
+    ensures { λ _. ⌜ KeepsBefore at (now (file .entry)) (now (file .exit)) × (bitsAt (now (file .exit)) at ≡ bits) ⌝ }
 {
     let mut rest = bits;
     let mut k = 0;
@@ -172,7 +171,7 @@ fn put_bits(file: &mut [u8], at: usize, bits: u64)
 // Writes the numbers as those of the file from number `from` on. What stands before them stays.
 fn put_numbers(file: &mut [u8], from: usize, numbers: &[f64])
     requires { ⌜ (6 + 8 * (from + length (now numbers)) ≤ length (now file)) × (allFinite (now numbers) ≡ true) ⌝ }
-    ensures { λ _. ⌜ (length (now (file .exit)) ≡ length (now (file .entry))) × (take (6 + 8 * from) (now (file .exit)) ≡ take (6 + 8 * from) (now (file .entry))) ⌝ }
+    ensures { λ _. ⌜ KeepsBefore (6 + 8 * from) (now (file .entry)) (now (file .exit)) ⌝ }
     ensures { λ _. ⌜ listOf (length (now (numbers .entry))) (λ k. numberAt (now (file .exit)) (from + k)) ≡ now (numbers .entry) ⌝ }
 {
     let mut k = 0;
@@ -217,13 +216,13 @@ fn write_refusal(n: usize, matrix: &[f64], readings: &[f64], room: usize) -> usi
     let lengths = (matrix.len() == entries)
         & (readings.len() == n)
         & (6 + 8 * (entries + n) <= room);
-    let finite = blas::all_finite(matrix) & blas::all_finite(readings);
+    let finite = finite::all_finite(matrix) & finite::all_finite(readings);
     refusals::first(3, !lengths, refusals::first(5, !finite, 0))
 }
 
 // Writes the file of a crossing at the start of a slice. The rest of a longer slice stays as it was.
 pub fn write(n: usize, matrix: &[f64], readings: &[f64], out: &mut [u8]) -> Written
-    ensures { λ r. ⌜ Writing n (now (matrix .entry)) (now (readings .entry)) (now (out .entry)) r (now (out .exit)) ⌝ }
+    ensures { λ r. ⌜ Writing n (now (matrix .entry)) (now (readings .entry)) (now (out .entry)) (written r (now (out .exit))) ⌝ }
 {
     let number = write_refusal(n, matrix, readings, out.len());
     if number != 0 {

@@ -1,5 +1,5 @@
 // Prints how a pad's load moves with each reading, or the refusal: the pad's number is the first argument, the panel file is standard input. What is
-// printed is `panel::moves_text` of the bytes and the number. A file that is longer than what is read is refused for its length.
+// printed is `panel_text::moves_text` of the bytes and the number. A file that is longer than what is read is refused for its length.
 
 // A decimal digit's value, 10 for any other byte.
 fn digit(byte: u8) -> usize {
@@ -41,6 +41,6 @@ fn main() {
     let mut file = [0u8; 33287];
     let held = io::read_full(0, &mut file);
     let mut out = [0u8; 1288];
-    let count = panel::moves_text(&file[..held], pad, &mut out);
+    let count = panel_text::moves_text(&file[..held], pad, &mut out);
     io::write_all(1, &out[..count]);
 }

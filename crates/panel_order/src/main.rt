@@ -1,4 +1,4 @@
-// Reads a panel file from standard input to its end, and prints its pads in rank order or the refusal. What is printed is `panel::text` of the bytes.
+// Reads a panel file from standard input to its end, and prints its pads in rank order or the refusal. What is printed is `panel_text::text` of the bytes.
 
 // Reads once more and keeps nothing. Answers whether there may be more.
 fn skip_some() -> bool {
@@ -19,6 +19,6 @@ fn main() {
     let held = io::read_full(0, &mut file);
     skip_rest();
     let mut out = [0u8; 1288];
-    let count = panel::text(&file[..held], &mut out);
+    let count = panel_text::text(&file[..held], &mut out);
     io::write_all(1, &out[..count]);
 }

@@ -1,19 +1,22 @@
--- Appending: what a list that is not refused is known by, the outcome as the call meets it, and the theorems: an accepted list is a good list again,
--- an answer tells its number and count, and what follows the last pair is not read. By the tests in their order. Assumes nothing.
+-- Appending: what a list that is not refused is known by, the three ends that the call has, and the theorems: an accepted list is a good list
+-- again, and what follows the last pair is not read. By the tests in their order. Assumes nothing.
 use mathlib.Core.Path.{_≡_, refl, sym, ap, _∙_}
-use mathlib.Core.Bool.{Bool, true, not, cond, _||_, _&&_}
+use mathlib.Core.Bool.{true, not, cond, _&&_}
 use mathlib.Core.List.{List, [], _∷_, _++_}
 use Prim.Native.Nat.{ℕ, _+_, _*_, _≤_, _<_}
 use native.Mathlib.Omega.{arith}
-use borrow.Author.Tests.{leb-false, eqb-true, eqb-false, eq-eqb, ne-eqb, lt-ltb, not-true, not-false}
+use borrow.Author.Needs.{needs}
+use borrow.Author.Tests.{leb-false, eqb-true, eqb-false, eq-eqb, ne-eqb, lt-ltb, not-false}
 use lib.Dec.{leb, eqb}
 use lib.ListN.{length, getD}
-use Rattle.blas.proofs.Choice.{test-cases, cond-cases, and-first, and-second}
-use Rattle.refusals.specs.Refusals.{outside}
+use Rattle.numbers.proofs.Choice.{test-cases, cond-map}
+use Rattle.refusals.specs.Outcome.{done, refused, numberOf, tested, Call, leaving}
 use Rattle.permutation_sequence.specs.SwapList.{pairsOf, withPair, goodPair, goodList}
-use Rattle.permutation_sequence.specs.Calls.{appendingRefusal, appending, answerOf, numberOf, countOf}
+use Rattle.permutation_sequence.specs.Calls.{appendingRefusal, Listed, listed, appending, appended, countOf}
+use Rattle.permutation_sequence.specs.declared.Appended.{Appended}
 use Rattle.permutation_sequence.specs.declared.Appended.the-variants.{Pairs, Refused}
-use Rattle.refusals.proofs.Tests.{first-none, neither, inside}
+use Rattle.refusals.proofs.Outcomes.{first-none, tested-none, tested-some, tested-map}
+use Rattle.refusals.proofs.Tests.{neither, inside}
 use Rattle.permutation_sequence.proofs.SwapList.{pairs-same, length-with, pairs-with, good, good-unread, good-with}
 
 -- ---- no refusal
@@ -31,21 +34,17 @@ module _ (d i j pairs : ℕ) (store : List ℕ) where
   pub accepted : appendingRefusal d i j pairs store ≡ 0 → Accepted
   unfolding appendingRefusal
   accepted e =
-      let sizes = first-none 0 (outside 1 d) _ e in
-      let length-is = first-none 2 (not (eqb (length store) 128)) _ (sizes .1) in
-      let list-is = first-none 3 (not (goodList 64 d pairs store)) _ (length-is .1) in
-      let numbers = first-none 3 (leb 64 i || leb 64 j) _ (list-is .1) in
-      let full = first-none 3 (not (eqb i j) && eqb pairs d) [] (numbers .1) in
-      let list : goodList 64 d pairs store ≡ true = not-false _ (list-is .0) in
-      let below = neither (leb 64 i) (leb 64 j) (numbers .0) in
+      let none = first-none _ (search needs) e in
+      let list : goodList 64 d pairs store ≡ true = not-false _ (none .1 .1 .0) in
+      let below = neither (leb 64 i) (leb 64 j) (none .1 .1 .1 .0) in
       record {
-        most = inside 1 d (sizes .0) .at-most;
-        size = eqb-true (length store) 128 (not-false _ (length-is .0));
+        most = inside 1 d (none .0) .at-most;
+        size = eqb-true (length store) 128 (not-false _ (none .1 .0));
         list = list;
         first = leb-false 64 i (below .0);
         second = leb-false 64 j (below .1);
         space = λ n.
-            let other : pairs ≡ d → ⊥ = eqb-false pairs d (rw (ne-eqb i j n) at (full .0)) in
+            let other : pairs ≡ d → ⊥ = eqb-false pairs d (rw (ne-eqb i j n) at (none .1 .1 .1 .1 .0)) in
             let few : pairs ≤ d = good 64 d pairs store list .few in
             omega arith;
       }
@@ -54,73 +53,92 @@ module _ (d i j pairs : ℕ) (store : List ℕ) where
   pub room : appendingRefusal d i j pairs store ≡ 0 → (i ≡ j → ⊥) → 2 * pairs + 1 < length store
   room e n = let a = accepted e in omega (arith, a .space n)
 
-  -- ---- the outcome, by the tests
-  pub outcome-refused : (number : ℕ) → number ≡ appendingRefusal d i j pairs store → (number ≡ 0 → ⊥)
-      → (Refused number pairs ≡ answerOf (appending d i j pairs store .number) (appending d i j pairs store .pairs)) × (store ≡ appending d i j pairs store .store)
-  unfolding appending answerOf
-  outcome-refused number e n = rw (← e, ne-eqb number 0 n) (refl, refl)
+  -- ---- the call, by its tests
 
-  pub outcome-same : appendingRefusal d i j pairs store ≡ 0 → i ≡ j
-      → (Pairs pairs ≡ answerOf (appending d i j pairs store .number) (appending d i j pairs store .pairs)) × (store ≡ appending d i j pairs store .store)
-  unfolding appending answerOf
-  outcome-same e s = rw (e, eq-eqb i j s) (refl, refl)
+  -- what it promises of the answer r and the store s
+  abbrev pub Promised : Appended → List ℕ → Type 0
+  Promised r s =
+      let o = appending d i j pairs store in
+      (appended r ≡ o .answer) × ((countOf r ≡ o .left .pairs) × (s ≡ o .left .store))
 
-  pub outcome-pair : appendingRefusal d i j pairs store ≡ 0 → (i ≡ j → ⊥)
-      → (Pairs (pairs + 1) ≡ answerOf (appending d i j pairs store .number) (appending d i j pairs store .pairs)) × (withPair pairs i j store ≡ appending d i j pairs store .store)
-  unfolding appending answerOf
-  outcome-pair e n = rw (e, ne-eqb i j n) (refl, refl)
+  -- it is refused, or adds nothing, or adds the pair
+  refusing : (appendingRefusal d i j pairs store ≡ 0 → ⊥)
+      → appending d i j pairs store ≡ leaving (listed pairs store) (appendingRefusal d i j pairs store)
+  unfolding appending
+  refusing n = tested-some (appendingRefusal d i j pairs store) (leaving (listed pairs store)) _ n
+
+  same : appendingRefusal d i j pairs store ≡ 0 → i ≡ j → appending d i j pairs store ≡ record { answer = done tt; left = listed pairs store }
+  unfolding appending
+  same e s = tested-none (appendingRefusal d i j pairs store) (leaving (listed pairs store)) _ e ∙ rw (eq-eqb i j s)
+
+  adding : appendingRefusal d i j pairs store ≡ 0 → (i ≡ j → ⊥)
+      → appending d i j pairs store ≡ record { answer = done tt; left = listed (pairs + 1) (withPair pairs i j store) }
+  unfolding appending
+  adding e n = tested-none (appendingRefusal d i j pairs store) (leaving (listed pairs store)) _ e ∙ rw (ne-eqb i j n)
+
+  pub outcome-refused : (number : ℕ) → number ≡ appendingRefusal d i j pairs store → (number ≡ 0 → ⊥) → Promised (Refused number pairs) store
+  unfolding appended countOf
+  outcome-refused number e n = rw (refusing (λ z. n (e ∙ z))) (ap refused e, (refl, refl))
+
+  pub outcome-same : appendingRefusal d i j pairs store ≡ 0 → i ≡ j → Promised (Pairs pairs) store
+  unfolding appended countOf
+  outcome-same e s = rw (same e s) (refl, (refl, refl))
+
+  pub outcome-pair : appendingRefusal d i j pairs store ≡ 0 → (i ≡ j → ⊥) → Promised (Pairs (pairs + 1)) (withPair pairs i j store)
+  unfolding appended countOf
+  outcome-pair e n = rw (adding e n) (refl, (refl, refl))
 
   -- ---- the theorems
 
-  -- whether a pair is added
-  adds : Bool
-  adds = eqb (appendingRefusal d i j pairs store) 0 && not (eqb i j)
-
-  record Added : Type 0 where
-    none : appendingRefusal d i j pairs store ≡ 0
-    apart : i ≡ j → ⊥
-
-  added : adds ≡ true → Added
-  unfolding adds
-  added e =
-      record {
-        none = eqb-true _ 0 (and-first (eqb (appendingRefusal d i j pairs store) 0) (not (eqb i j)) e);
-        apart = eqb-false i j (not-true _ (and-second (eqb (appendingRefusal d i j pairs store) 0) (not (eqb i j)) e));
-      }
+  -- what holds at each of the three ends holds of the call
+  appending-cases : (P : Call (Unit {0}) Listed → Type 0)
+      → ((appendingRefusal d i j pairs store ≡ 0 → ⊥) → P (leaving (listed pairs store) (appendingRefusal d i j pairs store)))
+      → (appendingRefusal d i j pairs store ≡ 0 → i ≡ j → P (record { answer = done tt; left = listed pairs store }))
+      → (appendingRefusal d i j pairs store ≡ 0 → (i ≡ j → ⊥) → P (record { answer = done tt; left = listed (pairs + 1) (withPair pairs i j store) }))
+      → P (appending d i j pairs store)
+  appending-cases P refuses stays adds =
+      test-cases (eqb (appendingRefusal d i j pairs store) 0)
+      (λ t. let e = eqb-true _ 0 t in
+      test-cases (eqb i j) (λ u. let s = eqb-true i j u in rw (same e s) (stays e s)) (λ u. let n = eqb-false i j u in rw (adding e n) (adds e n)))
+      (λ t. let n = eqb-false _ 0 t in rw (refusing n) (refuses n))
 
   -- the pair that is added is the new last pair, and the others are as they were
-  pub appended-pairs : pairsOf (appending d i j pairs store .pairs) (appending d i j pairs store .store)
+  pub appended-pairs : pairsOf (appending d i j pairs store .left .pairs) (appending d i j pairs store .left .store)
       ≡ cond (eqb (appendingRefusal d i j pairs store) 0 && not (eqb i j)) (pairsOf pairs store ++ (i, j) ∷ []) (pairsOf pairs store)
-  unfolding appending adds
   appended-pairs =
-      test-cases adds
-      (λ e. rw e (pairs-with pairs i j store (room (added e .none) (added e .apart))))
-      (λ e. rw e)
+      appending-cases
+      (λ o. pairsOf (o .left .pairs) (o .left .store)
+      ≡ cond (eqb (appendingRefusal d i j pairs store) 0 && not (eqb i j)) (pairsOf pairs store ++ (i, j) ∷ []) (pairsOf pairs store))
+      (λ n. rw (ne-eqb _ 0 n))
+      (λ e s. rw (e, eq-eqb i j s))
+      (λ e n. rw (e, ne-eqb i j n) (pairs-with pairs i j store (room e n)))
 
   -- a list that was appended to is a good list again, in a store as long
-  pub appended-good : appending d i j pairs store .number ≡ 0 → goodList 64 d (appending d i j pairs store .pairs) (appending d i j pairs store .store) ≡ true
-  unfolding appending adds goodPair
-  appended-good h =
-      test-cases adds
-      (λ e.
-      let a = accepted (added e .none) in
-      rw e
-      (good-with 64 d pairs i j store (a .list) (a .space (added e .apart)) (room (added e .none) (added e .apart))
-      (rw (ne-eqb i j (added e .apart), lt-ltb i 64 (a .first), lt-ltb j 64 (a .second)))))
-      (λ e. rw e (accepted h .list))
+  pub appended-good : numberOf (appending d i j pairs store .answer) ≡ 0
+      → goodList 64 d (appending d i j pairs store .left .pairs) (appending d i j pairs store .left .store) ≡ true
+  unfolding numberOf goodPair
+  appended-good =
+      appending-cases (λ o. numberOf (o .answer) ≡ 0 → goodList 64 d (o .left .pairs) (o .left .store) ≡ true)
+      (λ n h. absurd (n h))
+      (λ e s h. accepted e .list)
+      (λ e n h.
+      let a = accepted e in
+      good-with 64 d pairs i j store (a .list) (a .space n) (room e n) (rw (ne-eqb i j n, lt-ltb i 64 (a .first), lt-ltb j 64 (a .second))))
 
-  pub appended-length : length (appending d i j pairs store .store) ≡ length store
-  unfolding appending adds
-  appended-length = cond-cases (λ (x : List ℕ). length x ≡ length store) adds (λ e. length-with pairs i j store) (λ e. refl)
+  pub appended-length : length (appending d i j pairs store .left .store) ≡ length store
+  appended-length = appending-cases (λ o. length (o .left .store) ≡ length store) (λ n. refl) (λ e s. refl) (λ e n. length-with pairs i j store)
 
--- an answer tells its number and its count
-pub number-answer : (number pairs : ℕ) → numberOf (answerOf number pairs) ≡ number
-unfolding numberOf answerOf
-number-answer number pairs = test-cases (eqb number 0) (λ e. rw e (sym (eqb-true number 0 e))) (λ e. rw e)
+  -- its answer and its count, by the refusal alone
+  answer-is : appending d i j pairs store .answer ≡ tested (appendingRefusal d i j pairs store) refused (done tt)
+  unfolding appending
+  answer-is = tested-map (λ o. o .answer) (appendingRefusal d i j pairs store) (leaving (listed pairs store)) _
 
-pub count-answer : (number pairs : ℕ) → countOf (answerOf number pairs) ≡ pairs
-unfolding countOf answerOf
-count-answer number pairs = test-cases (eqb number 0) (λ e. rw e) (λ e. rw e)
+  count-is : appending d i j pairs store .left .pairs ≡ tested (appendingRefusal d i j pairs store) (λ k. pairs) (cond (eqb i j) pairs (pairs + 1))
+  unfolding appending
+  count-is =
+      tested-map (λ o. o .left .pairs) (appendingRefusal d i j pairs store) (leaving (listed pairs store)) _
+      ∙ ap (tested (appendingRefusal d i j pairs store) (λ k. pairs))
+      (sym (cond-map (λ (l : Listed). l .pairs) (eqb i j) (listed pairs store) (listed (pairs + 1) (withPair pairs i j store))))
 
 -- two stores that agree on their pairs are refused alike, and their lists are alike afterwards
 module _ (d i j pairs : ℕ) (a b : List ℕ) (long : length a ≡ length b) (same : (k : ℕ) → k < 2 * pairs → getD a k 0 ≡ getD b k 0) where
@@ -128,14 +146,12 @@ module _ (d i j pairs : ℕ) (a b : List ℕ) (long : length a ≡ length b) (sa
   unfolding appendingRefusal
   refusal-unread = rw (long, good-unread 64 d pairs a b long same)
 
-  pub appending-unread : (appending d i j pairs a .number ≡ appending d i j pairs b .number)
-      × (appending d i j pairs a .pairs ≡ appending d i j pairs b .pairs)
-      × (pairsOf (appending d i j pairs a .pairs) (appending d i j pairs a .store) ≡ pairsOf (appending d i j pairs b .pairs) (appending d i j pairs b .store))
-  unfolding appending
+  pub appending-unread : (appending d i j pairs a .answer ≡ appending d i j pairs b .answer)
+      × (appending d i j pairs a .left .pairs ≡ appending d i j pairs b .left .pairs)
+      × (pairsOf (appending d i j pairs a .left .pairs) (appending d i j pairs a .left .store)
+      ≡ pairsOf (appending d i j pairs b .left .pairs) (appending d i j pairs b .left .store))
   appending-unread = (
-    refusal-unread,
-    ap (λ (number : ℕ). cond (eqb number 0 && not (eqb i j)) (pairs + 1) pairs) refusal-unread,
-    appended-pairs d i j pairs a
-        ∙ (λ x. cond (eqb (refusal-unread x) 0 && not (eqb i j)) (pairs-same pairs a b same x ++ (i, j) ∷ []) (pairs-same pairs a b same x))
-        ∙ sym (appended-pairs d i j pairs b),
+    rw (answer-is d i j pairs a, answer-is d i j pairs b, refusal-unread),
+    rw (count-is d i j pairs a, count-is d i j pairs b, refusal-unread),
+    rw (appended-pairs d i j pairs a, appended-pairs d i j pairs b, refusal-unread, pairs-same pairs a b same),
   )

@@ -9,9 +9,9 @@ use native.Mathlib.Omega.{arith}
 use lib.ListN.{length, getD, take, drop, length-drop}
 use lib.Seq.{take-all}
 use lib.Ieee.{Float}
-use Rattle.blas.specs.Each.{eachFrom}
-use Rattle.blas.specs.Column.{Column}
-use Rattle.blas.proofs.Choice.{test-cases}
+use Rattle.numbers.specs.Each.{eachFrom}
+use Rattle.numbers.specs.Column.{Column}
+use Rattle.numbers.proofs.Choice.{test-cases}
 use Rattle.blas.proofs.Exchange.{other, other-range, exchanged-cases, length-exchanged, getD-exchanged}
 use Rattle.store.specs.Columns.{columns, flat, HasRows, isMatrix, onColumns}
 use Rattle.store.specs.Steps.{Matrix, swapInAll, rowsSwapped}
@@ -110,7 +110,8 @@ module _ (m n : ℕ) (exchange : ℕ → ℕ → Matrix → Matrix) (keeps : Kee
   -- as many fours as there are, and then the rest
   pub fours-applied : (pairs : ℕ) (store : List ℕ) (s u t : Column) → 2 * pairs ≤ length store
       → u ≡ onColumns m n (permutedBy exchange (pairsOf (4 * (pairs / 4)) store)) s
-      → t ≡ onColumns m n (permutedBy exchange (inOrder false (held (pairs - 4 * (pairs / 4)) (take (length store - 8 * (pairs / 4)) (drop (8 * (pairs / 4)) store))))) u
+      → t ≡ onColumns m n (permutedBy exchange
+      (inOrder false (held (pairs - 4 * (pairs / 4)) (take (length store - 8 * (pairs / 4)) (drop (8 * (pairs / 4)) store))))) u
       → t ≡ onColumns m n (permutedBy exchange (inOrder false (held pairs store))) s
   unfolding inOrder
   fours-applied pairs store s u t h first second =
@@ -118,12 +119,14 @@ module _ (m n : ℕ) (exchange : ℕ → ℕ → Matrix → Matrix) (keeps : Kee
       let rest = pairs - done in
       let from = 8 * (pairs / 4) in
       let place : from ≡ 2 * done = omega arith in
-      let part : take (length store - from) (drop from store) ≡ drop from store = take-all (length store - from) (drop from store) (rw length-drop (omega arith)) in
+      let part : take (length store - from) (drop from store) ≡ drop from store =
+      take-all (length store - from) (drop from store) (rw length-drop (omega arith)) in
       let all : done + rest ≡ pairs = omega arith in
       let work : Swaps → Column → Column = λ swaps x. onColumns m n (permutedBy exchange swaps) x in
       pairs-more done rest store s u t first
       (second
-      ∙ ap (λ (swaps : Swaps). work swaps u) (ap (held rest) part ∙ held-all rest (drop from store) (rw length-drop (omega arith)) ∙ ap (λ (a : ℕ). pairsOf rest (drop a store)) place))
+      ∙ ap (λ (swaps : Swaps). work swaps u)
+      (ap (held rest) part ∙ held-all rest (drop from store) (rw length-drop (omega arith)) ∙ ap (λ (a : ℕ). pairsOf rest (drop a store)) place))
       ∙ ap (λ (swaps : Swaps). work swaps s) (ap (λ (i : ℕ). pairsOf i store) all ∙ sym (held-all pairs store h))
 
   -- what the loop over the pairs of a store leaves: nothing is done where the store does not hold them, and all is done at its end
@@ -154,7 +157,8 @@ one-column m swaps x h len =
     ∙ ap (permute swaps) (take-all m x (omega arith))
 
 -- what the loop over a single column gives
-pub one-applied : (m n pairs : ℕ) (store : List ℕ) (s t : Column) → isMatrix m n s ≡ true → n ≡ 1 → 2 * pairs ≤ length store → t ≡ permute (pairsOf pairs store) s
+pub one-applied : (m n pairs : ℕ) (store : List ℕ) (s t : Column) → isMatrix m n s ≡ true → n ≡ 1 → 2 * pairs ≤ length store
+    → t ≡ permute (pairsOf pairs store) s
     → t ≡ onColumns m n (rowsPermuted (inOrder false (held pairs store))) s
 unfolding inOrder
 one-applied m n pairs store s t fits one room made =

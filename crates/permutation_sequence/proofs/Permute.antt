@@ -11,12 +11,13 @@ use lib.Dec.{ltb}
 use lib.ListN.{length, getD, drop, drop-of-length-le, length-reverse, List·getD-append}
 use lib.Seq.{getD-at}
 use lib.Ieee.{nan}
-use Rattle.blas.specs.Each.{eachFrom}
-use Rattle.blas.specs.Column.{Column, swapRows}
-use Rattle.blas.proofs.Choice.{test-cases}
-use Rattle.blas.proofs.Each.{each-each, each-id}
+use Rattle.numbers.specs.Each.{eachFrom}
+use Rattle.numbers.specs.Column.{Column}
+use Rattle.blas.specs.Blas.{swapRows}
+use Rattle.numbers.proofs.Choice.{test-cases}
+use Rattle.numbers.proofs.Each.{each-each, each-id}
 use Rattle.blas.proofs.Exchange.{length-exchanged}
-use Rattle.blas.proofs.Walk.{drop-next}
+use Rattle.numbers.proofs.Walk.{drop-next}
 use Rattle.store.specs.Steps.{Matrix, swapInAll}
 use Rattle.permutation_sequence.specs.SwapList.{Swaps, pairsOf}
 use Rattle.permutation_sequence.specs.Permute.{permutedBy, permute, rowsPermuted, inOrder, pairOfTurn}
@@ -53,7 +54,8 @@ module _ {X : Type 0} (exchange : ℕ → ℕ → X → X) where
         ∙ ap (exchange (p .0) (p .1)) (permuted-reverse swaps y)
         ∙ twice (p .0) (p .1) x
 
-    pub permuted-back : (backwards : Bool) (swaps : Swaps) (x : X) → permutedBy exchange (inOrder (not backwards) swaps) (permutedBy exchange (inOrder backwards swaps) x) ≡ x
+    pub permuted-back : (backwards : Bool) (swaps : Swaps) (x : X)
+        → permutedBy exchange (inOrder (not backwards) swaps) (permutedBy exchange (inOrder backwards swaps) x) ≡ x
     unfolding inOrder
     permuted-back false swaps x = permuted-reverse swaps x
     permuted-back true swaps x =
@@ -81,7 +83,8 @@ length-inOrder true swaps = length-reverse swaps
 length-inOrder false swaps = refl
 
 -- the pair that comes at turn k
-order-at : (backwards : Bool) (pairs : ℕ) (store : List ℕ) (k : ℕ) → k < pairs → getD (inOrder backwards (pairsOf pairs store)) k (0, 0) ≡ pairAt store (pairOfTurn backwards pairs k)
+order-at : (backwards : Bool) (pairs : ℕ) (store : List ℕ) (k : ℕ) → k < pairs
+    → getD (inOrder backwards (pairsOf pairs store)) k (0, 0) ≡ pairAt store (pairOfTurn backwards pairs k)
 unfolding inOrder pairOfTurn
 order-at true pairs store k h =
     reverse-at (pairsOf pairs store) k (0, 0) (rw length-pairs h)
@@ -93,7 +96,8 @@ module _ (backwards : Bool) (pairs : ℕ) (store : List ℕ) where
   -- one turn, and the end
   pub permuted-turn : {X : Type 0} (exchange : ℕ → ℕ → X → X) (k p : ℕ) (x y : X) → k < pairs → p ≡ pairOfTurn backwards pairs k
       → y ≡ exchange (getD store (2 * p) 0) (getD store (2 * p + 1) 0) x
-      → permutedBy exchange (drop (k + 1) (inOrder backwards (pairsOf pairs store))) y ≡ permutedBy exchange (drop k (inOrder backwards (pairsOf pairs store))) x
+      → permutedBy exchange (drop (k + 1) (inOrder backwards (pairsOf pairs store))) y ≡ permutedBy exchange
+      (drop k (inOrder backwards (pairsOf pairs store))) x
   unfolding permutedBy
   permuted-turn exchange k p x y h e made =
       let swaps = inOrder backwards (pairsOf pairs store) in
@@ -101,7 +105,8 @@ module _ (backwards : Bool) (pairs : ℕ) (store : List ℕ) where
       ap (permutedBy exchange (drop (k + 1) swaps)) (made ∙ ap (λ (q : ℕ × ℕ). exchange (q .0) (q .1) x) (sym next))
       ∙ ap (λ (s : Swaps). permutedBy exchange s x) (sym (drop-next swaps k (0, 0) (rw (length-inOrder, length-pairs) h)))
 
-  pub permuted-end : {X : Type 0} (exchange : ℕ → ℕ → X → X) (k : ℕ) (x : X) → pairs ≤ k → permutedBy exchange (drop k (inOrder backwards (pairsOf pairs store))) x ≡ x
+  pub permuted-end : {X : Type 0} (exchange : ℕ → ℕ → X → X) (k : ℕ) (x : X) → pairs ≤ k
+      → permutedBy exchange (drop k (inOrder backwards (pairsOf pairs store))) x ≡ x
   unfolding permutedBy
   permuted-end exchange k x h =
       ap (λ (s : Swaps). permutedBy exchange s x) (drop-of-length-le (inOrder backwards (pairsOf pairs store)) {i = k} (rw (length-inOrder, length-pairs) h))
@@ -112,7 +117,8 @@ pub permute-append : (swaps more : Swaps) (c : Column) → permute (swaps ++ mor
 permute-append = permuted-append swapRows
 
 -- four pairs as they were read
-pub permute-four : (store : List ℕ) (c new : Column) → new ≡ permute (pairAt store 0 ∷ pairAt store 1 ∷ pairAt store 2 ∷ pairAt store 3 ∷ []) c → new ≡ permute (pairsOf 4 store) c
+pub permute-four : (store : List ℕ) (c new : Column) → new ≡ permute (pairAt store 0 ∷ pairAt store 1 ∷ pairAt store 2 ∷ pairAt store 3 ∷ []) c
+    → new ≡ permute (pairsOf 4 store) c
 permute-four store c new e = e ∙ ap (λ (swaps : Swaps). permute swaps c) (sym (four-pairs store))
 
 pub length-permute : (swaps : Swaps) (c : Column) → length (permute swaps c) ≡ length c

@@ -11,8 +11,8 @@ use borrow.Author.Tests.{leb-true, le-leb, lt-leb}
 use lib.Dec.{leb}
 use lib.ListN.{length, getD, take, drop, set, drop-of-length-le, length-set}
 use lib.Seq.{drop-drop, getD-take, getD-drop, getD-set-same, getD-set-other, ext-getD}
-use Rattle.blas.proofs.Choice.{and-first, and-second, and-both}
-use Rattle.blas.proofs.Walk.{drop-next}
+use Rattle.numbers.proofs.Choice.{and-first, and-second, and-both}
+use Rattle.numbers.proofs.Walk.{drop-next}
 use Rattle.permutation_sequence.specs.SwapList.{Swaps, pairsOf, holds, held, withPair, goodPair, goodPairs, goodList}
 
 -- ---- the pairs of a store
@@ -174,7 +174,8 @@ goods-snoc bound (q ∷ swaps) p e f =
     (goods-snoc bound swaps p (and-second (goodPair bound q) (goodPairs bound swaps) e) f)
 
 -- a good list with a good pair behind it
-pub good-with : (bound most pairs i j : ℕ) (store : List ℕ) → goodList bound most pairs store ≡ true → pairs < most → 2 * pairs + 1 < length store → goodPair bound (i, j) ≡ true
+pub good-with : (bound most pairs i j : ℕ) (store : List ℕ) → goodList bound most pairs store ≡ true → pairs < most → 2 * pairs + 1 < length store
+    → goodPair bound (i, j) ≡ true
     → goodList bound most (pairs + 1) (withPair pairs i j store) ≡ true
 good-with bound most pairs i j store e few room p =
     is-good bound most (pairs + 1) (withPair pairs i j store)

@@ -4,8 +4,10 @@ use mathlib.Core.List.{List, [], _∷_}
 use Prim.Native.Nat.{ℕ, _+_}
 use lib.Dec.{leb, eqb}
 use lib.ListN.{length}
-use Rattle.blas.specs.Column.{Column, allFinite}
-use Rattle.refusals.specs.Refusals.{firstOf, outside, Outcome, tested}
+use Rattle.numbers.specs.Column.{Column}
+use Rattle.finite.specs.Finite.{allFinite}
+use Rattle.refusals.specs.Outcome.{Outcome, done, refused, firstOf, tested, Call, leaving}
+use Rattle.refusals.specs.Refusals.{outside}
 use Rattle.store.specs.Columns.{isMatrix, onColumns}
 use Rattle.store.specs.Steps.{Matrix, swapInAll, columnsSwapped}
 use Rattle.permutation_sequence.specs.SwapList.{pairsOf, withPair, goodList}
@@ -25,16 +27,16 @@ permutingRefusal bound m n pairs store s =
     ∷ (5, not (allFinite s))
     ∷ [])
 
--- the outcome, given what is exchanged and the bound
-unfoldable pub permuting : (ℕ → ℕ → Matrix → Matrix) → ℕ → Bool → ℕ → ℕ → ℕ → List ℕ → Column → Outcome
+-- the call, given what is exchanged and the bound
+unfoldable pub permuting : (ℕ → ℕ → Matrix → Matrix) → ℕ → Bool → ℕ → ℕ → ℕ → List ℕ → Column → Call (Unit {0}) Column
 permuting exchange bound backwards m n pairs store s =
-    tested (permutingRefusal bound m n pairs store s) s
-    (record { number = 0; result = onColumns m n (permutedBy exchange (inOrder backwards (pairsOf pairs store))) s })
+    tested (permutingRefusal bound m n pairs store s) (leaving s)
+    (record { answer = done tt; left = onColumns m n (permutedBy exchange (inOrder backwards (pairsOf pairs store))) s })
 
-abbrev pub permutingRows : Bool → ℕ → ℕ → ℕ → List ℕ → Column → Outcome
+abbrev pub permutingRows : Bool → ℕ → ℕ → ℕ → List ℕ → Column → Call (Unit {0}) Column
 permutingRows backwards m n = permuting swapInAll m backwards m n
 
-abbrev pub permutingColumns : Bool → ℕ → ℕ → ℕ → List ℕ → Column → Outcome
+abbrev pub permutingColumns : Bool → ℕ → ℕ → ℕ → List ℕ → Column → Call (Unit {0}) Column
 permutingColumns backwards m n = permuting columnsSwapped n backwards m n
 
 -- ---- appending the pair (i, j) to a list for dimension d
@@ -50,27 +52,24 @@ appendingRefusal d i j pairs store =
     ∷ (4, not (eqb i j) && eqb pairs d)
     ∷ [])
 
--- a refusal number, 0 for none, with the list that is left
-pub record Appending : Type 0 where
-  pub number : ℕ
+-- a list as the caller holds it: how many pairs, and their store
+pub record Listed : Type 0 where
   pub pairs : ℕ
   pub store : List ℕ
 
--- A pair of two different numbers that is not refused is written behind the last; else all is as it was, the count too.
-unfoldable pub appending : ℕ → ℕ → ℕ → ℕ → List ℕ → Appending
+abbrev pub listed : ℕ → List ℕ → Listed
+listed pairs store = record { pairs = pairs; store = store }
+
+-- A pair of two different numbers is written behind the last. Else all is as it was, the count too.
+unfoldable pub appending : ℕ → ℕ → ℕ → ℕ → List ℕ → Call (Unit {0}) Listed
 appending d i j pairs store =
-    let number = appendingRefusal d i j pairs store in
-    let added = eqb number 0 && not (eqb i j) in
-    record { number = number; pairs = cond added (pairs + 1) pairs; store = cond added (withPair pairs i j store) store }
+    tested (appendingRefusal d i j pairs store) (leaving (listed pairs store))
+    (record { answer = done tt; left = cond (eqb i j) (listed pairs store) (listed (pairs + 1) (withPair pairs i j store)) })
 
--- what the call answers for a refusal number and a count
-unfoldable pub answerOf : ℕ → ℕ → Appended
-answerOf number pairs = cond (eqb number 0) (Pairs pairs) (Refused number pairs)
-
--- document 01's number and the count that each case of the answer stands for
-unfoldable pub numberOf : Appended → ℕ
-numberOf (Pairs pairs) = 0
-numberOf (Refused number pairs) = number
+-- document 01's number and the count that each case of the answer stands for: the caller holds that many pairs
+unfoldable pub appended : Appended → Outcome (Unit {0})
+appended (Pairs pairs) = done tt
+appended (Refused number pairs) = refused number
 
 unfoldable pub countOf : Appended → ℕ
 countOf (Pairs pairs) = pairs

@@ -1,13 +1,15 @@
 -- Permuting by a swap list: document 01, "Solving" ("first pair first"), forwards and in reverse, and the sign.
 use mathlib.Core.Bool.{Bool, true, false, cond}
-use mathlib.Core.List.{[], _∷_, reverse}
+use mathlib.Core.List.{List, [], _∷_, reverse}
 use Prim.Native.Nat.{ℕ, _-_, _%_}
 use lib.Dec.{eqb}
 use lib.Ieee.{Float, neg}
-use Rattle.blas.specs.Numbers.{one64}
-use Rattle.blas.specs.Column.{Column, swapRows}
+use Rattle.numbers.specs.Numbers.{one64}
+use Rattle.numbers.specs.Column.{Column}
+use Rattle.blas.specs.Blas.{swapRows}
+use Rattle.store.specs.Columns.{onColumns}
 use Rattle.store.specs.Steps.{Matrix, swapInAll, columnsSwapped}
-use Rattle.permutation_sequence.specs.SwapList.{Swaps}
+use Rattle.permutation_sequence.specs.SwapList.{Swaps, held}
 
 -- the exchange of each pair in turn, first pair first
 unfoldable pub permutedBy : {X : Type 0} → (ℕ → ℕ → X → X) → Swaps → X → X
@@ -29,6 +31,10 @@ exchangeOf false i j cs = swapInAll i j cs
 -- the pairs as they come: in reverse the last pair is first
 unfoldable pub inOrder : Bool → Swaps → Swaps
 inOrder backwards swaps = cond backwards (reverse swaps) swaps
+
+-- a pass without the tests: the pairs that a store holds, exchanged in turn in the m by n matrix of a slice
+abbrev pub exchangesOn : (ℕ → ℕ → Matrix → Matrix) → Bool → ℕ → ℕ → ℕ → List ℕ → Column → Column
+exchangesOn exchange backwards m n pairs store s = onColumns m n (permutedBy exchange (inOrder backwards (held pairs store))) s
 
 -- the number of the pair that comes at turn k
 unfoldable pub pairOfTurn : Bool → ℕ → ℕ → ℕ

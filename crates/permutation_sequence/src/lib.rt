@@ -6,11 +6,12 @@ ghost use mathlib.Core.Bool.{true, false};
 ghost use mathlib.Core.List.{[], _∷_};
 ghost use Prim.Native.Nat.{_*_, _≤_, _<_};
 ghost use lib.ListN.{length};
-ghost use Rattle.refusals.specs.Refusals.{answerOf as answerFor};
+ghost use Rattle.refusals.specs.Refusals.{answered};
 ghost use Rattle.store.specs.Columns.{isMatrix, onColumns};
 ghost use Rattle.permutation_sequence.specs.SwapList.{pairsOf, goodPair, goodList, held};
-ghost use Rattle.permutation_sequence.specs.Permute.{permutedBy, permute, rowsPermuted, exchangeOf, inOrder, pairOfTurn, signOf};
-ghost use Rattle.permutation_sequence.specs.Calls.{permutingRefusal, permuting, permutingRows, permutingColumns, appendingRefusal, appending, answerOf};
+ghost use Rattle.permutation_sequence.specs.Permute.{permute, rowsPermuted, exchangeOf, inOrder, exchangesOn, pairOfTurn, signOf};
+ghost use Rattle.permutation_sequence.specs.Calls.{permutingRefusal, permuting, permutingRows, permutingColumns};
+ghost use Rattle.permutation_sequence.specs.Calls.{appendingRefusal, appending, appended, countOf};
 
 // What appending answers: the new count, or a refusal's number and the old count.
 pub enum Appended {
@@ -25,7 +26,8 @@ fn is_good_pair(i: usize, j: usize, bound: usize) -> bool
     (i != j) & (i < bound) & (j < bound)
 }
 
-// Whether the list has at most `most` pairs, the store holds them, and each is of two different numbers below the bound. No branch for a pair: most lists are good.
+// Whether the list has at most `most` pairs, the store holds them, and each is of two different numbers below the bound.
+// No branch for a pair: most lists are good.
 pub fn is_good_list(swaps: &[usize], pairs: usize, bound: usize, most: usize) -> bool
     ensures { λ r. ⌜ r ≡ goodList bound most pairs (now (swaps .entry)) ⌝ }
 {
@@ -73,8 +75,9 @@ pub fn append_permutation(
     i: usize,
     i2: usize,
 ) -> Appended
-    ensures { λ r. ⌜ r ≡ answerOf (appending d i i2 pairs (now (swaps .entry)) .number) (appending d i i2 pairs (now (swaps .entry)) .pairs) ⌝ }
-    ensures { λ _. ⌜ now (swaps .exit) ≡ appending d i i2 pairs (now (swaps .entry)) .store ⌝ }
+    ensures { λ r. ⌜ appended r ≡ appending d i i2 pairs (now (swaps .entry)) .answer ⌝ }
+    ensures { λ r. ⌜ countOf r ≡ appending d i i2 pairs (now (swaps .entry)) .left .pairs ⌝ }
+    ensures { λ _. ⌜ now (swaps .exit) ≡ appending d i i2 pairs (now (swaps .entry)) .left .store ⌝ }
 {
     let number = append_refusal(swaps, pairs, d, i, i2);
     if number != 0 {
@@ -119,7 +122,7 @@ pub fn permuting_refusal(
     let sizes = refusals::outside(1, m) | refusals::outside(0, n);
     let lengths = store::is_matrix(s, m, n) & (swaps.len() == 128);
     let list = is_good_list(swaps, pairs, bound, 64);
-    let numbers = blas::all_finite(s);
+    let numbers = finite::all_finite(s);
     let from4 = refusals::first(4, !list, refusals::first(5, !numbers, 0));
     refusals::first(1, sizes, refusals::first(3, !lengths, from4))
 }
@@ -145,7 +148,7 @@ fn apply(
     columns: bool,
     reverse: bool,
 )
-    ensures { λ _. ⌜ now (s .exit) ≡ onColumns m n (permutedBy (exchangeOf columns) (inOrder reverse (held pairs (now (swaps .entry))))) (now (s .entry)) ⌝ }
+    ensures { λ _. ⌜ now (s .exit) ≡ exchangesOn (exchangeOf columns) reverse m n pairs (now (swaps .entry)) (now (s .entry)) ⌝ }
 {
     if swaps.len() / 2 < pairs {
         return;
@@ -230,8 +233,8 @@ fn exchange_in_fours(s: &mut [f64], m: usize, n: usize, swaps: &[usize], fours: 
     }
 }
 
-// The list applied to the rows of s with no refusal but the store's: for calls that have tested their list. First pair first it goes through a single column by ones,
-// and through several by fours, then by ones.
+// The list applied to the rows of s with no refusal but the store's: for calls that have tested their list. First pair first it goes
+// through a single column by ones, and through several by fours, then by ones.
 pub fn apply_to_rows(
     s: &mut [f64],
     m: usize,
@@ -273,8 +276,8 @@ fn permute_or_refuse(
     columns: bool,
     reverse: bool,
 ) -> Answer
-    ensures { λ r. ⌜ r ≡ answerFor (permuting (exchangeOf columns) bound reverse m n pairs (now (swaps .entry)) (now (s .entry)) .number) ⌝ }
-    ensures { λ _. ⌜ now (s .exit) ≡ permuting (exchangeOf columns) bound reverse m n pairs (now (swaps .entry)) (now (s .entry)) .result ⌝ }
+    ensures { λ r. ⌜ answered r ≡ permuting (exchangeOf columns) bound reverse m n pairs (now (swaps .entry)) (now (s .entry)) .answer ⌝ }
+    ensures { λ _. ⌜ now (s .exit) ≡ permuting (exchangeOf columns) bound reverse m n pairs (now (swaps .entry)) (now (s .entry)) .left ⌝ }
 {
     let number = permuting_refusal(s, m, n, swaps, pairs, bound);
     if number != 0 {
@@ -286,24 +289,24 @@ fn permute_or_refuse(
 
 // Applies the list to the rows of s, first pair first.
 pub fn permute_rows(s: &mut [f64], m: usize, n: usize, swaps: &[usize], pairs: usize) -> Answer
-    ensures { λ r. ⌜ r ≡ answerFor (permutingRows false m n pairs (now (swaps .entry)) (now (s .entry)) .number) ⌝ }
-    ensures { λ _. ⌜ now (s .exit) ≡ permutingRows false m n pairs (now (swaps .entry)) (now (s .entry)) .result ⌝ }
+    ensures { λ r. ⌜ answered r ≡ permutingRows false m n pairs (now (swaps .entry)) (now (s .entry)) .answer ⌝ }
+    ensures { λ _. ⌜ now (s .exit) ≡ permutingRows false m n pairs (now (swaps .entry)) (now (s .entry)) .left ⌝ }
 {
     permute_or_refuse(s, m, n, swaps, pairs, m, false, false)
 }
 
 // Applies the list in reverse to the rows of s, last pair first.
 pub fn inv_permute_rows(s: &mut [f64], m: usize, n: usize, swaps: &[usize], pairs: usize) -> Answer
-    ensures { λ r. ⌜ r ≡ answerFor (permutingRows true m n pairs (now (swaps .entry)) (now (s .entry)) .number) ⌝ }
-    ensures { λ _. ⌜ now (s .exit) ≡ permutingRows true m n pairs (now (swaps .entry)) (now (s .entry)) .result ⌝ }
+    ensures { λ r. ⌜ answered r ≡ permutingRows true m n pairs (now (swaps .entry)) (now (s .entry)) .answer ⌝ }
+    ensures { λ _. ⌜ now (s .exit) ≡ permutingRows true m n pairs (now (swaps .entry)) (now (s .entry)) .left ⌝ }
 {
     permute_or_refuse(s, m, n, swaps, pairs, m, false, true)
 }
 
 // Applies the list to the columns of s, first pair first.
 pub fn permute_columns(s: &mut [f64], m: usize, n: usize, swaps: &[usize], pairs: usize) -> Answer
-    ensures { λ r. ⌜ r ≡ answerFor (permutingColumns false m n pairs (now (swaps .entry)) (now (s .entry)) .number) ⌝ }
-    ensures { λ _. ⌜ now (s .exit) ≡ permutingColumns false m n pairs (now (swaps .entry)) (now (s .entry)) .result ⌝ }
+    ensures { λ r. ⌜ answered r ≡ permutingColumns false m n pairs (now (swaps .entry)) (now (s .entry)) .answer ⌝ }
+    ensures { λ _. ⌜ now (s .exit) ≡ permutingColumns false m n pairs (now (swaps .entry)) (now (s .entry)) .left ⌝ }
 {
     permute_or_refuse(s, m, n, swaps, pairs, n, true, false)
 }
@@ -316,8 +319,8 @@ pub fn inv_permute_columns(
     swaps: &[usize],
     pairs: usize,
 ) -> Answer
-    ensures { λ r. ⌜ r ≡ answerFor (permutingColumns true m n pairs (now (swaps .entry)) (now (s .entry)) .number) ⌝ }
-    ensures { λ _. ⌜ now (s .exit) ≡ permutingColumns true m n pairs (now (swaps .entry)) (now (s .entry)) .result ⌝ }
+    ensures { λ r. ⌜ answered r ≡ permutingColumns true m n pairs (now (swaps .entry)) (now (s .entry)) .answer ⌝ }
+    ensures { λ _. ⌜ now (s .exit) ≡ permutingColumns true m n pairs (now (swaps .entry)) (now (s .entry)) .left ⌝ }
 {
     permute_or_refuse(s, m, n, swaps, pairs, n, true, true)
 }

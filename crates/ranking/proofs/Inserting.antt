@@ -3,7 +3,7 @@
 use mathlib.Core.Path.{_≡_, refl, sym, ap, ap₂, _∙_}
 use mathlib.Core.Bool.{true, false, cond}
 use mathlib.Core.List.{List, [], _∷_, _++_}
-use Prim.Native.Nat.{ℕ, zero, suc, _+_, _-_, _≤_, _<_}
+use Prim.Native.Nat.{ℕ, zero, suc, _+_, _≤_, _<_}
 use native.Mathlib.Nat.{le-of-suc-le-suc, not-suc-le-zero}
 use native.Mathlib.Numerals.{add-one}
 use native.Mathlib.Omega.{arith}
@@ -11,8 +11,8 @@ use borrow.Author.Tests.{eqb-true, eqb-false}
 use lib.Dec.{eqb}
 use lib.ListN.{length, getD, set, take, drop, length-set, List·getD-append}
 use lib.Seq.{getD-set-same, getD-set-other, take-at, drop-at, drop-drop}
-use Rattle.blas.specs.Column.{Column}
-use Rattle.blas.proofs.Choice.{test-cases, cond-cases}
+use Rattle.numbers.specs.Column.{Column}
+use Rattle.numbers.proofs.Choice.{test-cases, cond-cases}
 use Rattle.ranking.specs.Ranking.{IsPad, ahead, insertPad, ranked, padsTo}
 
 -- P holds of each number of the list
@@ -45,7 +45,8 @@ module _ (loads : Column) where
   pushFrom pad (suc j) zero (q ∷ qs) = q ∷ qs
   pushFrom pad (suc j) (suc k) (q ∷ qs) = q ∷ pushFrom pad j k qs
 
-  moves-suc : (pad j k : ℕ) (s : List ℕ) → j < k → k < length s → ahead loads pad (getD s j 0) ≡ true → pushFrom (getD s j 0) (suc j) k (set s j pad) ≡ pushFrom pad j k s
+  moves-suc : (pad j k : ℕ) (s : List ℕ) → j < k → k < length s → ahead loads pad (getD s j 0) ≡ true
+      → pushFrom (getD s j 0) (suc j) k (set s j pad) ≡ pushFrom pad j k s
   unfolding pushFrom
   moves-suc pad j k [] h l e = absurd (not-suc-le-zero l)
   moves-suc pad j zero (q ∷ qs) h l e = absurd (not-suc-le-zero h)
@@ -60,7 +61,8 @@ module _ (loads : Column) where
   stays-suc pad (suc j) (suc k) (q ∷ qs) h l e = ap (λ (t : List ℕ). q ∷ t) (stays-suc pad j k qs (le-of-suc-le-suc h) (le-of-suc-le-suc l) e)
 
   -- one turn, by the outcome of its test
-  pub push-moves : (pad j k : ℕ) (s : List ℕ) → j < k → k < length s → ahead loads pad (getD s j 0) ≡ true → pushFrom (getD s j 0) (j + 1) k (set s j pad) ≡ pushFrom pad j k s
+  pub push-moves : (pad j k : ℕ) (s : List ℕ) → j < k → k < length s → ahead loads pad (getD s j 0) ≡ true
+      → pushFrom (getD s j 0) (j + 1) k (set s j pad) ≡ pushFrom pad j k s
   push-moves pad j k s h l e = rw add-one (moves-suc pad j k s h l e)
 
   pub push-stays : (pad j k : ℕ) (s : List ℕ) → j < k → k < length s → ahead loads pad (getD s j 0) ≡ false → pushFrom pad (j + 1) k s ≡ pushFrom pad j k s
@@ -154,7 +156,10 @@ module _ (loads : Column) where
   one-more k s was new e d =
       let front : take k s ≡ ranked loads (padsTo k) = ap (take k) e ∙ take-at _ (drop k was) k (length-ranked k) in
       let back : drop (k + 1) s ≡ drop (k + 1) was =
-      sym (drop-drop 1 k s) ∙ ap (λ (t : List ℕ). drop 1 (drop k t)) e ∙ ap (drop 1) (drop-at (ranked loads (padsTo k)) (drop k was) k (length-ranked k)) ∙ drop-drop 1 k was in
+      sym (drop-drop 1 k s)
+      ∙ ap (λ (t : List ℕ). drop 1 (drop k t)) e
+      ∙ ap (drop 1) (drop-at (ranked loads (padsTo k)) (drop k was) k (length-ranked k))
+      ∙ drop-drop 1 k was in
       d ∙ ap₂ (λ (a b : List ℕ). insertPad loads (k + 1) a ++ b) front back ∙ ap (λ (a : List ℕ). a ++ drop (k + 1) was) (next k)
     where
       next : (k : ℕ) → insertPad loads (k + 1) (ranked loads (padsTo k)) ≡ ranked loads (padsTo (k + 1))

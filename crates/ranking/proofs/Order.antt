@@ -8,10 +8,11 @@ use borrow.Author.Tests.{ltb-true, ltb-false, lt-ltb}
 use lib.Dec.{ltb}
 use lib.ListN.{length}
 use lib.Ieee.Scale.{finite}
-use Rattle.blas.specs.Column.{Column, allFinite}
-use Rattle.blas.proofs.Choice.{test-cases}
-use Rattle.blas.proofs.Finite.{finite-entry}
-use Rattle.blas.proofs.Pivot.{smaller, smaller-trans, smaller-asym}
+use Rattle.numbers.specs.Column.{Column}
+use Rattle.finite.specs.Finite.{allFinite}
+use Rattle.numbers.proofs.Choice.{test-cases}
+use Rattle.finite.proofs.Finite.{finite-entry}
+use Rattle.numbers.proofs.Smaller.{smaller, smaller-trans, smaller-asym}
 use Rattle.ranking.specs.Ranking.{IsPad, loadOf, ahead}
 
 -- ---- the test taken apart: greater, or not smaller and of the lower number

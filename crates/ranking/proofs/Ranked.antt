@@ -10,12 +10,13 @@ use native.Mathlib.Omega.{arith}
 use borrow.Author.Tests.{eqb-true, eqb-false, eq-eqb, ne-eqb, leb-true, le-leb, lt-leb}
 use lib.Dec.{eqb, leb}
 use lib.ListN.{length, getD}
-use Rattle.blas.specs.Column.{Column, allFinite}
-use Rattle.blas.proofs.Choice.{test-cases, cond-cases, same-test}
+use Rattle.numbers.specs.Column.{Column}
+use Rattle.finite.specs.Finite.{allFinite}
+use Rattle.numbers.proofs.Choice.{test-cases, cond-cases, same-test}
 use Rattle.ranking.specs.Ranking.{IsPad, ahead, occurrences, Ranked, insertPad, ranked, padsTo, rankingRefusal, ranking}
 use Rattle.ranking.proofs.Inserting.{Every, every-at, insert-every, ranked-pads}
 use Rattle.ranking.proofs.Order.{ahead-asym, ahead-total, ahead-trans}
-use Rattle.ranking.proofs.Calls.{accepted}
+use Rattle.ranking.proofs.Calls.{accepted, ranking-accepted}
 
 every-map : {P Q : ℕ → Type 0} (s : List ℕ) → ((q : ℕ) → P q → Q q) → Every P s → Every Q s
 every-map [] f e = tt
@@ -49,7 +50,9 @@ pads-occurrences p (suc n) =
     (λ e. let d = eqb-true p (suc n) e in
     rw (e, pads-occurrences p n, lt-leb p n (omega arith), le-leb 1 p (omega arith), le-leb p (suc n) (omega arith)))
     (λ e. let d = eqb-false p (suc n) e in
-    let same : leb p n ≡ leb p (suc n) = same-test _ _ (λ h. le-leb p (suc n) (omega (arith, leb-true p n h))) (λ h. le-leb p n (omega (arith, leb-true p (suc n) h, d))) in
+    let up : leb p n ≡ true → leb p (suc n) ≡ true = λ h. le-leb p (suc n) (omega (arith, leb-true p n h)) in
+    let down : leb p (suc n) ≡ true → leb p n ≡ true = λ h. le-leb p n (omega (arith, leb-true p (suc n) h, d)) in
+    let same : leb p n ≡ leb p (suc n) = same-test _ _ up down in
     rw (e, pads-occurrences p n, same) (zero-add _))
 
 -- a pad that stands in a list has a place there
@@ -97,14 +100,16 @@ module _ (loads : Column) where
 
   -- ---- a pad put among pads in order
   module _ (all : allFinite loads ≡ true) where
-    insert-chain : (p : ℕ) (s : List ℕ) → IsPad (length loads) p → Every (IsPad (length loads)) s → Every (λ q. p ≡ q → ⊥) s → Chain s → Chain (insertPad loads p s)
+    insert-chain : (p : ℕ) (s : List ℕ) → IsPad (length loads) p → Every (IsPad (length loads)) s → Every (λ q. p ≡ q → ⊥) s → Chain s
+        → Chain (insertPad loads p s)
     unfolding insertPad
     insert-chain p [] hp hs n c = (tt, tt)
     insert-chain p (q ∷ s) hp hs n c =
         cond-cases Chain (ahead loads p q)
         (λ e. (
           insert-every loads (λ r. ahead loads p r ≡ true) q s e
-              (every-map s (λ r w. ahead-trans loads all p q r hp (hs .0) (w .0) e (w .1)) (every-both (IsPad (length loads)) (λ r. ahead loads q r ≡ true) s (hs .1) (c .0))),
+              (every-map s (λ r w. ahead-trans loads all p q r hp (hs .0) (w .0) e (w .1))
+              (every-both (IsPad (length loads)) (λ r. ahead loads q r ≡ true) s (hs .1) (c .0))),
           insert-chain q s (hs .0) (hs .1) (every-map s (λ r w d. (let s : ahead loads r r ≡ true = rw d at w in ahead-asym loads r r s s)) (c .0)) (c .1),
         ))
         (λ e. (insert-every loads (λ r. ahead loads q r ≡ true) p s (ahead-total loads p q (n .0) e) (c .0), insert-chain p s hp (hs .1) (n .1) (c .1)))
@@ -119,13 +124,17 @@ module _ (loads : Column) where
     -- the pads of n finite loads in their ranking
     pub ranked-is : (n : ℕ) → n ≤ length loads → Ranked loads n (ranked loads (padsTo n))
     ranked-is n h =
-        record { each-once = λ p. ranked-occurrences loads p (padsTo n) ∙ pads-occurrences p n; in-order = chain-order (ranked loads (padsTo n)) (ranked-chain n h) }
+        record {
+          each-once = λ p. ranked-occurrences loads p (padsTo n) ∙ pads-occurrences p n;
+          in-order = chain-order (ranked loads (padsTo n)) (ranked-chain n h);
+        }
 
   -- no two lists are a ranking
   pub only-ranking : (n : ℕ) (a b : List ℕ) → Ranked loads n a → Ranked loads n b → a ≡ b
   only-ranking n a b r s = same-list a b (λ p. r .each-once p ∙ sym (s .each-once p)) (r .in-order) (s .in-order)
 
 -- ---- what an accepted call leaves
-pub ranking-ranked : (n : ℕ) (loads : Column) (was : List ℕ) → rankingRefusal n loads was ≡ 0 → Ranked loads n (ranking n loads was .ranks)
-unfolding ranking
-ranking-ranked n loads was e = let a = accepted n loads was e in rw e (ranked-is loads (a .finite) n (omega (arith, a .loads-length)))
+pub ranking-ranked : (n : ℕ) (loads : Column) (was : List ℕ) → rankingRefusal n loads was ≡ 0 → Ranked loads n (ranking n loads was .left)
+ranking-ranked n loads was e =
+    let a = accepted n loads was e in
+    rw (ranking-accepted n loads was e) (ranked-is loads (a .finite) n (omega (arith, a .loads-length)))

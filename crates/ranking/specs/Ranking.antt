@@ -6,9 +6,11 @@ use Prim.Native.Nat.{ℕ, zero, suc, _+_, _-_, _≤_, _<_}
 use lib.Dec.{ltb, leb, eqb}
 use lib.ListN.{length, getD}
 use lib.Ieee.{Float, lt}
-use Rattle.blas.specs.Numbers.{magnitude}
-use Rattle.blas.specs.Column.{Column, entry, allFinite}
-use Rattle.refusals.specs.Refusals.{firstOf, outside}
+use Rattle.numbers.specs.Numbers.{magnitude}
+use Rattle.numbers.specs.Column.{Column, entry}
+use Rattle.finite.specs.Finite.{allFinite}
+use Rattle.refusals.specs.Outcome.{done, firstOf, tested, Call, leaving}
+use Rattle.refusals.specs.Refusals.{outside}
 
 -- p is the number of one of n pads
 abbrev pub IsPad : ℕ → ℕ → Type 0
@@ -65,12 +67,6 @@ rankingRefusal n loads ranks =
     ∷ (5, not (allFinite loads))
     ∷ [])
 
--- a refusal number, 0 for none, with what the slice for the ranks then holds
-pub record Ranking : Type 0 where
-  pub number : ℕ
-  pub ranks : List ℕ
-
-unfoldable pub ranking : ℕ → Column → List ℕ → Ranking
-ranking n loads was =
-    let number = rankingRefusal n loads was in
-    cond (eqb number 0) (record { number = 0; ranks = ranked loads (padsTo n) }) (record { number = number; ranks = was })
+-- what the call comes to, and what the slice for the ranks, which held `was`, then holds
+unfoldable pub ranking : ℕ → Column → List ℕ → Call (Unit {0}) (List ℕ)
+ranking n loads was = tested (rankingRefusal n loads was) (leaving was) (record { answer = done tt; left = ranked loads (padsTo n) })

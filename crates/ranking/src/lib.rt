@@ -3,7 +3,7 @@ ghost use mathlib.Core.Path.{_≡_};
 ghost use mathlib.Core.List.{_++_};
 ghost use Prim.Native.Nat.{ℕ, _+_, _<_};
 ghost use lib.ListN.{length, getD, take, drop};
-ghost use Rattle.refusals.specs.Refusals.{answerOf};
+ghost use Rattle.refusals.specs.Refusals.{answered};
 ghost use Rattle.ranking.specs.Ranking.{IsPad, ahead, insertPad, rankingRefusal, ranking};
 use refusals::Answer;
 
@@ -14,8 +14,8 @@ fn is_ahead(loads: &[f64], p: usize, q: usize) -> bool
 {
     let a = loads[p - 1];
     let b = loads[q - 1];
-    let x = blas::magnitude(a);
-    let y = blas::magnitude(b);
+    let x = numbers::magnitude(a);
+    let y = numbers::magnitude(b);
     if y < x {
         return true;
     }
@@ -49,7 +49,7 @@ fn rank_refusal(loads: &[f64], n: usize, ranks: &[usize]) -> usize
     ensures { λ r. ⌜ r ≡ rankingRefusal n (now (loads .entry)) (now (ranks .entry)) ⌝ }
 {
     let lengths = (loads.len() == n) & (ranks.len() == n);
-    let numbers = blas::all_finite(loads);
+    let numbers = finite::all_finite(loads);
     refusals::first(
         1,
         refusals::outside(1, n),
@@ -59,8 +59,8 @@ fn rank_refusal(loads: &[f64], n: usize, ranks: &[usize]) -> usize
 
 // Ranks the n loads: the pads' numbers from 1, greatest magnitude first, equal magnitudes by lower number.
 pub fn rank(loads: &[f64], n: usize, ranks: &mut [usize]) -> Answer
-    ensures { λ r. ⌜ r ≡ answerOf (ranking n (now (loads .entry)) (now (ranks .entry)) .number) ⌝ }
-    ensures { λ _. ⌜ now (ranks .exit) ≡ ranking n (now (loads .entry)) (now (ranks .entry)) .ranks ⌝ }
+    ensures { λ r. ⌜ answered r ≡ ranking n (now (loads .entry)) (now (ranks .entry)) .answer ⌝ }
+    ensures { λ _. ⌜ now (ranks .exit) ≡ ranking n (now (loads .entry)) (now (ranks .entry)) .left ⌝ }
 {
     let number = rank_refusal(loads, n, ranks);
     if number != 0 {

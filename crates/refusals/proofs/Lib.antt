@@ -1,1 +1,4 @@
+pub mod Outcomes
+pub mod Cases
+pub mod Strength
 pub mod Tests

@@ -1,18 +1,10 @@
--- What a call knows where no test of its refusals holds: by the tests in their order. Assumes nothing.
+-- What a call knows of its sizes where no test holds. Assumes nothing.
 use mathlib.Core.Path.{_≡_, refl, sym}
 use mathlib.Core.Bool.{Bool, true, false, _||_, false≢true}
-use mathlib.Core.List.{List, _∷_}
-use Prim.Native.Nat.{ℕ, suc, _≤_}
-use native.Mathlib.Omega.{arith}
+use Prim.Native.Nat.{ℕ, _≤_}
 use borrow.Author.Tests.{ltb-false, le-ltb}
 use lib.Dec.{ltb}
-use Rattle.refusals.specs.Refusals.{firstOf, outside}
-
--- where the first refusal is none, the first test does not hold, and the first of the others is none
-pub first-none : (k : ℕ) (t : Bool) (ts : List (ℕ × Bool)) → firstOf ((suc k, t) ∷ ts) ≡ 0 → (t ≡ false) × (firstOf ts ≡ 0)
-unfolding firstOf
-first-none k true ts e = absurd (omega (arith, e))
-first-none k false ts e = (refl, e)
+use Rattle.refusals.specs.Refusals.{outside}
 
 pub neither : (t u : Bool) → (t || u) ≡ false → (t ≡ false) × (u ≡ false)
 neither true u e = absurd (false≢true (sym e))

@@ -1,7 +1,8 @@
 // Document 01, "Refusal numbers": what the calls share of testing their input and of answering.
 ghost use mathlib.Core.Path.{_≡_};
 ghost use mathlib.Core.Bool.{cond};
-ghost use Rattle.refusals.specs.Refusals.{outside, answerOf, numberOf, seventh};
+ghost use Rattle.refusals.specs.Outcome.{done, refused, numberOf, tested};
+ghost use Rattle.refusals.specs.Refusals.{outside, answered, seventh};
 
 // What a call answers whose results are lent slices.
 pub enum Answer {
@@ -28,7 +29,7 @@ pub fn first(number: usize, holds: bool, later: usize) -> usize
 
 // The answer for a refusal number, 0 being none.
 pub fn answer_for(number: usize) -> Answer
-    ensures { λ r. ⌜ r ≡ answerOf number ⌝ }
+    ensures { λ r. ⌜ answered r ≡ tested number refused (done tt) ⌝ }
 {
     if number == 0 {
         return Answer::Done;
@@ -38,7 +39,7 @@ pub fn answer_for(number: usize) -> Answer
 
 // The refusal number that an answer stands for, 0 for none.
 pub fn number_of(answer: Answer) -> usize
-    ensures { λ r. ⌜ r ≡ numberOf answer ⌝ }
+    ensures { λ r. ⌜ r ≡ numberOf (answered answer) ⌝ }
 {
     match answer {
         Answer::Done => 0,
@@ -48,10 +49,10 @@ pub fn number_of(answer: Answer) -> usize
 
 // Refusal 7: where some result is not finite, all results become +0.0. Answers 7 then, else 0.
 pub fn settle(result: &mut [f64]) -> usize
-    ensures { λ r. ⌜ r ≡ seventh (now (result .entry)) .number ⌝ }
-    ensures { λ _. ⌜ now (result .exit) ≡ seventh (now (result .entry)) .result ⌝ }
+    ensures { λ r. ⌜ r ≡ numberOf (seventh (now (result .entry)) .answer) ⌝ }
+    ensures { λ _. ⌜ now (result .exit) ≡ seventh (now (result .entry)) .left ⌝ }
 {
-    if blas::all_finite(result) {
+    if finite::all_finite(result) {
         return 0;
     }
     blas::fill_zero(result);

@@ -7,16 +7,17 @@ use mathlib.Core.List.{[]}
 use Prim.Native.Nat.{ℕ, _<_}
 use native.Mathlib.Omega.{arith}
 use lib.ListN.{length}
-use Rattle.blas.specs.Column.{Column, allFinite}
-use Rattle.blas.proofs.Each.{length-each, each-at, each-before}
+use Rattle.numbers.specs.Column.{Column}
+use Rattle.finite.specs.Finite.{allFinite}
+use Rattle.numbers.proofs.Each.{length-each, each-at, each-before}
 use Rattle.store.specs.Columns.{columns, flat, isMatrix}
 use Rattle.store.specs.Steps.{Matrix, column}
 use Rattle.store.proofs.Columns.{length-columns, columns-rows, on-flat, on-columns, sized}
-use Rattle.refusals.specs.Refusals.{Outcome}
+use Rattle.refusals.specs.Outcome.{numberOf, Call}
 use Rattle.solve.specs.declared.Pass.{Pass}
 use Rattle.solve.specs.Triangular.{solvedColumn, solvedFrom, solvedColumns, solvedInPlace}
 use Rattle.solve.specs.Calls.{refusalOf, solving}
-use Rattle.solve.proofs.Outcomes.{none-given, seventh-number, seventh-stands}
+use Rattle.refusals.proofs.Outcomes.{none-given, seventh-number, seventh-stands}
 use Rattle.solve.proofs.Accepted.{fit, accepted}
 use Rattle.solve.proofs.Lengths.{solved-rows}
 
@@ -44,38 +45,39 @@ module _ (pass : Pass) (n k : ℕ) (t b : Column) (matrix : isMatrix n n t ≡ t
 
 module _ (pass : Pass) (n k : ℕ) (t b x : Column) where
   -- an accepted call: no test held, and the result is what the pass made
-  none : solving pass n k t b x .number ≡ 0 → refusalOf pass n k t b x ≡ 0
+  none : numberOf (solving pass n k t b x .answer) ≡ 0 → refusalOf pass n k t b x ≡ 0
   unfolding solving
   none e = none-given (refusalOf pass n k t b x) x _ e
 
-  pub accepted-columns : solving pass n k t b x .number ≡ 0 → columns n k (solving pass n k t b x .result) ≡ solvedColumns pass n (columns n n t) (columns n k b)
+  pub accepted-columns : numberOf (solving pass n k t b x .answer) ≡ 0
+      → columns n k (solving pass n k t b x .left) ≡ solvedColumns pass n (columns n n t) (columns n k b)
   accepted-columns e =
       let p = fit pass n k t b x (none e) in
       let o = accepted pass n k t b x (none e) in
       let made = solvedInPlace pass n k t b in
-      ap (λ (r : Outcome). columns n k (r .result)) o
-      ∙ ap (columns n k) (seventh-stands made (sym (ap (λ (r : Outcome). r .number) o) ∙ e))
+      ap (λ (r : Call (Unit {0}) Column). columns n k (r .left)) o
+      ∙ ap (columns n k) (seventh-stands made (sym (ap (λ (r : Call (Unit {0}) Column). numberOf (r .answer)) o) ∙ e))
       ∙ in-place-columns pass n k t b (p .matrix) (p .sides)
 
   -- an accepted solution column is its own right-hand column, solved
-  pub accepted-column : (j : ℕ) → j < k → solving pass n k t b x .number ≡ 0
-      → column (columns n k (solving pass n k t b x .result)) j ≡ solvedColumn pass n (columns n n t) (column (columns n k b) j)
+  pub accepted-column : (j : ℕ) → j < k → numberOf (solving pass n k t b x .answer) ≡ 0
+      → column (columns n k (solving pass n k t b x .left)) j ≡ solvedColumn pass n (columns n n t) (column (columns n k b) j)
   accepted-column j h e =
       ap (λ (cs : Matrix). column cs j) (accepted-columns e) ∙ solved-at pass n (columns n n t) (columns n k b) j (rw length-columns h)
 
   -- a call that its tests let pass is refused with 7 exactly where some number of some solved column is not finite
   pub seven-by-all : refusalOf pass n k t b x ≡ 0
-      → solving pass n k t b x .number ≡ cond (allFinite (flat (solvedColumns pass n (columns n n t) (columns n k b)))) 0 7
+      → numberOf (solving pass n k t b x .answer) ≡ cond (allFinite (flat (solvedColumns pass n (columns n n t) (columns n k b)))) 0 7
   seven-by-all e =
       let p = fit pass n k t b x e in
-      ap (λ (r : Outcome). r .number) (accepted pass n k t b x e)
+      ap (λ (r : Call (Unit {0}) Column). numberOf (r .answer)) (accepted pass n k t b x e)
       ∙ seventh-number (solvedInPlace pass n k t b)
       ∙ ap (λ (c : Column). cond (allFinite c) 0 7) (in-place-flat pass n k t b (p .matrix) (p .sides))
 
 -- Two accepted calls by one matrix: equal right-hand columns, wherever they stand and whatever stands beside them, have equal solution columns.
 pub column-alone : (pass : Pass) (n k l : ℕ) (t b d x y : Column) (i j : ℕ) → i < k → j < l
-    → solving pass n k t b x .number ≡ 0 → solving pass n l t d y .number ≡ 0
+    → numberOf (solving pass n k t b x .answer) ≡ 0 → numberOf (solving pass n l t d y .answer) ≡ 0
     → column (columns n k b) i ≡ column (columns n l d) j
-    → column (columns n k (solving pass n k t b x .result)) i ≡ column (columns n l (solving pass n l t d y .result)) j
+    → column (columns n k (solving pass n k t b x .left)) i ≡ column (columns n l (solving pass n l t d y .left)) j
 column-alone pass n k l t b d x y i j hi hj e f same =
     accepted-column pass n k t b x i hi e ∙ ap (solvedColumn pass n (columns n n t)) same ∙ sym (accepted-column pass n l t d y j hj f)

@@ -12,17 +12,19 @@ use lib.ListN.{length, getD, set, take, drop, length-set}
 use lib.Seq.{getD-set-other, getD-drop}
 use lib.Ieee.{Float, nan, binary64, fits, neg, div}
 use lib.Ieee.Fits.{nan-fits, add-fits}
-use Rattle.blas.specs.Each.{eachFrom, turnsFrom}
-use Rattle.blas.specs.Numbers.{one64}
-use Rattle.blas.specs.Column.{Column, entry, axpyFrom}
-use Rattle.blas.proofs.Choice.{cond-cases, cond-both}
-use Rattle.blas.proofs.Each.{each-stop, each-step}
-use Rattle.blas.proofs.One.{div-one64}
+use Rattle.numbers.specs.Each.{eachFrom, turnsFrom}
+use Rattle.numbers.specs.Numbers.{one64}
+use Rattle.numbers.specs.Column.{Column, entry}
+use Rattle.blas.specs.Blas.{axpyFrom}
+use Rattle.numbers.proofs.Choice.{cond-cases, cond-both}
+use Rattle.numbers.proofs.Each.{each-stop, each-step}
+use Rattle.numbers.proofs.One.{div-one64}
 use Rattle.blas.proofs.Rows.{length-axpy, entry-axpy-before, axpy-none}
 use Rattle.store.specs.Columns.{columns, flat, isMatrix, onColumns}
 use Rattle.store.specs.Steps.{Matrix, column}
 use Rattle.store.proofs.Columns.{sized, columns-rows}
-use Rattle.refusals.specs.Refusals.{seventh, tested}
+use Rattle.refusals.specs.Outcome.{tested, leaving}
+use Rattle.refusals.specs.Refusals.{seventh}
 use Rattle.solve.specs.declared.Pass.the-variants.{GivenDiagonal, CorrectedDiagonal}
 use Rattle.solve.specs.Triangular.{lowerRow, keptRow, solvedRow, turn, solvedColumn, solvedFrom, solvedColumns, solvedInPlace}
 use Rattle.solve.specs.Calls.{numbersFinite, refusalOf, solving}
@@ -149,7 +151,8 @@ divided-by-one [] all = refl
 divided-by-one (y ∷ ys) all = ap₂ (λ (v : Float) (t : Column). v ∷ t) (div-one64 y (all 0)) (divided-by-one ys (λ i. all (suc i)))
 
 -- one column
-pub same-column : (n : ℕ) (cs : Matrix) (b : Column) → length b ≡ n → Doubles b → solvedColumn (CorrectedDiagonal one64) n cs b ≡ solvedColumn (GivenDiagonal one64) n cs b
+pub same-column : (n : ℕ) (cs : Matrix) (b : Column) → length b ≡ n → Doubles b
+    → solvedColumn (CorrectedDiagonal one64) n cs b ≡ solvedColumn (GivenDiagonal one64) n cs b
 unfolding solvedColumn
 same-column n cs b e all =
     divided-once one64 n cs b e ∙ divided-by-one (solvedColumn (GivenDiagonal one64) n cs b) (turns-doubles one64 n cs 0 (n - 1) b all)
@@ -167,7 +170,8 @@ columns-doubles n zero b all j i = nan-fits binary64
 columns-doubles n (suc k) b all zero i = take-doubles n b all i
 columns-doubles n (suc k) b all (suc j) i = columns-doubles n k (drop n b) (λ h. rw (getD-drop n b h nan) (all (n + h))) j i
 
-each-alike : {A : Type 0} (f g : ℕ → A → A) (l : List A) (d : A) → ((i : ℕ) → i < length l → f i (getD l i d) ≡ g i (getD l i d)) → eachFrom f 0 l ≡ eachFrom g 0 l
+each-alike : {A : Type 0} (f g : ℕ → A → A) (l : List A) (d : A) → ((i : ℕ) → i < length l → f i (getD l i d) ≡ g i (getD l i d))
+    → eachFrom f 0 l ≡ eachFrom g 0 l
 unfolding eachFrom
 each-alike f g [] d e = refl
 each-alike {A} f g (y ∷ ys) d e =
@@ -177,7 +181,8 @@ same-columns : (n k : ℕ) (cs : Matrix) (b : Column) → isMatrix n k b ≡ tru
     → solvedColumns (CorrectedDiagonal one64) n cs (columns n k b) ≡ solvedColumns (GivenDiagonal one64) n cs (columns n k b)
 unfolding solvedFrom
 same-columns n k cs b sides all =
-    each-alike _ _ (columns n k b) [] (λ j h. same-column n cs (column (columns n k b) j) (columns-rows n k b (sized n k b sides .size) j h) (columns-doubles n k b all j))
+    each-alike _ _ (columns n k b) []
+    (λ j h. same-column n cs (column (columns n k b) j) (columns-rows n k b (sized n k b sides .size) j h) (columns-doubles n k b all j))
 
 -- THEOREM. By the diagonal 1 the two passes give the same bits, whatever doubles the right-hand sides hold.
 pub same-by-one : (n k : ℕ) (t b : Column) → Doubles b → solvedInPlace (CorrectedDiagonal one64) n k t b ≡ solvedInPlace (GivenDiagonal one64) n k t b
@@ -190,4 +195,4 @@ same-by-one n k t b all =
 pub same-outcome : (n k : ℕ) (t b x : Column) → Doubles b → solving (CorrectedDiagonal one64) n k t b x ≡ solving (GivenDiagonal one64) n k t b x
 unfolding solving
 same-outcome n k t b x all =
-    ap₂ (λ (number : ℕ) (made : Column). tested number x (seventh made)) (same-refusal one64 n k t b x) (same-by-one n k t b all)
+    ap₂ (λ (number : ℕ) (made : Column). tested number (leaving x) (seventh made)) (same-refusal one64 n k t b x) (same-by-one n k t b all)

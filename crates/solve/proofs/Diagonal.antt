@@ -6,9 +6,9 @@ use Prim.Native.Nat.{ℕ, _+_, _*_, _≤_, _<_}
 use native.Mathlib.Numerals.{add-one}
 use lib.ListN.{length, drop, drop-of-length-le}
 use lib.Ieee.{nan}
-use Rattle.blas.specs.Numbers.{isZero}
-use Rattle.blas.specs.Column.{Column, entry}
-use Rattle.blas.proofs.Walk.{drop-next}
+use Rattle.numbers.specs.Numbers.{isZero}
+use Rattle.numbers.specs.Column.{Column, entry}
+use Rattle.numbers.proofs.Walk.{drop-next}
 use Rattle.store.specs.Columns.{columns}
 use Rattle.store.proofs.Columns.{entry-at, length-columns}
 use Rattle.solve.specs.Calls.{zeroFrom}

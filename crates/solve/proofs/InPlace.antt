@@ -1,11 +1,11 @@
 -- A pass as a loop over the right-hand columns: what is left to solve from column j on gives all of them solved, a turn keeps that, and with no column left the
--- slice holds the pass's result. For every pass, so for the loops of `triangles` too. Assumes nothing.
+-- slice holds the pass's result. For every pass, so for the loops of `solve_by_rows` too. Assumes nothing.
 use mathlib.Core.Path.{_≡_, refl, sym, _∙_}
 use mathlib.Core.Bool.{true, false}
 use Prim.Native.Nat.{ℕ, _+_, _-_, _*_, _≤_, _<_}
 use borrow.Rule.Slice.PartMut.{midOf, putMid, same-len-mid}
 use lib.ListN.{length}
-use Rattle.blas.specs.Column.{Column}
+use Rattle.numbers.specs.Column.{Column}
 use Rattle.store.specs.Columns.{columns, isMatrix}
 use Rattle.store.proofs.Columns.{sized, column-within, column-length, column-turn, column-stop, on-none, on-done}
 use Rattle.solve.specs.declared.Pass.{Pass}
@@ -34,7 +34,8 @@ module _ (pass : Pass) (n k : ℕ) (t b₀ : Column) where
     pub left-rows : j < k → length part ≡ n
     left-rows h = column-length n k j b h size
 
-    pub left-turn : (c : Column) → j < k → length c ≡ length part → c ≡ solvedColumn pass n (columns n n t) part → Left (j + 1) (putMid (j * n) (j * n + n - j * n) b c)
+    pub left-turn : (c : Column) → j < k → length c ≡ length part → c ≡ solvedColumn pass n (columns n n t) part
+        → Left (j + 1) (putMid (j * n) (j * n + n - j * n) b c)
     unfolding solvedFrom
     left-turn c h kept made = record {
       long = same-len-mid (j * n) (j * n + n - j * n) b c kept ∙ so-far .long;

@@ -4,15 +4,16 @@ use Prim.Native.Nat.{ℕ, zero, suc, _+_}
 use native.Mathlib.Omega.{arith}
 use lib.ListN.{length, length-set, length-take, length-drop, length-append}
 use lib.Ieee.{Float}
-use Rattle.blas.specs.Each.{turnsFrom}
-use Rattle.blas.specs.Column.{Column}
+use Rattle.numbers.specs.Each.{turnsFrom}
+use Rattle.numbers.specs.Column.{Column}
 use Rattle.blas.proofs.Rows.{length-axpy}
 use Rattle.store.specs.Columns.{HasRows}
 use Rattle.store.specs.Steps.{Matrix}
 use Rattle.store.proofs.Columns.{each-rows}
 use Rattle.solve.specs.declared.Pass.{Pass}
 use Rattle.solve.specs.declared.Pass.the-variants.{Lower, Upper, GivenDiagonal, TransposedLower, TransposedUpper, CorrectedDiagonal, TransposedUnitLower}
-use Rattle.solve.specs.Triangular.{lowerRow, upperRow, keptRow, transposedLowerRow, transposedUpperRow, transposedUnitLowerRow, rowBy, solvedRow, turn, solvedColumn, solvedFrom}
+use Rattle.solve.specs.Triangular.{lowerRow, upperRow, keptRow, transposedLowerRow, transposedUpperRow, transposedUnitLowerRow, rowBy}
+use Rattle.solve.specs.Triangular.{solvedRow, turn, solvedColumn, solvedFrom}
 
 pub length-row : (pass : Pass) (d : Float) (l : Column) (i : ℕ) (b : Column) → length (rowBy pass d l i b) ≡ length b
 unfolding lowerRow upperRow keptRow transposedLowerRow transposedUpperRow transposedUnitLowerRow
@@ -24,7 +25,8 @@ length-row TransposedUpper d l i b = simp length-set
 length-row (CorrectedDiagonal e) d l i b = simp (length-axpy, length-set)
 length-row TransposedUnitLower d l i b = simp length-set
 
-pub length-turns : (f : ℕ → Column → Column) → ((k : ℕ) (s : Column) → length (f k s) ≡ length s) → (k c : ℕ) (s : Column) → length (turnsFrom f k c s) ≡ length s
+pub length-turns : (f : ℕ → Column → Column) → ((k : ℕ) (s : Column) → length (f k s) ≡ length s) → (k c : ℕ) (s : Column)
+    → length (turnsFrom f k c s) ≡ length s
 unfolding turnsFrom
 length-turns f keeps k zero s = refl
 length-turns f keeps k (suc c) s = length-turns f keeps (k + 1) c (f k s) ∙ keeps k s

@@ -1,10 +1,12 @@
 pub mod Given
 pub mod Turns
 pub mod Diagonal
-pub mod Outcomes
 pub mod Accepted
 pub mod Lengths
 pub mod InPlace
 pub mod Alone
 pub mod Corrected
 pub mod Figures
+pub mod Lasting
+pub mod Reason
+pub mod Seven

@@ -7,7 +7,7 @@ use borrow.Rule.Slice.PartMut.{midOf}
 use lib.ListN.{length, drop, length-drop}
 use lib.Seq.{take-all}
 use lib.Ieee.{Float}
-use Rattle.blas.specs.Column.{Column}
+use Rattle.numbers.specs.Column.{Column}
 use Rattle.store.specs.Columns.{columns}
 use Rattle.store.specs.Steps.{column}
 use Rattle.store.proofs.Columns.{part-column}

@@ -3,11 +3,13 @@ use mathlib.Core.Bool.{Bool, true, false, not, _&&_, _||_}
 use mathlib.Core.List.{[], _∷_}
 use Prim.Native.Nat.{ℕ, suc}
 use lib.Ieee.Scale.{finite}
-use Rattle.blas.specs.Numbers.{isZero}
-use Rattle.blas.specs.Column.{Column, entry, allFinite}
+use Rattle.numbers.specs.Numbers.{isZero}
+use Rattle.numbers.specs.Column.{Column, entry}
+use Rattle.finite.specs.Finite.{allFinite}
 use Rattle.store.specs.Columns.{columns, isMatrix}
 use Rattle.store.specs.Steps.{Matrix}
-use Rattle.refusals.specs.Refusals.{firstOf, outside, Outcome, seventh, tested}
+use Rattle.refusals.specs.Outcome.{firstOf, tested, Call, leaving}
+use Rattle.refusals.specs.Refusals.{outside, seventh}
 use Rattle.solve.specs.declared.Pass.{Pass}
 use Rattle.solve.specs.Triangular.{given, solvedInPlace}
 
@@ -41,7 +43,7 @@ zeroOnDiagonal n t = isMatrix n n t && zeroFrom 0 (columns n n t)
 abbrev pub zeroDivisor : Pass → ℕ → Column → Bool
 zeroDivisor pass n t = given pass isZero (zeroOnDiagonal n t)
 
--- ---- the outcome
+-- ---- the call
 
 -- the refusal before the work, 0 for none
 unfoldable pub refusalOf : Pass → ℕ → ℕ → Column → Column → Column → ℕ
@@ -53,7 +55,7 @@ refusalOf pass n k t b x =
     ∷ (6, zeroDivisor pass n t)
     ∷ [])
 
--- A call's number, and what the result's slice, which held x, then holds: x where the tests refuse; else the solved columns, or +0.0
+-- What a call comes to, and what the result's slice, which held x, then holds: x where the tests refuse; else the solved columns, or +0.0
 -- throughout where some number of them is not finite.
-unfoldable pub solving : Pass → ℕ → ℕ → Column → Column → Column → Outcome
-solving pass n k t b x = tested (refusalOf pass n k t b x) x (seventh (solvedInPlace pass n k t b))
+unfoldable pub solving : Pass → ℕ → ℕ → Column → Column → Column → Call (Unit {0}) Column
+solving pass n k t b x = tested (refusalOf pass n k t b x) (leaving x) (seventh (solvedInPlace pass n k t b))

@@ -1,2 +1,3 @@
 pub mod Triangular
 pub mod Calls
+pub mod Reason

@@ -4,8 +4,9 @@ ghost use mathlib.Core.Bool.{true};
 ghost use Prim.Native.Nat.{_<_};
 ghost use lib.ListN.{length};
 ghost use Rattle.store.specs.Columns.{columns, isMatrix};
-ghost use Rattle.refusals.specs.Refusals.{answerOf};
-ghost use Rattle.solve.specs.Triangular.{divisor, lowerRow, upperRow, keptRow, lessBelow, transposedLowerRow, transposedUpperRow, transposedUnitLowerRow, solvedRow, rowAt, turnsOf, solvedColumn, solvedInPlace};
+ghost use Rattle.refusals.specs.Refusals.{answered};
+ghost use Rattle.solve.specs.Triangular.{divisor, lowerRow, upperRow, keptRow, lessBelow, transposedLowerRow, transposedUpperRow};
+ghost use Rattle.solve.specs.Triangular.{transposedUnitLowerRow, solvedRow, rowAt, turnsOf, solvedColumn, solvedInPlace};
 ghost use Rattle.solve.specs.Calls.{zeroOnDiagonal, sizesOutside, lengthsFit, givenFinite, numbersFinite, zeroDivisor, refusalOf, solving};
 use refusals::Answer;
 
@@ -192,7 +193,7 @@ pub fn zero_on_diagonal(t: &[f64], n: usize) -> bool
     while i < n {
         let a = i * n;
         let p = a + i;
-        if blas::is_zero(t[p]) {
+        if numbers::is_zero(t[p]) {
             return true;
         }
         i += 1;
@@ -205,8 +206,8 @@ fn given_finite(pass: Pass) -> bool
     ensures { λ r. ⌜ r ≡ givenFinite pass ⌝ }
 {
     match pass {
-        Pass::GivenDiagonal(d) => blas::is_finite(d),
-        Pass::CorrectedDiagonal(d) => blas::is_finite(d),
+        Pass::GivenDiagonal(d) => numbers::is_finite(d),
+        Pass::CorrectedDiagonal(d) => numbers::is_finite(d),
         _ => true,
     }
 }
@@ -216,8 +217,8 @@ fn zero_divisor(pass: Pass, t: &[f64], n: usize) -> bool
     ensures { λ r. ⌜ r ≡ zeroDivisor pass n (now (t .entry)) ⌝ }
 {
     match pass {
-        Pass::GivenDiagonal(d) => blas::is_zero(d),
-        Pass::CorrectedDiagonal(d) => blas::is_zero(d),
+        Pass::GivenDiagonal(d) => numbers::is_zero(d),
+        Pass::CorrectedDiagonal(d) => numbers::is_zero(d),
         _ => zero_on_diagonal(t, n),
     }
 }
@@ -249,10 +250,10 @@ fn lengths_fit(t: &[f64], n: usize, b: &[f64], k: usize, x: &[f64]) -> bool
 fn numbers_finite(pass: Pass, t: &[f64], b: &[f64]) -> bool
     ensures { λ r. ⌜ r ≡ numbersFinite pass (now (t .entry)) (now (b .entry)) ⌝ }
 {
-    if !blas::all_finite(t) {
+    if !finite::all_finite(t) {
         return false;
     }
-    if !blas::all_finite(b) {
+    if !finite::all_finite(b) {
         return false;
     }
     given_finite(pass)
@@ -270,8 +271,8 @@ fn refusal(pass: Pass, t: &[f64], n: usize, b: &[f64], k: usize, x: &[f64]) -> u
 
 // Solves by the n by n matrix t for the k right-hand columns b, into x.
 fn solve_by(pass: Pass, t: &[f64], n: usize, b: &[f64], k: usize, x: &mut [f64]) -> Answer
-    ensures { λ r. ⌜ r ≡ answerOf (solving pass n k (now (t .entry)) (now (b .entry)) (now (x .entry)) .number) ⌝ }
-    ensures { λ _. ⌜ now (x .exit) ≡ solving pass n k (now (t .entry)) (now (b .entry)) (now (x .entry)) .result ⌝ }
+    ensures { λ r. ⌜ answered r ≡ solving pass n k (now (t .entry)) (now (b .entry)) (now (x .entry)) .answer ⌝ }
+    ensures { λ _. ⌜ now (x .exit) ≡ solving pass n k (now (t .entry)) (now (b .entry)) (now (x .entry)) .left ⌝ }
 {
     let number = refusal(pass, t, n, b, k, x);
     if number != 0 {
@@ -284,16 +285,16 @@ fn solve_by(pass: Pass, t: &[f64], n: usize, b: &[f64], k: usize, x: &mut [f64])
 
 // The lower triangle of t, by its own diagonal.
 pub fn solve_lower_triangular(t: &[f64], n: usize, b: &[f64], k: usize, x: &mut [f64]) -> Answer
-    ensures { λ r. ⌜ r ≡ answerOf (solving Pass.Lower n k (now (t .entry)) (now (b .entry)) (now (x .entry)) .number) ⌝ }
-    ensures { λ _. ⌜ now (x .exit) ≡ solving Pass.Lower n k (now (t .entry)) (now (b .entry)) (now (x .entry)) .result ⌝ }
+    ensures { λ r. ⌜ answered r ≡ solving Pass.Lower n k (now (t .entry)) (now (b .entry)) (now (x .entry)) .answer ⌝ }
+    ensures { λ _. ⌜ now (x .exit) ≡ solving Pass.Lower n k (now (t .entry)) (now (b .entry)) (now (x .entry)) .left ⌝ }
 {
     solve_by(Pass::Lower, t, n, b, k, x)
 }
 
 // The upper triangle of t, by its own diagonal.
 pub fn solve_upper_triangular(t: &[f64], n: usize, b: &[f64], k: usize, x: &mut [f64]) -> Answer
-    ensures { λ r. ⌜ r ≡ answerOf (solving Pass.Upper n k (now (t .entry)) (now (b .entry)) (now (x .entry)) .number) ⌝ }
-    ensures { λ _. ⌜ now (x .exit) ≡ solving Pass.Upper n k (now (t .entry)) (now (b .entry)) (now (x .entry)) .result ⌝ }
+    ensures { λ r. ⌜ answered r ≡ solving Pass.Upper n k (now (t .entry)) (now (b .entry)) (now (x .entry)) .answer ⌝ }
+    ensures { λ _. ⌜ now (x .exit) ≡ solving Pass.Upper n k (now (t .entry)) (now (b .entry)) (now (x .entry)) .left ⌝ }
 {
     solve_by(Pass::Upper, t, n, b, k, x)
 }
@@ -307,8 +308,8 @@ pub fn solve_lower_triangular_with_diag(
     x: &mut [f64],
     diag: f64,
 ) -> Answer
-    ensures { λ r. ⌜ r ≡ answerOf (solving (Pass.GivenDiagonal diag) n k (now (t .entry)) (now (b .entry)) (now (x .entry)) .number) ⌝ }
-    ensures { λ _. ⌜ now (x .exit) ≡ solving (Pass.GivenDiagonal diag) n k (now (t .entry)) (now (b .entry)) (now (x .entry)) .result ⌝ }
+    ensures { λ r. ⌜ answered r ≡ solving (Pass.GivenDiagonal diag) n k (now (t .entry)) (now (b .entry)) (now (x .entry)) .answer ⌝ }
+    ensures { λ _. ⌜ now (x .exit) ≡ solving (Pass.GivenDiagonal diag) n k (now (t .entry)) (now (b .entry)) (now (x .entry)) .left ⌝ }
 {
     solve_by(Pass::GivenDiagonal(diag), t, n, b, k, x)
 }
@@ -322,24 +323,24 @@ pub fn solve_lower_triangular_with_diag_corrected(
     x: &mut [f64],
     diag: f64,
 ) -> Answer
-    ensures { λ r. ⌜ r ≡ answerOf (solving (Pass.CorrectedDiagonal diag) n k (now (t .entry)) (now (b .entry)) (now (x .entry)) .number) ⌝ }
-    ensures { λ _. ⌜ now (x .exit) ≡ solving (Pass.CorrectedDiagonal diag) n k (now (t .entry)) (now (b .entry)) (now (x .entry)) .result ⌝ }
+    ensures { λ r. ⌜ answered r ≡ solving (Pass.CorrectedDiagonal diag) n k (now (t .entry)) (now (b .entry)) (now (x .entry)) .answer ⌝ }
+    ensures { λ _. ⌜ now (x .exit) ≡ solving (Pass.CorrectedDiagonal diag) n k (now (t .entry)) (now (b .entry)) (now (x .entry)) .left ⌝ }
 {
     solve_by(Pass::CorrectedDiagonal(diag), t, n, b, k, x)
 }
 
 // The lower triangle of t, transposed.
 pub fn tr_solve_lower_triangular(t: &[f64], n: usize, b: &[f64], k: usize, x: &mut [f64]) -> Answer
-    ensures { λ r. ⌜ r ≡ answerOf (solving Pass.TransposedLower n k (now (t .entry)) (now (b .entry)) (now (x .entry)) .number) ⌝ }
-    ensures { λ _. ⌜ now (x .exit) ≡ solving Pass.TransposedLower n k (now (t .entry)) (now (b .entry)) (now (x .entry)) .result ⌝ }
+    ensures { λ r. ⌜ answered r ≡ solving Pass.TransposedLower n k (now (t .entry)) (now (b .entry)) (now (x .entry)) .answer ⌝ }
+    ensures { λ _. ⌜ now (x .exit) ≡ solving Pass.TransposedLower n k (now (t .entry)) (now (b .entry)) (now (x .entry)) .left ⌝ }
 {
     solve_by(Pass::TransposedLower, t, n, b, k, x)
 }
 
 // The upper triangle of t, transposed.
 pub fn tr_solve_upper_triangular(t: &[f64], n: usize, b: &[f64], k: usize, x: &mut [f64]) -> Answer
-    ensures { λ r. ⌜ r ≡ answerOf (solving Pass.TransposedUpper n k (now (t .entry)) (now (b .entry)) (now (x .entry)) .number) ⌝ }
-    ensures { λ _. ⌜ now (x .exit) ≡ solving Pass.TransposedUpper n k (now (t .entry)) (now (b .entry)) (now (x .entry)) .result ⌝ }
+    ensures { λ r. ⌜ answered r ≡ solving Pass.TransposedUpper n k (now (t .entry)) (now (b .entry)) (now (x .entry)) .answer ⌝ }
+    ensures { λ _. ⌜ now (x .exit) ≡ solving Pass.TransposedUpper n k (now (t .entry)) (now (b .entry)) (now (x .entry)) .left ⌝ }
 {
     solve_by(Pass::TransposedUpper, t, n, b, k, x)
 }

@@ -12,9 +12,9 @@ use borrow.Rule.Slice.PartMut.{midOf, putMid, mid-len, set-mid-at}
 use lib.Dec.{leb, eqb}
 use lib.ListN.{length, getD, set, take, drop, length-drop, length-append, length-set, take-append-drop}
 use lib.Seq.{take-all, take-append-le, drop-append-le, take-add, drop-drop, take-at, drop-at, length-take-le, getD-take, getD-drop}
-use Rattle.blas.specs.Each.{eachFrom}
-use Rattle.blas.proofs.Choice.{and-first, and-second}
-use Rattle.blas.proofs.Each.{each-step, each-stop}
+use Rattle.numbers.specs.Each.{eachFrom}
+use Rattle.numbers.proofs.Choice.{and-first, and-second}
+use Rattle.numbers.proofs.Each.{each-step, each-stop}
 use Rattle.store.specs.Columns.{columns, flat, HasRows, isMatrix, onColumns}
 
 -- ---- the test for a matrix
@@ -28,7 +28,11 @@ pub sized : {A : Type 0} (m n : ℕ) (s : List A) → isMatrix m n s ≡ true �
 unfolding isMatrix
 sized m n s h =
     let most = and-first (leb m 64 && leb n 64) (eqb (length s) (n * m)) h in
-    record { rows-most = leb-true m 64 (and-first (leb m 64) (leb n 64) most); columns-most = leb-true n 64 (and-second (leb m 64) (leb n 64) most); size = eqb-true (length s) (n * m) (and-second (leb m 64 && leb n 64) (eqb (length s) (n * m)) h) }
+    record {
+      rows-most = leb-true m 64 (and-first (leb m 64) (leb n 64) most);
+      columns-most = leb-true n 64 (and-second (leb m 64) (leb n 64) most);
+      size = eqb-true (length s) (n * m) (and-second (leb m 64 && leb n 64) (eqb (length s) (n * m)) h);
+    }
 
 pub is-matrix : {A : Type 0} (m n : ℕ) (s : List A) → m ≤ 64 → n ≤ 64 → length s ≡ n * m → isMatrix m n s ≡ true
 unfolding isMatrix
@@ -139,7 +143,8 @@ module _ {A : Type 0} where
       full = length-take-le m s (rest-length m n s len .0)
 
   -- an entry written by its place in the store
-  pub written-at : (m n j k : ℕ) (s : List A) (v : A) → j < n → k < m → length s ≡ n * m → columns m n (set s (j * m + k) v) ≡ set (columns m n s) j (set (getD (columns m n s) j []) k v)
+  pub written-at : (m n j k : ℕ) (s : List A) (v : A) → j < n → k < m → length s ≡ n * m
+      → columns m n (set s (j * m + k) v) ≡ set (columns m n s) j (set (getD (columns m n s) j []) k v)
   written-at m n j k s v h l len =
       let full : length (midOf (j * m) m s) ≡ m = ap length (sym (column-at m n j s h)) ∙ columns-rows m n s len j (rw length-columns h) in
       ap (columns m n) (sym (set-mid-at (j * m) m k s v (rw full l)))
@@ -240,6 +245,8 @@ pub each-rows : {A : Type 0} (m : ℕ) (f : ℕ → List A → List A) (k : ℕ)
 unfolding eachFrom
 each-rows m f k [] keeps rows j h = rows j h
 each-rows m f zero (c ∷ cs) keeps rows zero h = keeps 0 c (rows 0 (omega arith))
-each-rows m f zero (c ∷ cs) keeps rows (suc j) h = each-rows m (λ i. f (suc i)) zero cs (λ i. keeps (suc i)) (λ i g. rows (suc i) (omega arith)) j (le-of-suc-le-suc h)
+each-rows m f zero (c ∷ cs) keeps rows (suc j) h =
+    each-rows m (λ i. f (suc i)) zero cs (λ i. keeps (suc i)) (λ i g. rows (suc i) (omega arith)) j (le-of-suc-le-suc h)
 each-rows m f (suc k) (c ∷ cs) keeps rows zero h = rows 0 (omega arith)
-each-rows m f (suc k) (c ∷ cs) keeps rows (suc j) h = each-rows m (λ i. f (suc i)) k cs (λ i. keeps (suc i)) (λ i g. rows (suc i) (omega arith)) j (le-of-suc-le-suc h)
+each-rows m f (suc k) (c ∷ cs) keeps rows (suc j) h =
+    each-rows m (λ i. f (suc i)) k cs (λ i. keeps (suc i)) (λ i g. rows (suc i) (omega arith)) j (le-of-suc-le-suc h)

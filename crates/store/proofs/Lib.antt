@@ -1,3 +1,5 @@
 pub mod Columns
 pub mod Steps
 pub mod Within
+pub mod Lasting
+pub mod First

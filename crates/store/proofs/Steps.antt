@@ -10,10 +10,11 @@ use lib.Dec.{ltb}
 use lib.ListN.{length, set}
 use lib.Seq.{ext-getD}
 use lib.Ieee.{Float, nan, neg}
-use Rattle.blas.specs.Each.{eachFrom}
-use Rattle.blas.specs.Column.{Column, entry, swapRows, copied}
-use Rattle.blas.proofs.Choice.{test-cases, cond-cases}
-use Rattle.blas.proofs.Each.{length-each, each-id, each-same, each-at, each-before}
+use Rattle.numbers.specs.Each.{eachFrom}
+use Rattle.numbers.specs.Column.{Column, entry}
+use Rattle.blas.specs.Blas.{swapRows, copied}
+use Rattle.numbers.proofs.Choice.{test-cases, cond-cases}
+use Rattle.numbers.proofs.Each.{length-each, each-id, each-same, each-at, each-before}
 use Rattle.blas.proofs.Exchange.{length-exchanged, exchanged-is, exchanged-out, exchanged-self}
 use Rattle.blas.proofs.Rows.{length-axpy, axpy-none, copied-whole}
 use Rattle.store.specs.Columns.{columns, HasRows, isMatrix}
@@ -24,7 +25,8 @@ use Rattle.store.proofs.Columns.{sized, length-columns, columns-rows, c
 pub rows-itself : (i p from to : ℕ) (cs : Matrix) → i ≡ p → cs ≡ rowsSwapped i p from to cs
 unfolding rowsSwapped
 rows-itself i p from to cs e =
-    rw (← e) (sym (each-id (λ j c. cond (ltb j to) (swapRows i i c) c) from cs (λ j c h. cond-cases (λ (x : Column). x ≡ c) (ltb j to) (λ t. exchanged-self nan i c) (λ t. refl))))
+    rw (← e) (sym (each-id (λ j c. cond (ltb j to) (swapRows i i c) c) from cs
+    (λ j c h. cond-cases (λ (x : Column). x ≡ c) (ltb j to) (λ t. exchanged-self nan i c) (λ t. refl))))
 
 -- ---- rows exchanged in a range of columns
 
@@ -95,7 +97,8 @@ module _ (i : ℕ) where
 -- ---- from what the calls give
 
 -- a column that was lent as a part and copied whole
-copied-column : (i m n : ℕ) (s was l : List Float) → i < n → length s ≡ n * m → length was ≡ m → l ≡ copied (midOf (i * m) (i * m + m - i * m) s) was → l ≡ column (columns m n s) i
+copied-column : (i m n : ℕ) (s was l : List Float) → i < n → length s ≡ n * m → length was ≡ m → l ≡ copied (midOf (i * m) (i * m + m - i * m) s) was
+    → l ≡ column (columns m n s) i
 copied-column i m n s was l h len fit copy =
     copy ∙ copied-whole (midOf (i * m) (i * m + m - i * m) s) was (column-length m n i s h len ∙ sym fit) ∙ part-column m n i s h
 
@@ -103,7 +106,8 @@ copied-column i m n s was l h len fit copy =
 written : (i m n : ℕ) (s c new : List Float) → i < n → length s ≡ n * m → length new ≡ m → length c ≡ length (midOf (i * m) (i * m + m - i * m) s)
     → c ≡ copied new (midOf (i * m) (i * m + m - i * m) s) → columns m n (putMid (i * m) (i * m + m - i * m) s c) ≡ set (columns m n s) i new
 written i m n s c new h len fit kept made =
-    column-lent (λ (x : Column). new) m n i s c h len kept (made ∙ copied-whole new (midOf (i * m) (i * m + m - i * m) s) (fit ∙ sym (column-length m n i s h len)))
+    column-lent (λ (x : Column). new) m n i s c h len kept
+    (made ∙ copied-whole new (midOf (i * m) (i * m + m - i * m) s) (fit ∙ sym (column-length m n i s h len)))
 
 -- a column that is not there is not exchanged
 pub swapped-none : (i j m n : ℕ) (s : List Float) → (i < n → j < n → ⊥) → columns m n s ≡ columnsSwapped i j (columns m n s)
@@ -122,7 +126,8 @@ module _ (i j m n : ℕ) (s x y x' y' c d : List Float) (hi : i < n) (hj : j < n
       let x-is : x' ≡ column cs i = copied-column i m n s x x' hi len lx from-i in
       let y-is : y' ≡ column cs j = copied-column j m n s y y' hj len ly from-j in
       let len' : length s' ≡ n * m = same-len-mid (i * m) (i * m + m - i * m) s c kc ∙ len in
-      let first : columns m n s' ≡ set cs i (column cs j) = written i m n s c y' hi len (ap length y-is ∙ columns-rows m n s len j (rw length-columns hj)) kc ec ∙ ap (set cs i) y-is in
+      let first : columns m n s' ≡ set cs i (column cs j) =
+      written i m n s c y' hi len (ap length y-is ∙ columns-rows m n s len j (rw length-columns hj)) kc ec ∙ ap (set cs i) y-is in
       written j m n s' d x' hj len' (ap length x-is ∙ columns-rows m n s len i (rw length-columns hi)) kd ed
       ∙ (λ t. set (first t) j (x-is t))
       ∙ sym (exchanged-is [] i j cs (rw length-columns hi) (rw length-columns hj))
@@ -137,7 +142,8 @@ eliminated-no-row i m cs h rows =
     let hj : j < length cs = rw length-each at k in
     test-cases (ltb j (i + 1))
     (λ t. each-before _ (i + 1) cs j [] (ltb-true j (i + 1) t))
-    (λ t. each-at _ (i + 1) cs j [] (ltb-false j (i + 1) t) hj ∙ axpy-none (i + 1) (neg (entry (column cs j) i)) l (column cs j) (rw (rows j hj) (omega arith)))))
+    (λ t. each-at _ (i + 1) cs j [] (ltb-false j (i + 1) t) hj
+    ∙ axpy-none (i + 1) (neg (entry (column cs j) i)) l (column cs j) (rw (rows j hj) (omega arith)))))
 
 -- past the last column there is none to the right, and past the last row none below
 pub eliminated-past : (i m n : ℕ) (s : List Float) → isMatrix m n s ≡ true → min m n ≤ i → columns m n s ≡ eliminated i (columns m n s)

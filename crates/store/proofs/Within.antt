@@ -1,30 +1,33 @@
 -- Step i on a column of the store that holds its multipliers too, number by number: one turn of the loop, its end, and what the columns are
 -- afterwards, which is what both a step of factoring and adding's update cite. An update reads of the other column only the rows that are still to
 -- come, so the two columns may even be one. Assumes nothing.
-use mathlib.Core.Path.{_≡_, refl, sym, ap, ap₂, _∙_}
+use mathlib.Core.Path.{_≡_, refl, sym, ap, _∙_}
 use mathlib.Core.Bool.{true}
 use mathlib.Core.List.{List, []}
-use Prim.Native.Nat.{ℕ, _+_, _*_, _≤_, _<_, min}
+use Prim.Native.Nat.{ℕ, _+_, _-_, _*_, _≤_, _<_, min}
 use native.Mathlib.Nat.{ne-of-lt}
 use native.Mathlib.Omega.{arith}
+use borrow.Rule.Slice.PartMut.{midOf, putMid}
 use borrow.Author.Tests.{ltb-true, ltb-false, eqb-true, eqb-false, eq-eqb}
 use lib.Dec.{ltb, eqb}
 use lib.ListN.{length, getD, set, length-set, List·getD-eq-default}
 use lib.Seq.{getD-set-same, getD-set-other, set-getD, set-set, set-out}
 use lib.Ieee.{Float, nan, neg, add, mul, binary64}
-use Rattle.blas.specs.Column.{Column, entry, axpyFrom}
-use Rattle.blas.proofs.Choice.{test-cases, cond-cases}
-use Rattle.blas.proofs.Each.{each-step, each-stop, each-same}
+use Rattle.numbers.specs.Column.{Column, entry}
+use Rattle.blas.specs.Blas.{axpyFrom}
+use Rattle.numbers.proofs.Choice.{test-cases, cond-cases}
+use Rattle.numbers.proofs.Each.{each-step, each-stop, each-same}
 use Rattle.blas.proofs.Rows.{axpy-none}
 use Rattle.store.specs.Columns.{columns, HasRows, isMatrix, onColumns}
-use Rattle.store.specs.Steps.{Matrix, column, stepColumn, stepColumns}
-use Rattle.store.proofs.Columns.{sized, length-columns, columns-rows, entry-at, written-at, on-columns}
+use Rattle.store.specs.Steps.{Matrix, column, stepColumn, stepColumns, steppedIn}
+use Rattle.store.proofs.Columns.{sized, length-columns, columns-rows, entry-at, column-lent, on-columns}
 use Rattle.store.proofs.Steps.{length-stepColumn}
 
 -- ---- one column of a list of columns replaced
 
 -- an entry of a list in which place j was written anew
-pub set-cases : {A : Type 0} (P : A → Type 0) (l : List A) (j k : ℕ) (a d : A) → j < length l → (k ≡ j → P a) → ((k ≡ j → ⊥) → P (getD l k d)) → P (getD (set l j a) k d)
+pub set-cases : {A : Type 0} (P : A → Type 0) (l : List A) (j k : ℕ) (a d : A) → j < length l → (k ≡ j → P a) → ((k ≡ j → ⊥) → P (getD l k d))
+    → P (getD (set l j a) k d)
 set-cases P l j k a d h same other =
     test-cases (eqb k j)
     (λ t. let e = eqb-true k j t in rw (ap (λ (x : ℕ). getD (set l j a) x d) e ∙ getD-set-same l j a d h) (same e))
@@ -74,17 +77,22 @@ module _ (i j m n : ℕ) (s : List Float) (hi : i < n) (hj : j < n) (len : lengt
   length-column c h = columns-rows m n s len c (rw length-columns h)
 
   -- the number copied
-  pub within-start : i < m → updating (neg (getD s (j * m + i) nan)) i j (i + 1) (columns m n s) ≡ set (columns m n s) j (stepColumn i (column (columns m n s) i) (column (columns m n s) j))
+  pub within-start : i < m
+      → updating (neg (getD s (j * m + i) nan)) i j (i + 1) (columns m n s) ≡ set (columns m n s) j
+      (stepColumn i (column (columns m n s) i) (column (columns m n s) j))
   unfolding stepColumn
   within-start hm = ap (λ (x : Float). updating (neg x) i j (i + 1) (columns m n s)) (entry-at m n j i s nan hj hm)
 
-  pub within-turn : (u : Float) (k : ℕ) → k < m
-      → updating u i j (k + 1) (columns m n (set s (j * m + k) (add binary64 (mul binary64 u (getD s (i * m + k) nan)) (getD s (j * m + k) nan)))) ≡ updating u i j k (columns m n s)
-  within-turn u k hk =
+  -- one entry of column j, which was lent as its part, c being the part afterwards
+  pub within-turn : (u : Float) (k : ℕ) (c : Column) → k < m
+      → length c ≡ length (midOf (j * m) (j * m + m - j * m) s)
+      → c ≡ set (midOf (j * m) (j * m + m - j * m) s) k (add binary64 (mul binary64 u (getD s (i * m + k) nan)) (entry (midOf (j * m) (j * m + m - j * m) s) k))
+      → updating u i j (k + 1) (columns m n (putMid (j * m) (j * m + m - j * m) s c)) ≡ updating u i j k (columns m n s)
+  within-turn u k c hk kept made =
       let cs = columns m n s in
       ap (λ (x : Matrix). updating u i j (k + 1) x)
-      (written-at m n j k s _ hj hk len
-      ∙ ap₂ (λ (x y : Float). set cs j (set (column cs j) k (add binary64 (mul binary64 u x) y))) (entry-at m n i k s nan hi hk) (entry-at m n j k s nan hj hk))
+      (column-lent (λ y. set y k (add binary64 (mul binary64 u (getD s (i * m + k) nan)) (entry y k))) m n j s c hj len kept made
+      ∙ ap (λ (x : Float). set cs j (set (column cs j) k (add binary64 (mul binary64 u x) (entry (column cs j) k)))) (entry-at m n i k s nan hi hk))
       ∙ update-turn u i j k cs (rw length-columns hj) (length-column i hi ∙ sym (length-column j hj)) (rw (length-column j hj) hk)
 
   pub within-stop : (u : Float) (k : ℕ) → m ≤ k → updating u i j k (columns m n s) ≡ columns m n s
@@ -97,10 +105,12 @@ module _ (i j m n : ℕ) (s : List Float) (hi : i < n) (hj : j < n) (len : lengt
 -- a column that is not there updates nothing
 stepped-none : (i : ℕ) (c : Column) → stepColumn i [] c ≡ c
 unfolding stepColumn axpyFrom
-stepped-none i c = cond-cases (λ (x : Column). x ≡ c) (eqb 0 (length c)) (λ e. let z = eqb-true 0 (length c) e in each-stop _ (i + 1) c (omega arith)) (λ e. refl)
+stepped-none i c =
+    cond-cases (λ (x : Column). x ≡ c) (eqb 0 (length c)) (λ e. let z = eqb-true 0 (length c) e in each-stop _ (i + 1) c (omega arith)) (λ e. refl)
 
 -- no column j is updated
-pub within-no-column : (i j m n : ℕ) (s : List Float) → n ≤ j → columns m n s ≡ set (columns m n s) j (stepColumn i (column (columns m n s) i) (column (columns m n s) j))
+pub within-no-column : (i j m n : ℕ) (s : List Float) → n ≤ j
+    → columns m n s ≡ set (columns m n s) j (stepColumn i (column (columns m n s) i) (column (columns m n s) j))
 within-no-column i j m n s h = sym (set-out (columns m n s) j _ (rw length-columns h))
 
 module _ (i j m n : ℕ) (s : List Float) (fits : isMatrix m n s ≡ true) (hj : j < n) where
@@ -116,14 +126,15 @@ module _ (i j m n : ℕ) (s : List Float) (fits : isMatrix m n s ≡ true) (hj :
       let stays : stepColumn i (column cs i) c ≡ c =
       test-cases (ltb i n)
       (λ t. let l : i < n = ltb-true i n t in axpy-none (i + 1) _ (column cs i) c (omega (arith, full j hj)))
-      (λ t. let l : n ≤ i = ltb-false i n t in ap (λ (x : Column). stepColumn i x c) (List·getD-eq-default cs [] {n = i} (rw length-columns l)) ∙ stepped-none i c) in
+      (λ t. let l : n ≤ i = ltb-false i n t in ap (λ (x : Column). stepColumn i x c) (List·getD-eq-default cs [] {n = i} (rw length-columns l))
+      ∙ stepped-none i c) in
       sym (ap (set cs j) stays ∙ set-getD cs j [])
 
   -- THE LAW of a step within one store: column j is stepped by column i, and the others are as they were
-  pub within-columns : (t : List Float) → t ≡ onColumns m n (λ cs. set cs j (stepColumn i (column cs i) (column cs j))) s
+  pub within-columns : (t : List Float) → t ≡ onColumns m n (steppedIn i j) s
       → columns m n t ≡ set (columns m n s) j (stepColumn i (column (columns m n s) i) (column (columns m n s) j))
   within-columns t made =
-      ap (columns m n) made ∙ on-columns m n (λ cs. set cs j (stepColumn i (column cs i) (column cs j))) s fits (length-set cs j c ∙ length-columns m n s) rows
+      ap (columns m n) made ∙ on-columns m n (steppedIn i j) s fits (length-set cs j c ∙ length-columns m n s) rows
     where
       cs : Matrix
       cs = columns m n s

@@ -3,10 +3,11 @@ use mathlib.Core.Bool.{cond}
 use mathlib.Core.List.{List, []}
 use Prim.Native.Nat.{ℕ, _+_}
 use lib.Dec.{ltb}
-use lib.ListN.{getD}
+use lib.ListN.{set, getD}
 use lib.Ieee.{neg}
-use Rattle.blas.specs.Each.{eachFrom}
-use Rattle.blas.specs.Column.{Column, entry, exchanged, swapRows, axpyFrom}
+use Rattle.numbers.specs.Each.{eachFrom}
+use Rattle.numbers.specs.Column.{Column, entry}
+use Rattle.blas.specs.Blas.{exchanged, swapRows, axpyFrom}
 
 -- a matrix is its columns from column 0 on
 abbrev pub Matrix : Type 0
@@ -32,6 +33,10 @@ columnsSwapped i j cs = exchanged [] i j cs
 -- column l holds, plus itself
 unfoldable pub stepColumn : ℕ → Column → Column → Column
 stepColumn i l c = axpyFrom (i + 1) (neg (entry c i)) l c
+
+-- that on column j of a matrix, whose column i holds the multipliers
+abbrev pub steppedIn : ℕ → ℕ → Matrix → Matrix
+steppedIn i j cs = set cs j (stepColumn i (column cs i) (column cs j))
 
 -- step 5 of step i on the columns from `from` on
 unfoldable pub stepColumns : ℕ → Column → ℕ → Matrix → Matrix

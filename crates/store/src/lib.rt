@@ -2,10 +2,12 @@
 // A slice that does not hold n columns of m entries, both at most 64, stays as it was.
 ghost use mathlib.Core.Path.{_≡_};
 ghost use mathlib.Core.Bool.{true};
-ghost use Prim.Native.Nat.{_*_, _<_, min};
+ghost use Prim.Native.Nat.{_+_, _*_, _≤_, _<_, min};
 ghost use lib.ListN.{length, set};
+ghost use lib.Ieee.{binary64, add};
+ghost use Rattle.numbers.specs.Column.{entry};
 ghost use Rattle.store.specs.Columns.{columns, isMatrix, onColumns};
-ghost use Rattle.store.specs.Steps.{column, rowsSwapped, columnsSwapped, stepColumn, eliminated};
+ghost use Rattle.store.specs.Steps.{rowsSwapped, columnsSwapped, steppedIn, eliminated};
 
 // The smaller of two numbers.
 pub fn min(a: usize, b: usize) -> usize
@@ -58,7 +60,7 @@ fn swap_columns_by(
     y: &mut [f64],
 )
     requires { ⌜ (length (now s) ≡ n * m) × (length (now x) ≡ m) × (length (now y) ≡ m) ⌝ }
-    requires { ⌜ (i < n) × (j < n) ⌝ }
+    requires { ⌜ (i < n) × (j < n) × (i * m + m ≤ length (now s)) × (j * m + m ≤ length (now s)) ⌝ }
     ensures { λ _. ⌜ columns m n (now (s .exit)) ≡ columnsSwapped i j (columns m n (now (s .entry))) ⌝ }
 {
     let a = i * m;
@@ -89,24 +91,35 @@ pub fn swap_columns(s: &mut [f64], m: usize, n: usize, i: usize, j: usize)
     swap_columns_by(s, m, n, i, j, &mut x[0..m], &mut y[0..m]);
 }
 
+// One entry of a column in step 5: p, the product of minus the pivot row's entry and the entry's multiplier, plus itself.
+fn step_entry(c: &mut [f64], k: usize, p: f64)
+    requires { ⌜ k < length (now c) ⌝ }
+    ensures { λ _. ⌜ now (c .exit) ≡ set (now (c .entry)) k (add binary64 p (entry (now (c .entry)) k)) ⌝ }
+{
+    c[k] = p + c[k];
+}
+
 // Step i on column j, by column i of the same store: each entry below row i takes minus the entry of row i, the one number copied, times its multiplier.
+// Column j is handed on as its own part of the store, to be written there.
 fn step_inner(s: &mut [f64], m: usize, n: usize, i: usize, j: usize)
     requires { ⌜ (isMatrix m n (now s) ≡ true) × (i < m) × (i < n) × (j < n) ⌝ }
-    ensures { λ _. ⌜ columns m n (now (s .exit)) ≡ set (columns m n (now (s .entry))) j (stepColumn i (column (columns m n (now (s .entry))) i) (column (columns m n (now (s .entry))) j)) ⌝ }
+    ensures { λ _. ⌜ columns m n (now (s .exit)) ≡ steppedIn i j (columns m n (now (s .entry))) ⌝ }
 {
     let a = i * m;
     let b = j * m;
+    let e = b + m;
     let u = -s[b + i];
     let mut k = i + 1;
     while k < m {
-        s[b + k] = u * s[a + k] + s[b + k];
+        let p = u * s[a + k];
+        step_entry(&mut s[b..e], k, p);
         k += 1;
     }
 }
 
 // That, where the columns and row i are there.
 pub fn step_within(s: &mut [f64], m: usize, n: usize, i: usize, j: usize)
-    ensures { λ _. ⌜ now (s .exit) ≡ onColumns m n (λ cs. set cs j (stepColumn i (column cs i) (column cs j))) (now (s .entry)) ⌝ }
+    ensures { λ _. ⌜ now (s .exit) ≡ onColumns m n (steppedIn i j) (now (s .entry)) ⌝ }
 {
     if !is_matrix(s, m, n) {
         return;

@@ -5,9 +5,9 @@ use native.Mathlib.Omega.{arith}
 use borrow.Author.Needs.{needs}
 use lib.ListN.{length}
 use lib.Ieee.{nan}
-use Rattle.blas.specs.Each.{eachFrom}
+use Rattle.numbers.specs.Each.{eachFrom}
 use Rattle.blas.specs.Dot.{addProduct}
-use Rattle.blas.proofs.Each.{each-step, each-stop}
+use Rattle.numbers.proofs.Each.{each-step, each-stop}
 use Rattle.blas.proofs.add_block.Statement.{statement}
 use Rattle.blas.proofs.add_block.Tie as tie
 

@@ -4,9 +4,9 @@ use mathlib.Core.Path.{_≡_, refl, sym, _∙_}
 use native.Mathlib.Omega.{arith}
 use borrow.Author.Needs.{needs}
 use lib.ListN.{length}
-use Rattle.blas.specs.Each.{turnsFrom}
+use Rattle.numbers.specs.Each.{turnsFrom}
 use Rattle.blas.specs.Dot.{addProduct}
-use Rattle.blas.proofs.Each.{turns-next, turns-done}
+use Rattle.numbers.proofs.Each.{turns-next, turns-done}
 use Rattle.blas.proofs.add_rest.Statement.{statement}
 use Rattle.blas.proofs.add_rest.Tie as tie
 

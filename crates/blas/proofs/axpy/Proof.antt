@@ -6,9 +6,10 @@ use borrow.Author.Needs.{needs}
 use borrow.Author.Tests.{eq-eqb, ne-eqb}
 use lib.ListN.{length}
 use lib.Ieee.{Float, nan, add, mul, binary64}
-use Rattle.blas.specs.Each.{eachFrom}
-use Rattle.blas.specs.Column.{Column, entry, axpyFrom}
-use Rattle.blas.proofs.Each.{each-step, each-stop}
+use Rattle.numbers.specs.Each.{eachFrom}
+use Rattle.numbers.specs.Column.{Column, entry}
+use Rattle.blas.specs.Blas.{axpyFrom}
+use Rattle.numbers.proofs.Each.{each-step, each-stop}
 use Rattle.blas.proofs.axpy.Statement.{statement}
 use Rattle.blas.proofs.axpy.Tie as tie
 

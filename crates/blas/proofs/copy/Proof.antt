@@ -6,9 +6,10 @@ use borrow.Author.Needs.{needs}
 use borrow.Author.Tests.{eq-eqb, ne-eqb}
 use lib.ListN.{length}
 use lib.Ieee.{nan}
-use Rattle.blas.specs.Each.{eachFrom}
-use Rattle.blas.specs.Column.{copied, entry}
-use Rattle.blas.proofs.Each.{each-step, each-stop, each-over}
+use Rattle.numbers.specs.Each.{eachFrom}
+use Rattle.blas.specs.Blas.{copied}
+use Rattle.numbers.specs.Column.{entry}
+use Rattle.numbers.proofs.Each.{each-step, each-stop, each-over}
 use Rattle.blas.proofs.copy.Statement.{statement}
 use Rattle.blas.proofs.copy.Tie as tie
 

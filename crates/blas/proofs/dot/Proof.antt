@@ -6,10 +6,10 @@ use borrow.Author.Needs.{needs}
 use borrow.Author.Tests.{ne-eqb}
 use lib.ListN.{length, length-take, length-drop}
 use lib.Ieee.{div, ofBits}
-use Rattle.blas.specs.Each.{turnsFrom}
+use Rattle.numbers.specs.Each.{turnsFrom}
 use Rattle.blas.specs.Dot.{addBlock, eightSums, pairSums, dotOf}
 use Rattle.blas.proofs.Sum.{block-added, dot-done}
-use Rattle.blas.proofs.Each.{turns-begin, turns-next, turns-done}
+use Rattle.numbers.proofs.Each.{turns-begin, turns-next, turns-done}
 use Rattle.blas.proofs.dot.Statement.{statement}
 use Rattle.blas.proofs.dot.Tie as tie
 
@@ -40,15 +40,22 @@ loop-again c =
     let at-loop = at-loop-test .before in
     let at-start = at-loop .before .before .before .before in
     let l = at-loop .loop in
-    let k = at-add-block .add-block in
-    (k .kept .0 ∙ l .inv .0, turns-next (addBlock (at-start .args .x .now) (at-start .args .y .now)) _ _ _ _ (at-loop-test .loop-test .taken) (block-added (at-start .args .x .now) (at-start .args .y .now) _ _ _ (k .ensures)) ∙ l .inv .1)
+    let k = at-add-block .add-block in (
+      k .kept .0 ∙ l .inv .0,
+      turns-next (addBlock (at-start .args .x .now) (at-start .args .y .now)) _ _ _ _ (at-loop-test .loop-test .taken)
+          (block-added (at-start .args .x .now) (at-start .args .y .now) _ _ _ (k .ensures)) ∙ l .inv .1,
+    )
 
 add-rest-requires : tie.Need-add-rest-requires Inv-loop μ-loop
 add-rest-requires c κs = c .before .before .if1 .left
 
 returns-2 : tie.Need-returns-2 Inv-loop μ-loop
 unfolding pairSums
-returns-2 c = dot-done _ _ (c .before .before .loop .acc) _ (c .before .before .before .if1 .left) (sym (turns-done _ _ _ _ (c .before .loop-test .left)) ∙ (c .before .before .loop .inv .1)) (c .add-rest .ensures)
+returns-2 c =
+    let at-loop = c .before .before in
+    let at-if1 = at-loop .before in
+    dot-done _ _ (at-loop .loop .acc) _ (at-if1 .if1 .left) (sym (turns-done _ _ _ _ (c .before .loop-test .left)) ∙ (at-loop .loop .inv .1))
+    (c .add-rest .ensures)
 
 pub dot-spec : {M : Type 1} → statement M
 dot-spec =

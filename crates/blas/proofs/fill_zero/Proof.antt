@@ -5,10 +5,10 @@ use native.Mathlib.Omega.{arith}
 use borrow.Author.Needs.{needs}
 use lib.ListN.{length}
 use lib.Ieee.{nan}
-use Rattle.blas.specs.Each.{eachFrom}
-use Rattle.blas.specs.Numbers.{zero64}
-use Rattle.blas.specs.Column.{zeros}
-use Rattle.blas.proofs.Each.{each-step, each-stop, each-fill}
+use Rattle.numbers.specs.Each.{eachFrom}
+use Rattle.numbers.specs.Numbers.{zero64}
+use Rattle.numbers.specs.Column.{zeros}
+use Rattle.numbers.proofs.Each.{each-step, each-stop, each-fill}
 use Rattle.blas.proofs.fill_zero.Statement.{statement}
 use Rattle.blas.proofs.fill_zero.Tie as tie
 

@@ -5,8 +5,8 @@ use native.Mathlib.Omega.{arith}
 use borrow.Author.Needs.{needs}
 use lib.ListN.{length}
 use lib.Ieee.{nan}
-use Rattle.blas.specs.Column.{scaleFrom}
-use Rattle.blas.proofs.Each.{each-step, each-stop}
+use Rattle.blas.specs.Blas.{scaleFrom}
+use Rattle.numbers.proofs.Each.{each-step, each-stop}
 use Rattle.blas.proofs.scale.Statement.{statement}
 use Rattle.blas.proofs.scale.Tie as tie
 

@@ -1,7 +1,7 @@
 -- Two stores, by the tests of both places. Assumes nothing.
 use borrow.Author.Needs.{needs}
 use borrow.Author.Tests.{lt-ltb, le-ltb}
-use Rattle.blas.specs.Column.{exchanged}
+use Rattle.blas.specs.Blas.{exchanged}
 use Rattle.blas.proofs.swap.Statement.{statement}
 use Rattle.blas.proofs.swap.Tie as tie
 
@@ -15,7 +15,9 @@ returns-2 c = rw (lt-ltb _ _ (c .before .if1 .left), le-ltb _ _ (c .if2 .taken))
 
 returns-3 : tie.Need-returns-3
 unfolding exchanged
-returns-3 c = rw (lt-ltb _ _ (c .before .before .before .if1 .left), lt-ltb _ _ (c .before .before .if2 .left))
+returns-3 c =
+    let at-if1 = c .before .before .before in
+    rw (lt-ltb _ _ (at-if1 .if1 .left), lt-ltb _ _ (c .before .before .if2 .left))
 
 pub swap-spec : {M : Type 1} → statement M
 swap-spec =

@@ -7,14 +7,14 @@ use Rattle.ffi.proofs.wejdarox_pad_order.Tie as tie
 returns : tie.Need-returns
 returns c =
     let p = c .before .before .before .pad-order .ensures in
-    let o = pads-told _ _ _ _ (p .0) _ (c .before .n .given .1) in
-    (o .0, (p .1 .0, (p .1 .1, o .1)))
+    let o = pads-told _ _ (p .0) _ _ (c .before .n .given .1) in
+    (o .0, (p .1 .0, (p .1 .1 .0, (o .1 .0, o .1 .1))))
 
 returns-2 : tie.Need-returns-2
 returns-2 c =
     let p = c .before .before .before .pad-order .ensures in
-    let o = no-pads-told _ _ _ _ (p .0) _ (c .before .number .given .1) in
-    (o .0, (p .1 .0, (p .1 .1, o .1)))
+    let o = no-pads-told _ _ (p .0) _ (c .before .number .given .1) in
+    (o .0, (p .1 .0, (p .1 .1 .0, (o .1 .0, o .1 .1))))
 
 pub wejdarox-pad-order-spec : {M : Type 1} → statement M
 wejdarox-pad-order-spec =

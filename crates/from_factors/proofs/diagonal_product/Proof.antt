@@ -4,8 +4,8 @@ use mathlib.Core.Path.{_≡_, sym, ap, _∙_}
 use native.Mathlib.Omega.{arith}
 use lib.ListN.{length}
 use lib.Ieee.{nan, mul, binary64}
-use Rattle.blas.specs.Each.{turnsFrom}
-use Rattle.blas.proofs.Each.{turns-begin, turns-next, turns-done}
+use Rattle.numbers.specs.Each.{turnsFrom}
+use Rattle.numbers.proofs.Each.{turns-begin, turns-next, turns-done}
 use Rattle.store.specs.Columns.{columns}
 use Rattle.store.proofs.Columns.{sized, column-within, entry-at}
 use Rattle.from_factors.specs.Determinant.{timesDiagonal, diagonalProduct}
@@ -19,7 +19,8 @@ abbrev μ-loop : tie.MeasureT-loop
 μ-loop factors n res₀ i₀ res i = n - i
 
 -- in a turn, column i ends within the factors
-within : (c : tie.In-loop Inv-loop μ-loop) → (c .before .loop .i) * (c .before .before .args .n) + (c .before .before .args .n) ≤ length (c .before .before .args .factors .now)
+within : (c : tie.In-loop Inv-loop μ-loop)
+    → (c .before .loop .i) * (c .before .before .args .n) + (c .before .before .args .n) ≤ length (c .before .before .args .factors .now)
 within c = column-within _ _ _ (c .before .before .args .factors .now) (c .loop-test .taken) (sized _ _ _ (c .before .before .pre) .size)
 
 loop-holds : tie.Need-loop-holds Inv-loop μ-loop
@@ -33,7 +34,8 @@ loop-again : tie.Need-loop-again Inv-loop μ-loop
 unfolding timesDiagonal
 loop-again c = let g = c .before .before .before .args in
     let l = c .before .before .loop in
-    turns-next (timesDiagonal (columns g.n g.n (g .factors .now))) _ _ _ _ (c .before .loop-test .taken) (ap (mul binary64 (l .res)) (entry-at g.n g.n (l .i) (l .i) (g .factors .now) nan (c .before .loop-test .taken) (c .before .loop-test .taken))) ∙ l .inv
+    turns-next (timesDiagonal (columns g.n g.n (g .factors .now))) _ _ _ _ (c .before .loop-test .taken)
+    (ap (mul binary64 (l .res)) (entry-at g.n g.n (l .i) (l .i) (g .factors .now) nan (c .before .loop-test .taken) (c .before .loop-test .taken))) ∙ l .inv
 
 returns : tie.Need-returns Inv-loop μ-loop
 returns c = sym (turns-done _ _ _ _ (c .loop-test .left)) ∙ (c .before .loop .inv)

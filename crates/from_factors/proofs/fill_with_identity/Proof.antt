@@ -19,7 +19,9 @@ abbrev μ-loop : tie.MeasureT-loop
 whole : (c : tie.Start Inv-loop μ-loop) → length (c .args .x .now) ≡ c .args .n * c .args .n
 whole c = sized _ _ _ (c .pre) .size
 
-within : (c : tie.In-loop Inv-loop μ-loop) → (c .before .loop .j) * (c .before .before .before .args .n) + (c .before .before .before .args .n) ≤ (c .before .before .before .args .n) * (c .before .before .before .args .n)
+within : (c : tie.In-loop Inv-loop μ-loop)
+    → (c .before .loop .j) * (c .before .before .before .args .n) + (c .before .before .before .args .n) ≤ (c .before .before .before .args .n) *
+    (c .before .before .before .args .n)
 within c = column-end _ _ _ (c .loop-test .taken)
 
 loop-holds : tie.Need-loop-holds Inv-loop μ-loop
@@ -47,7 +49,8 @@ loop-again c =
     let l = at-loop .loop in
     let k = at-unit-column .unit-column in
     let t = at-loop-test .loop-test .taken in
-    written-turn (unitColumn n) _ _ _ _ _ t (l .inv) (k .kept .0) (k .ensures ∙ ap (λ (i : ℕ). unitColumn i (l .j)) (column-length n n (l .j) (l .x) t (l .inv .size)))
+    written-turn (unitColumn n) _ _ _ _ _ t (l .inv) (k .kept .0) (k .ensures ∙ ap (λ (i : ℕ). unitColumn i (l .j))
+    (column-length n n (l .j) (l .x) t (l .inv .size)))
 
 same-length : tie.Need-same-length Inv-loop μ-loop
 same-length c = c .before .loop .inv .size ∙ sym (whole (c .before .before .before))

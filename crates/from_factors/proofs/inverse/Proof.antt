@@ -2,19 +2,26 @@
 use mathlib.Core.Path.{_≡_, refl, sym, _∙_}
 use borrow.Author.Needs.{needs}
 use Rattle.store.proofs.Columns.{same-matrix}
-use Rattle.from_factors.specs.Taken.{takenRefusal}
+use Rattle.factors.specs.Held.{heldRefusal}
 use Rattle.from_factors.specs.Solving.{inverseAsks, solved, inverting}
-use Rattle.from_factors.proofs.Taken.{Passed, passed, square-matrix, square-list, promise-refused, promise-solved}
+use Rattle.refusals.proofs.Outcomes.{promise-refused}
+use Rattle.factors.proofs.Held.{Passed, passed, square-matrix, square-list}
+use Rattle.from_factors.proofs.Promises.{promise-solved}
 use Rattle.from_factors.proofs.inverse.Statement.{statement}
 use Rattle.from_factors.proofs.inverse.Tie as tie
 
+-- where the function begins, of the places after the tests
+abbrev start : tie.After-held-refusal → tie.Start
+start c = let at-asks = c .before .before .before .before .before in at-asks .before
+
 -- the number is that of the tests
-number-is : (c : tie.After-taken-refusal) → let g = c .before .before .before .before .before .before .args in
-    c .taken-refusal .result ≡ takenRefusal (inverseAsks (g .told .rows) (g .x .now)) (g .told) (g .factors .now) (g .swaps .now)
-number-is c = rw (c .before .is-matrix .ensures) at (c .taken-refusal .ensures)
+number-is : (c : tie.After-held-refusal) → let g = start c .args in
+    c .held-refusal .result ≡ heldRefusal (g .factors .now) (g .swaps .now) (g .told) (inverseAsks (g .told .rows) (g .x .now))
+number-is c = rw (c .before .is-matrix .ensures) at (c .held-refusal .ensures)
 
 -- past the tests
-past : (c : tie.Else1) → let g = c .before .before .before .before .before .before .before .args in Passed (inverseAsks (g .told .rows) (g .x .now)) (g .told) (g .factors .now) (g .swaps .now)
+past : (c : tie.Else1) → let g = start (c .before) .args in
+    Passed (g .factors .now) (g .swaps .now) (g .told) (inverseAsks (g .told .rows) (g .x .now))
 past c = passed _ _ _ _ (sym (number-is (c .before)) ∙ c .if1 .left)
 
 returns : tie.Need-returns
@@ -28,9 +35,15 @@ solve-mut-requires : tie.Need-solve-mut-requires
 solve-mut-requires c κs =
     let at-fill-with-identity = c .before .before .before in
     let at-if1 = at-fill-with-identity .before .before in
-    let at-start = at-if1 .before .before .before .before .before .before .before in
-    let p = past at-if1 in
-    ((square-matrix _ _ _ _ refl p, same-matrix (at-start .args .told .rows) (at-start .args .told .rows) (at-start .args .x .now) _ (at-fill-with-identity .fill-with-identity .kept .0) ∙ p .lengths), square-list _ _ _ _ refl p)
+    let at-start = start (at-if1 .before) in
+    let p = past at-if1 in (
+      (
+        square-matrix _ _ _ _ refl p,
+        same-matrix (at-start .args .told .rows) (at-start .args .told .rows) (at-start .args .x .now) _
+            (at-fill-with-identity .fill-with-identity .kept .0) ∙ p .lengths,
+      ),
+      square-list _ _ _ _ refl p,
+    )
 
 returns-2 : tie.Need-returns-2
 unfolding inverting
@@ -39,9 +52,10 @@ returns-2 c =
     let at-solve-mut = at-settle .before .before .before .before in
     let at-fill-with-identity = at-solve-mut .before .before .before .before in
     let at-if1 = at-fill-with-identity .before .before in
-    let at-taken-refusal = at-if1 .before in
-    let told = at-taken-refusal .before .before .before .before .before .before .args .told in
-    promise-solved solved told _ _ _ _ _ _ _ _ _ _ _ (number-is at-taken-refusal) (at-if1 .if1 .left) (at-solve-mut .solve-mut .ensures) (at-fill-with-identity .fill-with-identity .ensures) (at-settle .settle .ensures .0) (c .answer-for2 .ensures) (at-settle .settle .ensures .1)
+    let at-held-refusal = at-if1 .before in
+    let told = start at-held-refusal .args .told in
+    promise-solved solved told _ _ _ _ _ _ _ _ _ _ _ (number-is at-held-refusal) (at-if1 .if1 .left) (at-solve-mut .solve-mut .ensures)
+    (at-fill-with-identity .fill-with-identity .ensures) (at-settle .settle .ensures .0) (c .answer-for2 .ensures) (at-settle .settle .ensures .1)
 
 pub inverse-spec : {M : Type 1} → statement M
 inverse-spec =

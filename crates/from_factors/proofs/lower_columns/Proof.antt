@@ -3,7 +3,7 @@ use Prim.Native.Nat.{ℕ, _-_, _*_, _+_, _≤_}
 use mathlib.Core.Path.{sym, ap, _∙_}
 use native.Mathlib.Omega.{arith}
 use lib.ListN.{length}
-use Rattle.blas.specs.Column.{Column}
+use Rattle.numbers.specs.Column.{Column}
 use Rattle.store.specs.Columns.{columns}
 use Rattle.store.specs.Steps.{column}
 use Rattle.store.proofs.Columns.{sized, column-within, column-length, part-column}
@@ -23,11 +23,16 @@ abbrev μ-loop : tie.MeasureT-loop
 μ-loop out₀ m n k factors j₀ out j = k - j
 
 -- in a turn, column j ends within the slice and within the factors
-within : (c : tie.In-loop Inv-loop μ-loop) → (c .before .loop .j) * (c .before .before .before .before .args .m) + (c .before .before .before .before .args .m) ≤ length (c .before .loop .out)
+within : (c : tie.In-loop Inv-loop μ-loop)
+    → (c .before .loop .j) * (c .before .before .before .before .args .m) + (c .before .before .before .before .args .m) ≤ length (c .before .loop .out)
 within c = column-within _ _ _ (c .before .loop .out) (c .loop-test .taken) (c .before .loop .inv .size)
 
-within-factors : (c : tie.In-loop Inv-loop μ-loop) → (c .before .loop .j) * (c .before .before .before .before .args .m) + (c .before .before .before .before .args .m) ≤ length (c .before .before .before .before .args .factors .now)
-within-factors c = column-within _ (c .before .before .before .before .args .n) _ (c .before .before .before .before .args .factors .now) (omega arith) (sized _ _ _ (c .before .before .before .before .pre .0) .size)
+within-factors : (c : tie.In-loop Inv-loop μ-loop)
+    → (c .before .loop .j) * (c .before .before .before .before .args .m) + (c .before .before .before .before .args .m) ≤ length
+    (c .before .before .before .before .args .factors .now)
+within-factors c =
+    column-within _ (c .before .before .before .before .args .n) _ (c .before .before .before .before .args .factors .now) (omega arith)
+    (sized _ _ _ (c .before .before .before .before .pre .0) .size)
 
 loop-holds : tie.Need-loop-holds Inv-loop μ-loop
 loop-holds c = written-start _ _ _ _ (c .before .before .pre .1)
@@ -55,7 +60,8 @@ loop-again c =
     let g = at-start .args in
     let l = at-loop .loop in
     let k = at-lower-column .lower-column in
-    written-turn (lower (g .m) (g .n) (g .factors .now)) _ _ _ _ _ (at-loop-test .loop-test .taken) (l .inv) (k .kept .0) (k .ensures ∙ ap (lowerOf (l .j)) (part-column (g .m) (g .n) (l .j) (g .factors .now) (omega arith)))
+    written-turn (lower (g .m) (g .n) (g .factors .now)) _ _ _ _ _ (at-loop-test .loop-test .taken) (l .inv) (k .kept .0)
+    (k .ensures ∙ ap (lowerOf (l .j)) (part-column (g .m) (g .n) (l .j) (g .factors .now) (omega arith)))
 
 same-length : tie.Need-same-length Inv-loop μ-loop
 same-length c =

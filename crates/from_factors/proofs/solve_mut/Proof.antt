@@ -14,7 +14,10 @@ returns c =
     let at-apply-to-rows = at-solve-in-place .before .before .before .before in
     let at-start = at-apply-to-rows .before .before .before .before .before in
     let n = at-start .args .told .rows in
-    passes-solve n _ n _ _ _ _ _ _ _ (at-start .pre .0 .0) (at-start .pre .0 .1) (at-start .pre .1) (at-apply-to-rows .apply-to-rows .ensures) (at-apply-to-rows .apply-to-rows .kept .0) (at-solve-in-place .solve-in-place .ensures ∙ same-by-one n _ _ _ (at-solve-in-place .before .before .slice-known2 .given)) (at-solve-in-place .solve-in-place .kept .1 .1 .1 .0) (at-solve-in-place2 .solve-in-place2 .ensures) (at-solve-in-place2 .solve-in-place2 .kept .1 .1 .1 .0)
+    passes-solve n _ n _ _ _ _ _ _ _ (at-start .pre .0 .0) (at-start .pre .0 .1) (at-start .pre .1) (at-apply-to-rows .apply-to-rows .ensures)
+    (at-apply-to-rows .apply-to-rows .kept .0) (at-solve-in-place .solve-in-place .ensures ∙ same-by-one n _ _ _
+    (at-solve-in-place .before .before .slice-known2 .given)) (at-solve-in-place .solve-in-place .kept .1 .1 .1 .0)
+    (at-solve-in-place2 .solve-in-place2 .ensures) (at-solve-in-place2 .solve-in-place2 .kept .1 .1 .1 .0)
 
 pub solve-mut-spec : {M : Type 1} → statement M
 solve-mut-spec =

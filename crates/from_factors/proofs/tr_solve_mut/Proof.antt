@@ -11,7 +11,9 @@ returns c =
     let at-solve-in-place = at-solve-in-place2 .before .before .before .before in
     let at-start = at-solve-in-place .before .before .before .before .before in
     let n = at-start .args .told .rows in
-    passes-tr-solve n _ n _ _ _ _ _ _ _ (at-start .pre .0 .0) (at-start .pre .0 .1) (at-start .pre .1) (at-solve-in-place .solve-in-place .ensures) (at-solve-in-place .solve-in-place .kept .1 .1 .1 .0) (at-solve-in-place2 .solve-in-place2 .ensures) (at-solve-in-place2 .solve-in-place2 .kept .1 .1 .1 .0) (at-apply-to-rows .apply-to-rows .ensures) (at-apply-to-rows .apply-to-rows .kept .0)
+    passes-tr-solve n _ n _ _ _ _ _ _ _ (at-start .pre .0 .0) (at-start .pre .0 .1) (at-start .pre .1) (at-solve-in-place .solve-in-place .ensures)
+    (at-solve-in-place .solve-in-place .kept .1 .1 .1 .0) (at-solve-in-place2 .solve-in-place2 .ensures)
+    (at-solve-in-place2 .solve-in-place2 .kept .1 .1 .1 .0) (at-apply-to-rows .apply-to-rows .ensures) (at-apply-to-rows .apply-to-rows .kept .0)
 
 pub tr-solve-mut-spec : {M : Type 1} → statement M
 tr-solve-mut-spec =

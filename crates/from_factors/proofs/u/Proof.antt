@@ -1,22 +1,29 @@
 -- Refused by the tests, or the columns of U. Assumes nothing.
-use mathlib.Core.Path.{_≡_, refl, sym, _∙_}
+use mathlib.Core.Path.{_≡_, sym, _∙_}
 use native.Mathlib.Omega.{arith}
 use Prim.Native.Nat.{min}
 use borrow.Author.Needs.{needs}
-use Rattle.refusals.specs.Refusals.{answerOf}
-use Rattle.from_factors.specs.Taken.{takenRefusal}
+use Rattle.factors.specs.Held.{heldRefusal}
 use Rattle.from_factors.specs.Triangles.{readAsks, uppering}
-use Rattle.from_factors.proofs.Taken.{Passed, passed, promise-refused, promise-made}
+use Rattle.refusals.proofs.Outcomes.{promise-refused}
+use Rattle.factors.proofs.Held.{Passed, passed}
+use Rattle.from_factors.proofs.Promises.{promise-read}
 use Rattle.from_factors.proofs.u.Statement.{statement}
 use Rattle.from_factors.proofs.u.Tie as tie
 
+-- where the function begins, of the places after the tests
+abbrev start : tie.After-held-refusal → tie.Start
+start c = let at-asks = c .before .before .before in at-asks .before .before .before .before
+
 -- the number is that of the tests
-number-is : (c : tie.After-taken-refusal) → let g = c .before .before .before .before .before .before .before .args in
-    c .taken-refusal .result ≡ takenRefusal (readAsks (min (g .told .rows) (g .told .columns)) (g .told .columns) (g .out .now)) (g .told) (g .factors .now) (g .swaps .now)
-number-is c = rw (c .before .is-matrix .ensures, c .before .before .before .min .ensures) at (c .taken-refusal .ensures)
+number-is : (c : tie.After-held-refusal) → let g = start c .args in
+    c .held-refusal .result ≡ heldRefusal (g .factors .now) (g .swaps .now) (g .told)
+    (readAsks (min (g .told .rows) (g .told .columns)) (g .told .columns) (g .out .now))
+number-is c = rw (c .before .is-matrix .ensures, c .before .before .before .min .ensures) at (c .held-refusal .ensures)
 
 -- past the tests
-past : (c : tie.Else1) → let g = c .before .before .before .before .before .before .before .before .args in Passed (readAsks (min (g .told .rows) (g .told .columns)) (g .told .columns) (g .out .now)) (g .told) (g .factors .now) (g .swaps .now)
+past : (c : tie.Else1) → let g = start (c .before) .args in
+    Passed (g .factors .now) (g .swaps .now) (g .told) (readAsks (min (g .told .rows) (g .told .columns)) (g .told .columns) (g .out .now))
 past c = passed _ _ _ _ (sym (number-is (c .before)) ∙ c .if1 .left)
 
 returns : tie.Need-returns
@@ -32,13 +39,13 @@ upper-columns-requires c κs =
     (p .matrix, rw e (p .lengths), omega arith)
 
 returns-2 : tie.Need-returns-2
-unfolding uppering answerOf
+unfolding uppering
 returns-2 c =
     let at-upper-columns = c .before .before in
     let at-if1 = at-upper-columns .before .before in
-    let at-taken-refusal = at-if1 .before in
-    let at-min = at-taken-refusal .before .before .before in
-    promise-made _ _ _ _ _ _ (number-is at-taken-refusal) (at-if1 .if1 .left) refl (rw (at-min .min .ensures) at (at-upper-columns .upper-columns .ensures))
+    let at-held-refusal = at-if1 .before in
+    let at-min = at-held-refusal .before .before .before in
+    promise-read _ _ _ _ _ (number-is at-held-refusal) (at-if1 .if1 .left) (rw (at-min .min .ensures) at (at-upper-columns .upper-columns .ensures))
 
 pub u-spec : {M : Type 1} → statement M
 u-spec =

@@ -2,7 +2,7 @@
 use mathlib.Core.Path.{ap}
 use borrow.Author.Needs.{needs}
 use lib.ListN.{set}
-use Rattle.blas.specs.Numbers.{one64}
+use Rattle.numbers.specs.Numbers.{one64}
 use Rattle.from_factors.specs.Solving.{unitColumn}
 use Rattle.from_factors.proofs.unit_column.Statement.{statement}
 use Rattle.from_factors.proofs.unit_column.Tie as tie

@@ -15,7 +15,8 @@ returns c =
     let at-if1 = at-fill-zero .before .before in
     let at-copy = at-if1 .before .before .before in
     let at-start = at-copy .before .before .before .before .before in
-    upper-written _ (at-start .args .src .now) (at-start .args .dst .now) _ (at-start .pre) (at-copy .copy .ensures) _ (at-if1 .if1 .taken) (at-fill-zero .fill-zero .ensures)
+    upper-written _ (at-start .args .src .now) (at-start .args .dst .now) _ (at-start .pre) (at-copy .copy .ensures) _ (at-if1 .if1 .taken)
+    (at-fill-zero .fill-zero .ensures)
 
 returns-2 : tie.Need-returns-2
 returns-2 c =

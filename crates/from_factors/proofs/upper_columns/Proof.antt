@@ -3,7 +3,7 @@ use Prim.Native.Nat.{ℕ, _-_, _*_, _+_, _≤_}
 use mathlib.Core.Path.{_≡_, sym, ap₂, _∙_}
 use native.Mathlib.Omega.{arith}
 use lib.ListN.{length}
-use Rattle.blas.specs.Column.{Column}
+use Rattle.numbers.specs.Column.{Column}
 use Rattle.store.specs.Columns.{columns}
 use Rattle.store.specs.Steps.{column}
 use Rattle.store.proofs.Columns.{sized, column-end, column-within, column-length, part-column}
@@ -26,11 +26,17 @@ abbrev μ-loop : tie.MeasureT-loop
 whole : (c : tie.Start Inv-loop μ-loop) → length (c .args .out .now) ≡ c .args .n * c .args .k
 whole c = sized _ _ _ (c .pre .1) .size
 
-within : (c : tie.In-loop Inv-loop μ-loop) → (c .before .loop .j) * (c .before .before .before .before .args .k) + (c .before .before .before .before .args .k) ≤ (c .before .before .before .before .args .n) * (c .before .before .before .before .args .k)
+within : (c : tie.In-loop Inv-loop μ-loop)
+    → (c .before .loop .j) * (c .before .before .before .before .args .k) + (c .before .before .before .before .args .k) ≤
+    (c .before .before .before .before .args .n) * (c .before .before .before .before .args .k)
 within c = column-end _ _ _ (c .loop-test .taken)
 
-within-factors : (c : tie.In-loop Inv-loop μ-loop) → (c .before .loop .j) * (c .before .before .before .before .args .m) + (c .before .before .before .before .args .m) ≤ length (c .before .before .before .before .args .factors .now)
-within-factors c = column-within _ (c .before .before .before .before .args .n) _ (c .before .before .before .before .args .factors .now) (c .loop-test .taken) (sized _ _ _ (c .before .before .before .before .pre .0) .size)
+within-factors : (c : tie.In-loop Inv-loop μ-loop)
+    → (c .before .loop .j) * (c .before .before .before .before .args .m) + (c .before .before .before .before .args .m) ≤ length
+    (c .before .before .before .before .args .factors .now)
+within-factors c =
+    column-within _ (c .before .before .before .before .args .n) _ (c .before .before .before .before .args .factors .now) (c .loop-test .taken)
+    (sized _ _ _ (c .before .before .before .before .pre .0) .size)
 
 loop-holds : tie.Need-loop-holds Inv-loop μ-loop
 loop-holds c = written-start _ _ _ _ (c .before .before .pre .1)
@@ -59,7 +65,9 @@ loop-again c =
     let l = at-loop .loop in
     let k = at-upper-column .upper-column in
     let t = at-loop-test .loop-test .taken in
-    written-turn (upper (g .k) (g .m) (g .n) (g .factors .now)) _ _ _ _ _ t (l .inv) (k .kept .0) (k .ensures ∙ ap₂ (λ (i : ℕ) (x : Column). upperOf i (l .j) x) (column-length (g .k) (g .n) (l .j) (l .out) t (l .inv .size)) (part-column (g .m) (g .n) (l .j) (g .factors .now) t))
+    written-turn (upper (g .k) (g .m) (g .n) (g .factors .now)) _ _ _ _ _ t (l .inv) (k .kept .0)
+    (k .ensures ∙ ap₂ (λ (i : ℕ) (x : Column). upperOf i (l .j) x) (column-length (g .k) (g .n) (l .j) (l .out) t (l .inv .size))
+    (part-column (g .m) (g .n) (l .j) (g .factors .now) t))
 
 same-length : tie.Need-same-length Inv-loop μ-loop
 same-length c =
@@ -91,7 +99,12 @@ upper-columns-spec =
     (λ c. omega (arith, within (c .before), within-factors (c .before), whole (c .before .before .before .before .before)))
     (λ c. omega (arith, within (c .before), within-factors (c .before), whole (c .before .before .before .before .before)))
     upper-column-requires
-    (λ c. omega (arith, within (c .before .before .before .before .before), within-factors (c .before .before .before .before .before), whole (c .before .before .before .before .before .before .before .before .before)))
+    (λ c. omega (
+      arith,
+      within (c .before .before .before .before .before),
+      within-factors (c .before .before .before .before .before),
+      whole (c .before .before .before .before .before .before .before .before .before),
+    ))
     loop-less
     loop-again
     same-length

@@ -6,36 +6,52 @@ use mathlib.Core.List.{[]}
 use native.Mathlib.Omega.{arith}
 use borrow.Author.Needs.{needs}
 use lib.ListN.{length}
-use Rattle.blas.specs.Each.{turnsFrom}
+use Rattle.numbers.specs.Each.{turnsFrom}
 use Rattle.store.specs.Columns.{columns}
 use Rattle.store.proofs.Columns.{sized, same-matrix}
-use Rattle.lu.specs.Elimination.{Factors, step, unfactored, eliminate}
-use Rattle.lu.specs.Held.{Held}
-use Rattle.lu.specs.TossUps.{tossFrom, tossUps}
+use Rattle.factors.specs.Factors.{Factors}
+use Rattle.elimination.specs.Elimination.{step, unfactored, eliminate}
+use Rattle.lu.specs.Inner.{Held}
+use Rattle.elimination.specs.TossUps.{tossFrom, tossUps}
 use Rattle.lu.proofs.Slices.{held-unfactored, steps-begin}
-use Rattle.lu.proofs.Step.{turns-join}
-use Rattle.lu.proofs.Swaps.{length-store}
-use Rattle.lu.proofs.Tossing.{toss-begin, toss-join}
+use Rattle.elimination.proofs.Step.{turns-join}
+use Rattle.factors.proofs.Swaps.{length-store}
+use Rattle.elimination.proofs.Tossing.{toss-begin, toss-join}
 use Rattle.lu.proofs.factor_in_place.Statement.{statement}
 use Rattle.lu.proofs.factor_in_place.Tie as tie
 
 abbrev Inv-loop : tie.InvT-loop
-Inv-loop s₀ m n swaps₀ min-nrows-ncols counts₀ i₀ s swaps counts i = (length s ≡ length s₀) × (length swaps ≡ length swaps₀) × (i ≤ min m n) × ((counts .pairs ≤ i) × (counts .tossed ≤ i))
-    × ((f : Factors) × (Held m n f s swaps (counts .pairs) × (turnsFrom step i (min m n - i) f ≡ eliminate m (columns m n s₀)) × (counts .tossed + tossFrom i (min m n - i) f ≡ tossUps m (columns m n s₀))))
+Inv-loop s₀ m n swaps₀ min-nrows-ncols counts₀ i₀ s swaps counts i =
+    (length s ≡ length s₀) × (length swaps ≡ length swaps₀) × (i ≤ min m n) × ((counts .pairs ≤ i) × (counts .tossed ≤ i))
+    × ((f : Factors) × (Held m n f s swaps (counts .pairs) × (turnsFrom step i (min m n - i) f ≡ eliminate m (columns m n s₀)) × (counts .tossed + tossFrom i
+    (min m n - i) f ≡ tossUps m (columns m n s₀))))
 
 abbrev μ-loop : tie.MeasureT-loop
 μ-loop s₀ m n swaps₀ min-nrows-ncols counts₀ i₀ s swaps counts i = min-nrows-ncols - i
 
 loop-holds : tie.Need-loop-holds Inv-loop μ-loop
 loop-holds c = let g = c .before .before .before .args in
-    let size = sized g.m g.n (g .s .now) (c .before .before .before .pre .0) .size in
-    (refl, refl, omega arith, (omega arith, omega arith), (unfactored (columns g.m g.n (g .s .now)), (held-unfactored g.m g.n (g .s .now) (g .swaps .now) size (c .before .before .before .pre .1), steps-begin g.m g.n (g .s .now), zero-add (tossFrom 0 (min g.m g.n - 0) (unfactored (columns g.m g.n (g .s .now)))) ∙ toss-begin g.m g.n (g .s .now))))
+    let size = sized g.m g.n (g .s .now) (c .before .before .before .pre .0) .size in (
+      refl,
+      refl,
+      omega arith,
+      (omega arith, omega arith),
+      (
+        unfactored (columns g.m g.n (g .s .now)),
+        (
+          held-unfactored g.m g.n (g .s .now) (g .swaps .now) size (c .before .before .before .pre .1),
+          steps-begin g.m g.n (g .s .now),
+          zero-add (tossFrom 0 (min g.m g.n - 0) (unfactored (columns g.m g.n (g .s .now)))) ∙ toss-begin g.m g.n (g .s .now),
+        ),
+      ),
+    )
 
 sub-loop : tie.Need-sub-loop Inv-loop μ-loop
 sub-loop c = rw (c .before .min .ensures) (c .loop .inv .2)
 
 -- more than eight steps are left
-left : (c : tie.In-loop Inv-loop μ-loop) → let g = c .before .before .before .before .before .args in (c .before .loop .i + 4 ≤ min (g .m) (g .n)) × (c .before .before .min .result ≡ min (g .m) (g .n)) × (g .m ≤ 64)
+left : (c : tie.In-loop Inv-loop μ-loop) → let g = c .before .before .before .before .before .args in
+    (c .before .loop .i + 4 ≤ min (g .m) (g .n)) × (c .before .before .min .result ≡ min (g .m) (g .n)) × (g .m ≤ 64)
 left c =
     let e = c .before .before .min .ensures in
     (omega (arith, e, c .loop-test .taken), e, sized _ _ _ (c .before .before .before .before .before .pre .0) .rows-most)
@@ -91,8 +107,10 @@ factor-steps-requires c κs =
     let at-loop = c .before .before .before in
     let pre = at-loop .before .before .before .before .pre in
     let inv = at-loop .loop .inv in
-    let e = at-loop .before .min .ensures in
-    ((omega (arith, inv .2), omega arith, omega arith, inv .3 .0, inv .3 .1), (same-matrix _ _ _ _ (inv .0) ∙ (pre .0), inv .1 ∙ ap length (pre .1) ∙ length-store [] (omega arith)))
+    let e = at-loop .before .min .ensures in (
+      (omega (arith, inv .2), omega arith, omega arith, inv .3 .0, inv .3 .1),
+      (same-matrix _ _ _ _ (inv .0) ∙ (pre .0), inv .1 ∙ ap length (pre .1) ∙ length-store [] (omega arith)),
+    )
 
 returns : tie.Need-returns Inv-loop μ-loop
 returns c =
@@ -105,8 +123,11 @@ returns c =
     let f = l .inv .4 .0 in
     let h = l .inv .4 .1 .0 in
     let upto = at-loop .before .min .result in
-    let steps : turnsFrom step (l .i) (upto - l .i) f ≡ eliminate (g .m) (columns (g .m) (g .n) (g .s .now)) = ap (λ j. turnsFrom step (l .i) (j - l .i) f) e ∙ l .inv .4 .1 .1 in
-    (subst (λ w. Held (g .m) (g .n) w (k .last .0) (k .last .1 .1 .1 .1 .1 .0) (k .result .pairs)) steps (k .ensures .steps f h), k .ensures .toss f h ∙ ap (λ j. l .counts .tossed + tossFrom (l .i) (j - l .i) f) e ∙ l .inv .4 .1 .2)
+    let steps : turnsFrom step (l .i) (upto - l .i) f ≡ eliminate (g .m) (columns (g .m) (g .n) (g .s .now)) =
+    ap (λ j. turnsFrom step (l .i) (j - l .i) f) e ∙ l .inv .4 .1 .1 in (
+      subst (λ w. Held (g .m) (g .n) w (k .last .0) (k .last .1 .1 .1 .1 .1 .0) (k .result .pairs)) steps (k .ensures .steps f h),
+      k .ensures .toss f h ∙ ap (λ j. l .counts .tossed + tossFrom (l .i) (j - l .i) f) e ∙ l .inv .4 .1 .2,
+    )
 
 pub factor-in-place-spec : {M : Type 1} → statement M
 factor-in-place-spec =

@@ -1,6 +1,6 @@
 -- The tests one within the other, as the definition has them. Assumes nothing.
 use borrow.Author.Needs.{needs}
-use Rattle.refusals.specs.Refusals.{firstOf}
+use Rattle.refusals.specs.Outcome.{firstOf}
 use Rattle.lu.specs.Factoring.{factoringRefusal}
 use Rattle.lu.proofs.factor_refusal.Statement.{statement}
 use Rattle.lu.proofs.factor_refusal.Tie as tie

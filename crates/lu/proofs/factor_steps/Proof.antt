@@ -5,21 +5,25 @@ use mathlib.Core.Path.{_≡_, refl, sym, ap, subst, _∙_}
 use native.Mathlib.Omega.{arith}
 use borrow.Author.Needs.{needs}
 use lib.ListN.{length}
-use Rattle.blas.specs.Each.{turnsFrom}
-use Rattle.blas.proofs.Each.{turns-next, turns-done}
+use Rattle.numbers.specs.Each.{turnsFrom}
+use Rattle.numbers.proofs.Each.{turns-next, turns-done}
 use Rattle.store.specs.Columns.{columns}
 use Rattle.store.specs.Steps.{Matrix, column}
 use Rattle.store.proofs.Columns.{sized, same-matrix}
-use Rattle.lu.specs.Elimination.{Factors, step}
-use Rattle.lu.specs.Held.{Held}
-use Rattle.lu.specs.TossUps.{tossAt, tossFrom}
-use Rattle.lu.proofs.Tossing.{toss-turn, toss-done}
+use Rattle.factors.specs.Factors.{Factors}
+use Rattle.elimination.specs.Elimination.{step}
+use Rattle.lu.specs.Inner.{Held}
+use Rattle.elimination.specs.TossUps.{tossAt, tossFrom}
+use Rattle.elimination.proofs.Tossing.{toss-turn, toss-done}
 use Rattle.lu.proofs.factor_steps.Statement.{statement}
 use Rattle.lu.proofs.factor_steps.Tie as tie
 
 abbrev Inv-loop : tie.InvT-loop
-Inv-loop s₀ m n from to swaps₀ now₀ i₀ s swaps now i = (length s ≡ length s₀) × (length swaps ≡ length swaps₀) × (i ≤ to) × ((now .pairs ≤ i) × (now .tossed ≤ i) × (now₀ .pairs ≤ now .pairs))
-    × ((f : Factors) → Held m n f s₀ swaps₀ (now₀ .pairs) → (g : Factors) × (Held m n g s swaps (now .pairs) × (turnsFrom step i (to - i) g ≡ turnsFrom step from (to - from) f) × (now .tossed + tossFrom i (to - i) g ≡ now₀ .tossed + tossFrom from (to - from) f)))
+Inv-loop s₀ m n from to swaps₀ now₀ i₀ s swaps now i =
+    (length s ≡ length s₀) × (length swaps ≡ length swaps₀) × (i ≤ to) × ((now .pairs ≤ i) × (now .tossed ≤ i) × (now₀ .pairs ≤ now .pairs))
+    × ((f : Factors) → Held m n f s₀ swaps₀ (now₀ .pairs) → (g : Factors) × (Held m n g s swaps
+    (now .pairs) × (turnsFrom step i (to - i) g ≡ turnsFrom step from (to - from) f) × (now .tossed + tossFrom i (to - i) g ≡ now₀ .tossed + tossFrom from
+    (to - from) f)))
 
 abbrev μ-loop : tie.MeasureT-loop
 μ-loop s₀ m n from to swaps₀ now₀ i₀ s swaps now i = to - i

@@ -18,7 +18,8 @@ returns c =
     let at-scale = at-eliminate .before .before .before .before in
     let at-swap-rows = at-scale .before .before .before .before .before in
     let at-start = at-swap-rows .before .before .before in
-    gauss-done _ _ _ _ _ (at-start .pre .0) (at-start .pre .1) (at-start .pre .2) _ _ _ (at-swap-rows .swap-rows .kept .0) (at-swap-rows .swap-rows .ensures) (at-scale .scale .kept .0) (at-scale .scale .ensures) (at-eliminate .eliminate .ensures)
+    gauss-done _ _ _ _ _ (at-start .pre .0) (at-start .pre .1) (at-start .pre .2) _ _ _ (at-swap-rows .swap-rows .kept .0) (at-swap-rows .swap-rows .ensures)
+    (at-scale .scale .kept .0) (at-scale .scale .ensures) (at-eliminate .eliminate .ensures)
 
 pub gauss-step-spec : {M : Type 1} → statement M
 gauss-step-spec =

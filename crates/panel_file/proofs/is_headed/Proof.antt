@@ -16,7 +16,8 @@ returns-2 : tie.Need-returns-2
 returns-2 c =
     let at-byte-from = c .before in
     let at-if1 = at-byte-from .before .before .before .before in
-    headed-by _ ((at-byte-from .byte-from .result) + 256 * (c .byte-from2 .result)) (at-if1 .if1 .left) (ap₂ (λ (x y : ℕ). x + 256 * y) (at-byte-from .byte-from .ensures .0) (c .byte-from2 .ensures .0))
+    headed-by _ ((at-byte-from .byte-from .result) + 256 * (c .byte-from2 .result)) (at-if1 .if1 .left)
+    (ap₂ (λ (x y : ℕ). x + 256 * y) (at-byte-from .byte-from .ensures .0) (c .byte-from2 .ensures .0))
 
 pub is-headed-spec : {M : Type 1} → statement M
 is-headed-spec =

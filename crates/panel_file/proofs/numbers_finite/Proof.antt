@@ -4,8 +4,8 @@ use mathlib.Core.Path.{_≡_, refl, sym, _∙_}
 use mathlib.Core.Bool.{true, false}
 use native.Mathlib.Omega.{arith}
 use lib.ListN.{drop}
-use Rattle.blas.specs.Each.{listOf}
-use Rattle.blas.specs.Column.{allFinite}
+use Rattle.numbers.specs.Each.{listOf}
+use Rattle.finite.specs.Finite.{allFinite}
 use Rattle.panel_file.specs.File.{numberAt}
 use Rattle.panel_file.proofs.Numbers.{test-next, test-end}
 use Rattle.panel_file.proofs.numbers_finite.Statement.{statement}
@@ -26,7 +26,8 @@ loop-again c =
     let at-bits-at = at-is-finite-bits .before in
     let at-loop-test = at-bits-at .before in
     let at-loop = at-loop-test .before in
-    sym (test-next _ _ (at-loop .loop .k) _ _ true (at-loop-test .loop-test .taken) (at-bits-at .bits-at .ensures) (at-is-finite-bits .is-finite-bits .ensures) (c .if1 .taken)) ∙ (at-loop .loop .inv)
+    sym (test-next _ _ (at-loop .loop .k) _ _ true (at-loop-test .loop-test .taken) (at-bits-at .bits-at .ensures)
+    (at-is-finite-bits .is-finite-bits .ensures) (c .if1 .taken)) ∙ (at-loop .loop .inv)
 
 returns : tie.Need-returns Inv-loop μ-loop
 returns c =
@@ -34,7 +35,8 @@ returns c =
     let at-bits-at = at-is-finite-bits .before in
     let at-loop-test = at-bits-at .before in
     let at-loop = at-loop-test .before in
-    sym (test-next _ _ (at-loop .loop .k) _ _ false (at-loop-test .loop-test .taken) (at-bits-at .bits-at .ensures) (at-is-finite-bits .is-finite-bits .ensures) (c .if1 .left)) ∙ (at-loop .loop .inv)
+    sym (test-next _ _ (at-loop .loop .k) _ _ false (at-loop-test .loop-test .taken) (at-bits-at .bits-at .ensures)
+    (at-is-finite-bits .is-finite-bits .ensures) (c .if1 .left)) ∙ (at-loop .loop .inv)
 
 returns-2 : tie.Need-returns-2 Inv-loop μ-loop
 returns-2 c = sym (test-end _ _ _ (c .loop-test .left)) ∙ (c .before .loop .inv)

@@ -21,7 +21,7 @@ loop-again c = put-turn _ _ _ _ _ _ (c .before .loop .inv) (c .loop-test .taken)
 returns : tie.Need-returns Inv-loop μ-loop
 returns c =
     let p = c .before .loop .inv in
-    (p .size, p .front, put-end _ _ _ _ _ _ p (c .loop-test .left) (omega arith))
+    ((p .size, p .front), put-end _ _ _ _ _ _ p (c .loop-test .left) (omega arith))
 
 pub put-bits-spec : {M : Type 1} → statement M
 put-bits-spec =

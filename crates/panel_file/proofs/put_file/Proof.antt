@@ -14,7 +14,8 @@ returns c =
     let h = at-put-head .put-head .ensures in
     let m = at-put-numbers .put-numbers .ensures in
     let r = at-put-numbers2 .put-numbers2 .ensures in
-    file-put _ _ _ _ _ _ (λ k. c .slice-known4 .given k .fits) (at-start .pre .0 .1) (at-start .pre .0 .2) (h .0 ∙ at-start .pre .0 .3) (h .1) (h .2) (m .0 .0) (m .0 .1) (m .1) (r .0 .0) (r .0 .1) (r .1)
+    file-put _ _ _ _ _ _ (λ k. c .slice-known4 .given k .fits) (at-start .pre .0 .1) (at-start .pre .0 .2) (h .0 ∙ at-start .pre .0 .3) (h .1) (h .2)
+    (m .0 .0) (m .0 .1) (m .1) (r .0 .0) (r .0 .1) (r .1)
 
 pub put-file-spec : {M : Type 1} → statement M
 put-file-spec =

@@ -4,7 +4,7 @@ use mathlib.Core.Path.{refl}
 use native.Mathlib.Omega.{arith}
 use borrow.Author.Needs.{needs}
 use lib.ListN.{length}
-use Rattle.blas.proofs.Finite.{finite-entry}
+use Rattle.finite.proofs.Finite.{finite-entry}
 use Rattle.panel_file.proofs.Bits.{no-nan}
 use Rattle.panel_file.proofs.Fields.{Filling, fill-turn, fill-end}
 use Rattle.panel_file.proofs.put_numbers.Statement.{statement}
@@ -32,7 +32,8 @@ loop-again c =
     let at-loop = at-known .before .before .before in
     let at-start = at-loop .before .before .before in
     let e = at-put-bits .put-bits .ensures in
-    fill-turn _ _ _ (at-loop .loop .file) (at-loop .loop .k) (at-loop .loop .inv) (omega arith) (at-start .pre .0) _ (e .0) (e .1) (e .2) (at-known .shared-slice-known2 .given (at-loop .loop .k))
+    fill-turn _ _ _ (at-loop .loop .file) (at-loop .loop .k) (at-loop .loop .inv) (omega arith) (at-start .pre .0) _ (e .0 .0) (e .0 .1) (e .1)
+    (at-known .shared-slice-known2 .given (at-loop .loop .k))
 
 returns : tie.Need-returns Inv-loop μ-loop
 returns c =

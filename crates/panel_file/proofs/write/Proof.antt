@@ -3,12 +3,12 @@ use mathlib.Core.Path.{sym, _∙_}
 use native.Mathlib.Omega.{arith}
 use borrow.Author.Needs.{needs}
 use lib.Seq.{length-take-le}
-use Rattle.panel_file.proofs.Writes.{small, fit, outcome-refused, outcome-written}
+use Rattle.panel_file.proofs.Writing.{small, fit, write-refused, write-done}
 use Rattle.panel_file.proofs.write.Statement.{statement}
 use Rattle.panel_file.proofs.write.Tie as tie
 
 returns : tie.Need-returns
-returns c = outcome-refused _ _ _ _ _ (c .before .write-refusal .ensures) (c .if1 .taken)
+returns c = write-refused _ _ _ _ _ (c .before .write-refusal .ensures) (c .if1 .taken)
 
 slice-relend-prefix-put-file : tie.Need-slice-relend-prefix-put-file
 slice-relend-prefix-put-file c = fit _ _ _ _ (sym (c .before .write-refusal .ensures) ∙ (c .if1 .left)) .fits
@@ -28,7 +28,7 @@ returns-2 : tie.Need-returns-2
 returns-2 c =
     let at-put-file = c .before .before in
     let at-if1 = at-put-file .before .before in
-    outcome-written _ _ _ _ _ (sym (at-if1 .before .write-refusal .ensures) ∙ (at-if1 .if1 .left)) (at-put-file .put-file .ensures)
+    write-done _ _ _ _ _ (sym (at-if1 .before .write-refusal .ensures) ∙ (at-if1 .if1 .left)) (at-put-file .put-file .ensures)
 
 pub write-spec : {M : Type 1} → statement M
 write-spec =

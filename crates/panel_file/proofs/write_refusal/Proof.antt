@@ -3,7 +3,7 @@ use mathlib.Core.Path.{sym, _∙_}
 use native.Mathlib.Omega.{arith}
 use borrow.Author.Needs.{needs}
 use Rattle.refusals.proofs.Tests.{inside}
-use Rattle.panel_file.proofs.Writes.{small, size-refused, size-passed}
+use Rattle.panel_file.proofs.Writing.{small, size-refused, size-passed}
 use Rattle.panel_file.proofs.write_refusal.Statement.{statement}
 use Rattle.panel_file.proofs.write_refusal.Tie as tie
 
@@ -17,7 +17,9 @@ returns-2 c =
     let at-all-finite = at-all-finite2 .before in
     let at-if1 = at-all-finite .before in
     let at-start = at-if1 .before .before .before .before in
-    size-passed (at-start .args .n) (at-start .args .matrix .now) (at-start .args .readings .now) (at-start .args .room) _ _ _ _ (sym (at-if1 .before .outside .ensures) ∙ (at-if1 .if1 .left)) (at-all-finite .all-finite .ensures) (at-all-finite2 .all-finite2 .ensures) (at-first .first .ensures) (c .first2 .ensures)
+    size-passed (at-start .args .n) (at-start .args .matrix .now) (at-start .args .readings .now) (at-start .args .room) _ _ _ _
+    (sym (at-if1 .before .outside .ensures) ∙ (at-if1 .if1 .left)) (at-all-finite .all-finite .ensures) (at-all-finite2 .all-finite2 .ensures)
+    (at-first .first .ensures) (c .first2 .ensures)
 
 pub write-refusal-spec : {M : Type 1} → statement M
 write-refusal-spec =

@@ -27,7 +27,8 @@ mul-swaps-2 : tie.Need-mul-swaps-2
 mul-swaps-2 c = omega (arith, room _ _ _ _ _ (sym (c .before .before .append-refusal .ensures) ∙ (c .before .if1 .left)) (c .if2 .taken))
 
 slice-write-swaps-2 : tie.Need-slice-write-swaps-2
-slice-write-swaps-2 c = simp length-set (omega (arith, room _ _ _ _ _ (sym (c .before .before .append-refusal .ensures) ∙ (c .before .if1 .left)) (c .if2 .taken)))
+slice-write-swaps-2 c =
+    simp length-set (omega (arith, room _ _ _ _ _ (sym (c .before .before .append-refusal .ensures) ∙ (c .before .if1 .left)) (c .if2 .taken)))
 
 add-t12 : tie.Need-add-t12
 add-t12 c = omega (arith, room _ _ _ _ _ (sym (c .before .before .append-refusal .ensures) ∙ (c .before .if1 .left)) (c .if2 .taken))

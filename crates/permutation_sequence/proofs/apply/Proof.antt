@@ -6,7 +6,7 @@ use mathlib.Core.List.{List}
 use native.Mathlib.Omega.{arith}
 use borrow.Author.Needs.{needs}
 use lib.ListN.{length, drop}
-use Rattle.blas.specs.Column.{Column}
+use Rattle.numbers.specs.Column.{Column}
 use Rattle.permutation_sequence.specs.SwapList.{pairsOf}
 use Rattle.permutation_sequence.specs.Permute.{permutedBy, exchangeOf, inOrder}
 use Rattle.permutation_sequence.proofs.Permute.{permuted-turn}
@@ -27,7 +27,8 @@ abbrev μ-loop : tie.MeasureT-loop
 
 returns : tie.Need-returns Inv-loop μ-loop
 returns c =
-    let a = c .before .before .before .args in
+    let at-start = c .before .before .before in
+    let a = at-start .args in
     applied-none _ _ (exchangeOf (a .columns)) (exchange-keeps (a .columns) _ _) _ (a .pairs) _ _ (omega arith)
 
 loop-holds : tie.Need-loop-holds Inv-loop μ-loop
@@ -35,18 +36,24 @@ loop-holds c = (refl, refl)
 
 loop-again : tie.Need-loop-again Inv-loop μ-loop
 loop-again c =
-    let body = c .before .before .before .before .before .before in
-    let a = body .before .before .before .before .before .before .args in (
+    let at-exchange = c .before .before in
+    let at-pair-of-turn = at-exchange .before .before .before .before in
+    let at-loop-test = at-pair-of-turn .before in
+    let at-loop = at-loop-test .before in
+    let at-start = at-loop .before .before .before .before in
+    let a = at-start .args in (
       search needs,
-      permuted-turn (a .reverse) (a .pairs) (a .swaps .now) (onSlice (exchangeOf (a .columns)) (a .m) (a .n)) _ _ _ _ (body .before .loop-test .taken)
-          (body .pair-of-turn .ensures .0) (c .before .before .exchange .ensures)
-          ∙ body .before .before .loop .inv .1,
+      permuted-turn (a .reverse) (a .pairs) (a .swaps .now) (onSlice (exchangeOf (a .columns)) (a .m) (a .n)) _ _ _ _ (at-loop-test .loop-test .taken)
+          (at-pair-of-turn .pair-of-turn .ensures .0) (at-exchange .exchange .ensures)
+          ∙ at-loop .loop .inv .1,
     )
 
 returns-2 : tie.Need-returns-2 Inv-loop μ-loop
 returns-2 c =
-    let a = c .before .before .before .before .before .args in
-    applied _ _ (exchangeOf (a .columns)) (exchange-keeps (a .columns) _ _) (a .reverse) (a .pairs) (a .swaps .now) (a .s .now) _ _ (omega arith) (c .loop-test .left)
+    let at-start = c .before .before .before .before .before in
+    let a = at-start .args in
+    applied _ _ (exchangeOf (a .columns)) (exchange-keeps (a .columns) _ _) (a .reverse) (a .pairs) (a .swaps .now) (a .s .now) _ _ (omega arith)
+    (c .loop-test .left)
     (c .before .loop .inv .1)
 
 pub apply-spec : {M : Type 1} → statement M

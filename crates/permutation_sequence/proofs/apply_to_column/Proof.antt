@@ -5,7 +5,7 @@ use mathlib.Core.Bool.{false}
 use native.Mathlib.Omega.{arith}
 use borrow.Author.Needs.{needs}
 use lib.ListN.{length, drop}
-use Rattle.blas.specs.Column.{swapRows}
+use Rattle.blas.specs.Blas.{swapRows}
 use Rattle.permutation_sequence.specs.SwapList.{pairsOf}
 use Rattle.permutation_sequence.specs.Permute.{permute, inOrder, pairOfTurn}
 use Rattle.permutation_sequence.proofs.Permute.{permuted-turn, permuted-end}
@@ -13,7 +13,8 @@ use Rattle.permutation_sequence.proofs.apply_to_column.Statement.{state
 use Rattle.permutation_sequence.proofs.apply_to_column.Tie as tie
 
 abbrev Inv-loop : tie.InvT-loop
-Inv-loop col₀ swaps pairs k₀ col k = (length col ≡ length col₀) × (permute (drop k (inOrder false (pairsOf pairs swaps))) col ≡ permute (pairsOf pairs swaps) col₀)
+Inv-loop col₀ swaps pairs k₀ col k =
+    (length col ≡ length col₀) × (permute (drop k (inOrder false (pairsOf pairs swaps))) col ≡ permute (pairsOf pairs swaps) col₀)
 
 abbrev μ-loop : tie.MeasureT-loop
 μ-loop col₀ swaps pairs k₀ col k = pairs - k
@@ -25,15 +26,21 @@ loop-holds c = (refl, refl)
 loop-again : tie.Need-loop-again Inv-loop μ-loop
 unfolding pairOfTurn
 loop-again c =
-    let at-turn = c .before .before .before .before .before .before in
-    let at-loop = at-turn .before in
-    let a = at-loop .before .before .before .args in
-    (search needs, permuted-turn false (a .pairs) (a .swaps .now) swapRows _ _ _ _ (at-turn .loop-test .taken) refl (c .before .before .swap .ensures) ∙ at-loop .loop .inv .1)
+    let at-swap = c .before .before in
+    let at-loop-test = at-swap .before .before .before .before in
+    let at-loop = at-loop-test .before in
+    let at-start = at-loop .before .before .before in
+    let a = at-start .args in (
+      search needs,
+      permuted-turn false (a .pairs) (a .swaps .now) swapRows _ _ _ _ (at-loop-test .loop-test .taken) refl (at-swap .swap .ensures)
+          ∙ at-loop .loop .inv .1,
+    )
 
 returns : tie.Need-returns Inv-loop μ-loop
 returns c =
     let at-loop = c .before in
-    let a = at-loop .before .before .before .args in
+    let at-start = at-loop .before .before .before in
+    let a = at-start .args in
     sym (permuted-end false (a .pairs) (a .swaps .now) swapRows _ _ (c .loop-test .left)) ∙ at-loop .loop .inv .1
 
 pub apply-to-column-spec : {M : Type 1} → statement M

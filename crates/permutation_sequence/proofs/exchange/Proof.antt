@@ -6,10 +6,14 @@ use Rattle.permutation_sequence.proofs.exchange.Statement.{statement}
 use Rattle.permutation_sequence.proofs.exchange.Tie as tie
 
 returns : tie.Need-returns
-returns c = rw (c .before .before .before .before .if1 .taken) (c .before .before .swap-columns .ensures)
+returns c =
+    let at-if1 = c .before .before .before .before in
+    rw (at-if1 .if1 .taken) (c .before .before .swap-columns .ensures)
 
 returns-2 : tie.Need-returns-2
-returns-2 c = rw (c .before .before .before .before .if1 .left) ((c .before .before .swap-rows .ensures) ∙ on-all _ _ _ _ _)
+returns-2 c =
+    let at-if1 = c .before .before .before .before in
+    rw (at-if1 .if1 .left) ((c .before .before .swap-rows .ensures) ∙ on-all _ _ _ _ _)
 
 pub exchange-spec : {M : Type 1} → statement M
 exchange-spec =

@@ -4,8 +4,8 @@ use mathlib.Core.Path.{_≡_, refl, sym, _∙_}
 use native.Mathlib.Omega.{arith}
 use borrow.Author.Needs.{needs}
 use lib.ListN.{length}
-use Rattle.blas.specs.Each.{eachFrom}
-use Rattle.blas.specs.Column.{Column}
+use Rattle.numbers.specs.Each.{eachFrom}
+use Rattle.numbers.specs.Column.{Column}
 use Rattle.store.specs.Columns.{columns}
 use Rattle.store.proofs.Columns.{sized, column-within, column-turn, column-stop, on-done}
 use Rattle.permutation_sequence.specs.SwapList.{Swaps, pairsOf}
@@ -25,11 +25,18 @@ Inv-loop s₀ m n four i0 j0 i1 j1 i2 j2 i3 j3 j₀ s j =
 abbrev μ-loop : tie.MeasureT-loop
 μ-loop s₀ m n four i0 j0 i1 j1 i2 j2 i3 j3 j₀ s j = n - j
 
--- the store has its size all along, and in a turn column j ends within it
-size : (c : tie.At-loop Inv-loop μ-loop) → length (c .loop .s) ≡ (c .before .before .before .before .before .before .before .before .before .before .before .args .n) * (c .before .before .before .before .before .before .before .before .before .before .before .args .m)
-size c = (c .loop .inv .0) ∙ sized _ _ _ (c .before .before .before .before .before .before .before .before .before .before .before .pre .0) .size
+-- the start, from the loop, past the eight numbers read
+abbrev start : tie.At-loop Inv-loop μ-loop → tie.Start Inv-loop μ-loop
+start c =
+    let at-fourth-read = c .before .before .before .before .before in
+    let at-slice = at-fourth-read .before .before .before .before .before in
+    at-slice .before
 
-within : (c : tie.In-loop Inv-loop μ-loop) → (c .before .loop .j) * (c .before .before .before .before .before .before .before .before .before .before .before .before .args .m) + (c .before .before .before .before .before .before .before .before .before .before .before .before .args .m) ≤ length (c .before .loop .s)
+-- the store has its size all along, and in a turn column j ends within it
+size : (c : tie.At-loop Inv-loop μ-loop) → let g = start c .args in length (c .loop .s) ≡ g .n * g .m
+size c = (c .loop .inv .0) ∙ sized _ _ _ (start c .pre .0) .size
+
+within : (c : tie.In-loop Inv-loop μ-loop) → let g = start (c .before) .args in c .before .loop .j * g .m + g .m ≤ length (c .before .loop .s)
 within c = column-within _ _ _ (c .before .loop .s) (c .loop-test .taken) (size (c .before))
 
 loop-holds : tie.Need-loop-holds Inv-loop μ-loop
@@ -40,15 +47,21 @@ loop-again c =
     let at-swap-four = c .before .before in
     let at-loop-test = at-swap-four .before .before in
     let at-loop = at-loop-test .before in
+    let at-start = start at-loop in
     let k = at-swap-four .swap-four in
-    let four = at-loop .before .before .before .before .before .before .before .before .before .before .before .args .four .now in
-    (omega arith, column-turn (inColumn (pairsOf 4 four)) _ _ _ _ _ (at-loop-test .loop-test .taken) (size at-loop) (k .kept .0) (permute-four four _ _ (k .ensures)) ∙ at-loop .loop .inv .1)
+    let four = at-start .args .four .now in (
+      omega arith,
+      column-turn (inColumn (pairsOf 4 four)) _ _ _ _ _ (at-loop-test .loop-test .taken) (size at-loop) (k .kept .0)
+          (permute-four four _ _ (k .ensures)) ∙ at-loop .loop .inv .1,
+    )
 
 returns : tie.Need-returns Inv-loop μ-loop
 returns c =
-    let at-start = c .before .before .before .before .before .before .before .before .before .before .before .before in
-    on-done _ _ _ _ _ (at-start .pre .0) (c .before .loop .inv .0)
-    (sym (column-stop (inColumn (pairsOf 4 (at-start .args .four .now))) _ _ _ _ (c .loop-test .left)) ∙ c .before .loop .inv .1 ∙ sym (rows-each (pairsOf 4 (at-start .args .four .now)) _))
+    let at-loop = c .before in
+    let at-start = start at-loop in
+    on-done _ _ _ _ _ (at-start .pre .0) (at-loop .loop .inv .0)
+    (sym (column-stop (inColumn (pairsOf 4 (at-start .args .four .now))) _ _ _ _ (c .loop-test .left)) ∙ at-loop .loop .inv .1
+    ∙ sym (rows-each (pairsOf 4 (at-start .args .four .now)) _))
 
 mul-a : tie.Need-mul-a Inv-loop μ-loop
 mul-a c = omega (arith, within c)

@@ -27,12 +27,15 @@ loop-holds c = (refl, omega arith, pairs-none _ _ swapInAll (exchange-keeps fals
 exchange-four-requires : tie.Need-exchange-four-requires Inv-loop μ-loop
 exchange-four-requires c κs =
     let at-loop = c .before .before .before in
-    (same-matrix _ _ _ (at-loop .loop .s) (at-loop .loop .inv .0) ∙ at-loop .before .before .before .pre .0, simp (length-take, length-drop) (omega arith))
+    let at-start = at-loop .before .before .before in
+    (same-matrix _ _ _ (at-loop .loop .s) (at-loop .loop .inv .0) ∙ at-start .pre .0, simp (length-take, length-drop) (omega arith))
 
 loop-again : tie.Need-loop-again Inv-loop μ-loop
 loop-again c =
-    let at-loop = c .before .before .before .before .before .before in
-    let a = at-loop .before .before .before .args in
+    let at-loop-test = c .before .before .before .before .before in
+    let at-loop = at-loop-test .before in
+    let at-start = at-loop .before .before .before in
+    let a = at-start .args in
     let l = at-loop .loop in
     let k = c .before .before .exchange-four in
     let four-more : 4 * l .k + 4 ≡ 4 * (l .k + 1) = omega arith in (
@@ -45,7 +48,8 @@ loop-again c =
 
 returns : tie.Need-returns Inv-loop μ-loop
 returns c =
-    let a = c .before .before .before .before .args in
+    let at-start = c .before .before .before .before in
+    let a = at-start .args in
     let l = c .before .loop in
     let all : l .k ≡ a .fours = omega arith in
     l .inv .2 ∙ ap (λ (i : ℕ). onColumns (a .m) (a .n) (rowsPermuted (pairsOf (4 * i) (a .swaps .now))) (a .s .now)) all

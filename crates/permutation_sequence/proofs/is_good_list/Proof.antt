@@ -23,21 +23,28 @@ returns c = rw (lt-leb _ _ (c .if1 .taken))
 
 returns-2 : tie.Need-returns-2 Inv-loop μ-loop
 unfolding goodList holds
-returns-2 c = rw (le-leb _ _ (c .before .if1 .left), lt-leb (2 * (c .before .before .before .args .pairs)) (length (c .before .before .before .args .swaps .now)) (omega arith))
+returns-2 c =
+    let at-start = c .before .before .before in
+    rw (le-leb _ _ (c .before .if1 .left), lt-leb (2 * (at-start .args .pairs)) (length (at-start .args .swaps .now)) (omega arith))
 
 loop-holds : tie.Need-loop-holds Inv-loop μ-loop
 loop-holds c = refl
 
 loop-again : tie.Need-loop-again Inv-loop μ-loop
 loop-again c =
-    let at-turn = c .before .before .before in
-    let at-loop = at-turn .before in
-    let g = at-loop .before .before .before .before .args in
-    good-turn (g .bound) (g .pairs) (g .swaps .now) (at-loop .loop .k) (at-turn .loop-test .taken) (at-loop .loop .good) (c .is-good-pair .result) (c .is-good-pair .ensures) ∙ at-loop .loop .inv
+    let at-loop-test = c .before .before .before in
+    let at-loop = at-loop-test .before in
+    let at-start = at-loop .before .before .before .before in
+    let g = at-start .args in
+    good-turn (g .bound) (g .pairs) (g .swaps .now) (at-loop .loop .k) (at-loop-test .loop-test .taken) (at-loop .loop .good) (c .is-good-pair .result)
+    (c .is-good-pair .ensures) ∙ at-loop .loop .inv
 
 returns-3 : tie.Need-returns-3 Inv-loop μ-loop
 unfolding goodList holds
-returns-3 c = rw (le-leb _ _ (c .before .before .before .if1 .left), le-leb (2 * (c .before .before .before .before .before .args .pairs)) (length (c .before .before .before .before .before .args .swaps .now)) (omega arith))
+returns-3 c =
+    let at-if1 = c .before .before .before in
+    let at-start = at-if1 .before .before in
+    rw (le-leb _ _ (at-if1 .if1 .left), le-leb (2 * (at-start .args .pairs)) (length (at-start .args .swaps .now)) (omega arith))
     (good-end _ _ _ _ (c .loop-test .left) _ ∙ (c .before .loop .inv))
 
 pub is-good-list-spec : {M : Type 1} → statement M

@@ -18,7 +18,8 @@ loop-holds : tie.Need-loop-holds Inv-loop μ-loop
 loop-holds c = record { size = refl; place = omega arith; left = refl; in-hand = (omega arith, omega arith); held = (c .before .before .pre .1) }
 
 is-ahead-requires : tie.Need-is-ahead-requires Inv-loop μ-loop
-is-ahead-requires c κs = ((c .before .before .loop .inv .in-hand), (c .before .before .loop .inv .held) (c .before .before .loop .j) (c .before .loop-test .taken))
+is-ahead-requires c κs =
+    ((c .before .before .loop .inv .in-hand), (c .before .before .loop .inv .held) (c .before .before .loop .j) (c .before .loop-test .taken))
 
 loop-again : tie.Need-loop-again Inv-loop μ-loop
 loop-again c =
@@ -27,15 +28,17 @@ loop-again c =
     let at-loop = at-loop-test .before in
     let at-start = at-loop .before .before .before in
     ⊎-elim
-    (λ w. rw (w .1, w .2) (turn-moves _ _ _ (at-loop .loop .ranks) (at-loop .loop .pad) (at-loop .loop .j) (at-loop .loop .inv) ((at-start .pre .0 .1)) (at-loop-test .loop-test .taken) (sym (at-is-ahead .is-ahead .ensures) ∙ w .0 .taken)))
-    (λ w. rw (w .1, w .2) (turn-stays _ _ _ (at-loop .loop .ranks) (at-loop .loop .pad) (at-loop .loop .j) (at-loop .loop .inv) ((at-start .pre .0 .1)) (at-loop-test .loop-test .taken) (sym (at-is-ahead .is-ahead .ensures) ∙ w .0 .left)))
+    (λ w. rw (w .1, w .2) (turn-moves _ _ _ (at-loop .loop .ranks) (at-loop .loop .pad) (at-loop .loop .j) (at-loop .loop .inv) (at-start .pre .0 .1)
+    (at-loop-test .loop-test .taken) (sym (at-is-ahead .is-ahead .ensures) ∙ w .0 .taken)))
+    (λ w. rw (w .1, w .2) (turn-stays _ _ _ (at-loop .loop .ranks) (at-loop .loop .pad) (at-loop .loop .j) (at-loop .loop .inv) (at-start .pre .0 .1)
+    (at-loop-test .loop-test .taken) (sym (at-is-ahead .is-ahead .ensures) ∙ w .0 .left)))
     (c .if1 .came)
 
 returns : tie.Need-returns Inv-loop μ-loop
 returns c =
     let at-loop = c .before in
     let at-start = at-loop .before .before .before in
-    turns-end _ _ _ _ _ _ (at-loop .loop .inv) ((at-start .pre .0 .1)) (c .loop-test .left)
+    turns-end _ _ _ _ _ _ (at-loop .loop .inv) (at-start .pre .0 .1) (c .loop-test .left)
 
 pub insert-spec : {M : Type 1} → statement M
 insert-spec =

@@ -12,11 +12,25 @@ returns c = rw (ap₂ lt (sym (c .before .magnitude2 .ensures)) (sym (c .before 
 
 returns-2 : tie.Need-returns-2
 unfolding ahead
-returns-2 c = rw (ap₂ lt (sym (c .before .before .magnitude2 .ensures)) (sym (c .before .before .before .magnitude .ensures)) ∙ (c .before .if1 .left), ap₂ lt (sym (c .before .before .before .magnitude .ensures)) (sym (c .before .before .magnitude2 .ensures)) ∙ (c .if2 .taken))
+returns-2 c =
+    let at-magnitude2 = c .before .before in
+    let at-magnitude = at-magnitude2 .before in
+    rw (
+      ap₂ lt (sym (at-magnitude2 .magnitude2 .ensures)) (sym (at-magnitude .magnitude .ensures))
+          ∙ (c .before .if1 .left),
+      ap₂ lt (sym (at-magnitude .magnitude .ensures)) (sym (at-magnitude2 .magnitude2 .ensures)) ∙ (c .if2 .taken),
+    )
 
 returns-3 : tie.Need-returns-3
 unfolding ahead
-returns-3 c = rw (ap₂ lt (sym (c .before .before .magnitude2 .ensures)) (sym (c .before .before .before .magnitude .ensures)) ∙ (c .before .if1 .left), ap₂ lt (sym (c .before .before .before .magnitude .ensures)) (sym (c .before .before .magnitude2 .ensures)) ∙ (c .if2 .left))
+returns-3 c =
+    let at-magnitude2 = c .before .before in
+    let at-magnitude = at-magnitude2 .before in
+    rw (
+      ap₂ lt (sym (at-magnitude2 .magnitude2 .ensures)) (sym (at-magnitude .magnitude .ensures))
+          ∙ (c .before .if1 .left),
+      ap₂ lt (sym (at-magnitude .magnitude .ensures)) (sym (at-magnitude2 .magnitude2 .ensures)) ∙ (c .if2 .left),
+    )
 
 pub is-ahead-spec : {M : Type 1} → statement M
 is-ahead-spec =

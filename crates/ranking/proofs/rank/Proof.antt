@@ -41,7 +41,10 @@ loop-again c =
     (search needs, omega arith, one-more _ _ _ _ _ (at-loop .loop .inv .2) (at-insert .insert .ensures))
 
 returns-2 : tie.Need-returns-2 Inv-loop μ-loop
-returns-2 c = outcome-ranked _ _ _ _ _ (sym (c .before .before .before .rank-refusal .ensures) ∙ (c .before .before .if1 .left)) (c .loop-test .left) (c .before .loop .inv .1) (c .before .loop .inv .2)
+returns-2 c =
+    let at-if1 = c .before .before in
+    let l = c .before .loop in
+    outcome-ranked _ _ _ _ _ _ (at-if1 .before .rank-refusal .ensures) (at-if1 .if1 .left) (c .loop-test .left) (l .inv .1) (l .inv .2)
 
 pub rank-spec : {M : Type 1} → statement M
 rank-spec =

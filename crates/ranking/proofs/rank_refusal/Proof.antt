@@ -1,9 +1,7 @@
 -- The tests one within the other, as the definition has them. Assumes nothing.
 use borrow.Author.Needs.{needs}
-use Rattle.refusals.specs.Refusals.{firstOf}
+use Rattle.refusals.specs.Outcome.{firstOf}
 use Rattle.ranking.specs.Ranking.{rankingRefusal}
-use Rattle.ranking.proofs.rank_refusal.Statement.{statement}
-use Rattle.ranking.proofs.rank_refusal.Tie as tie
 use Rattle.ranking.proofs.rank_refusal.Statement.{statement}
 use Rattle.ranking.proofs.rank_refusal.Tie as tie
 

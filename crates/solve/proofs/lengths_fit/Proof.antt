@@ -12,11 +12,20 @@ returns c = rw (sym (c .before .is-matrix .ensures) ∙ not-true _ (c .if1 .take
 
 returns-2 : tie.Need-returns-2
 unfolding lengthsFit
-returns-2 c = rw (sym (c .before .before .before .is-matrix .ensures) ∙ not-false _ (c .before .before .if1 .left), sym (c .before .is-matrix2 .ensures) ∙ not-true _ (c .if2 .taken))
+returns-2 c =
+    let at-is-matrix = c .before .before .before in
+    rw (sym (at-is-matrix .is-matrix .ensures) ∙ not-false _ (c .before .before .if1 .left), sym (c .before .is-matrix2 .ensures) ∙ not-true _ (c .if2 .taken))
 
 returns-3 : tie.Need-returns-3
 unfolding lengthsFit
-returns-3 c = rw (sym (c .before .before .before .before .is-matrix .ensures) ∙ not-false _ (c .before .before .before .if1 .left), sym (c .before .before .is-matrix2 .ensures) ∙ not-false _ (c .before .if2 .left)) (c .is-matrix3 .ensures)
+returns-3 c =
+    let at-if1 = c .before .before .before in
+    let at-is-matrix = at-if1 .before in
+    rw (
+      sym (at-is-matrix .is-matrix .ensures) ∙ not-false _ (at-if1 .if1 .left),
+      sym (c .before .before .is-matrix2 .ensures)
+          ∙ not-false _ (c .before .if2 .left),
+    ) (c .is-matrix3 .ensures)
 
 pub lengths-fit-spec : {M : Type 1} → statement M
 lengths-fit-spec =

@@ -7,7 +7,10 @@ use Rattle.solve.proofs.less_below.Statement.{statement}
 use Rattle.solve.proofs.less_below.Tie as tie
 
 returns : tie.Need-returns
-returns c = let g = c .before .before .before .before .before .before .args in rw (c .before .dot .ensures ∙ ap₂ dotOf (rest-part _ (g .col .now)) (rest-part _ (g .b .now)))
+returns c =
+    let at-dot = c .before in
+    let at-start = at-dot .before .before .before .before .before in
+    let g = at-start .args in rw (at-dot .dot .ensures ∙ ap₂ dotOf (rest-part _ (g .col .now)) (rest-part _ (g .b .now)))
 
 pub less-below-spec : {M : Type 1} → statement M
 less-below-spec =

@@ -1,6 +1,6 @@
 -- The tests in document 01's order, each with the later ones behind it. Assumes nothing.
 use borrow.Author.Needs.{needs}
-use Rattle.refusals.specs.Refusals.{firstOf}
+use Rattle.refusals.specs.Outcome.{firstOf}
 use Rattle.solve.specs.Calls.{refusalOf}
 use Rattle.solve.proofs.refusal.Statement.{statement}
 use Rattle.solve.proofs.refusal.Tie as tie

@@ -4,8 +4,8 @@ use mathlib.Core.Path.{_≡_, sym, _∙_}
 use native.Mathlib.Omega.{arith}
 use borrow.Author.Needs.{needs}
 use lib.ListN.{length}
-use Rattle.blas.specs.Each.{turnsFrom}
-use Rattle.blas.proofs.Each.{turns-begin, turns-next, turns-done}
+use Rattle.numbers.specs.Each.{turnsFrom}
+use Rattle.numbers.proofs.Each.{turns-begin, turns-next, turns-done}
 use Rattle.store.specs.Columns.{columns}
 use Rattle.store.proofs.Columns.{column-within, column-length, sized}
 use Rattle.solve.specs.Triangular.{turnsOf, turn, solvedColumn}
@@ -19,19 +19,33 @@ Inv-loop pass t n b₀ turns k₀ b k = (length b ≡ n) × (turnsFrom (turn pas
 abbrev μ-loop : tie.MeasureT-loop
 μ-loop pass t n b₀ turns k₀ b k = turns - k
 
--- in a turn, the row is below n, and its column ends within the matrix
-below : (c : tie.After-row-at Inv-loop μ-loop) → c .row-at .result < c .before .before .before .before .before .before .args .n
-below c = let l = c .before .before in turn-row (l .before .before .before .before .args .pass) _ _ _ _ (l .before .turns-of .ensures) (c .before .loop-test .taken) (c .row-at .ensures)
+-- the start, from a turn's row
+abbrev start : tie.After-row-at Inv-loop μ-loop → tie.Start Inv-loop μ-loop
+start c =
+    let at-turns-of = c .before .before .before in
+    at-turns-of .before .before .before
 
-within : (c : tie.After-row-at Inv-loop μ-loop) → let g = c .before .before .before .before .before .before .args in c .row-at .result * g .n + g .n ≤ length (g .t .now)
-within c = let start = c .before .before .before .before .before .before in column-within _ _ _ (start .args .t .now) (below c) (sized _ _ _ (start .pre .0) .size)
+-- in a turn, the row is below n, and its column ends within the matrix
+below : (c : tie.After-row-at Inv-loop μ-loop) → c .row-at .result < start c .args .n
+below c =
+    let at-turns-of = c .before .before .before in
+    turn-row (start c .args .pass) _ _ _ _ (at-turns-of .turns-of .ensures) (c .before .loop-test .taken) (c .row-at .ensures)
+
+within : (c : tie.After-row-at Inv-loop μ-loop) → let g = start c .args in c .row-at .result * g .n + g .n ≤ length (g .t .now)
+within c =
+    let at-start = start c in
+    column-within _ _ _ (at-start .args .t .now) (below c) (sized _ _ _ (at-start .pre .0) .size)
 
 loop-holds : tie.Need-loop-holds Inv-loop μ-loop
 unfolding solvedColumn
-loop-holds c = ((c .before .before .before .pre .1), turns-begin _ _ _)
+loop-holds c =
+    let at-start = c .before .before .before in
+    ((at-start .pre .1), turns-begin _ _ _)
 
 row-at-requires : tie.Need-row-at-requires Inv-loop μ-loop
-row-at-requires c κs = omega (arith, turns-most (c .before .before .before .before .before .args .pass) (c .before .before .before .before .before .args .n), (c .before .before .turns-of .ensures))
+row-at-requires c κs =
+    let at-start = c .before .before .before .before .before in
+    omega (arith, turns-most (at-start .args .pass) (at-start .args .n), c .before .before .turns-of .ensures)
 
 mul-a : tie.Need-mul-a Inv-loop μ-loop
 mul-a c = omega (arith, within c)
@@ -52,16 +66,27 @@ part-solve-row-end : tie.Need-part-solve-row-end Inv-loop μ-loop
 part-solve-row-end c = within c
 
 solve-row-requires : tie.Need-solve-row-requires Inv-loop μ-loop
-solve-row-requires c κs = let i = below (c .before .before) in
-    (rw (column-length _ _ _ (c .before .before .before .before .before .before .before .before .args .t .now) i (sized _ _ _ (c .before .before .before .before .before .before .before .before .pre .0) .size)) i, rw (c .before .before .before .before .loop .inv .0) i)
+solve-row-requires c κs =
+    let at-loop = c .before .before .before .before in
+    let at-start = at-loop .before .before .before .before in
+    let i = below (c .before .before) in
+    (rw (column-length _ _ _ (at-start .args .t .now) i (sized _ _ _ (at-start .pre .0) .size)) i, rw (at-loop .loop .inv .0) i)
 
 loop-again : tie.Need-loop-again Inv-loop μ-loop
-loop-again c = let k = (c .before .before .solve-row) in
-    let at = c .before .before .before .before .before in
-    let l = at .before .before in
-    let g = (c .before .before .before .before .before .before .before .before .before .before .before .args) in
-    let all = sym (l .before .turns-of .ensures) in
-    (k .kept .1 .1 .0 ∙ l .loop .inv .0, turns-next (turn (g .pass) (g .n) (columns (g .n) (g .n) (g .t .now))) _ _ _ _ (rw all (at .before .loop-test .taken)) (turn-done _ _ _ _ _ _ _ (at .row-at .ensures) (below at) (k .ensures)) ∙ l .loop .inv .1)
+loop-again c =
+    let at-row-at = c .before .before .before .before .before in
+    let at-loop-test = at-row-at .before in
+    let at-loop = at-loop-test .before in
+    let at-turns-of = at-loop .before in
+    let at-start = at-turns-of .before .before .before in
+    let k = c .before .before .solve-row in
+    let g = at-start .args in
+    let all = sym (at-turns-of .turns-of .ensures) in (
+      k .kept .1 .1 .0 ∙ at-loop .loop .inv .0,
+      turns-next (turn (g .pass) (g .n) (columns (g .n) (g .n) (g .t .now))) _ _ _ _ (rw all (at-loop-test .loop-test .taken))
+          (turn-done _ _ _ _ _ _ _ (at-row-at .row-at .ensures) (below at-row-at) (k .ensures))
+          ∙ at-loop .loop .inv .1,
+    )
 
 returns : tie.Need-returns Inv-loop μ-loop
 returns c = sym (turns-done _ _ _ _ (rw (sym (c .before .before .turns-of .ensures)) (c .loop-test .left))) ∙ (c .before .loop .inv .1)

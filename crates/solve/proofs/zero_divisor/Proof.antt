@@ -12,7 +12,9 @@ returns-2 : tie.Need-returns-2
 returns-2 c = rw (c .before .before .pass2 .given .1) (c .is-zero2 .ensures)
 
 returns-3 : tie.Need-returns-3
-returns-3 c = (c .zero-on-diagonal .ensures) ∙ own-stands (c .before .before .before .args .pass) _ _ (c .before .match .keys3)
+returns-3 c =
+    let at-start = c .before .before .before in
+    (c .zero-on-diagonal .ensures) ∙ own-stands (at-start .args .pass) _ _ (c .before .match .keys3)
 
 pub zero-divisor-spec : {M : Type 1} → statement M
 zero-divisor-spec =

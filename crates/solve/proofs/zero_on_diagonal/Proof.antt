@@ -25,7 +25,10 @@ matrix c = sym (c .before .is-matrix .ensures) ∙ not-false _ (c .if1 .left)
 
 -- in a turn, column i ends within it
 within : (c : tie.In-loop Inv-loop μ-loop) → let g = c .before .before .before .before .before .args in c .before .loop .i * g .n + g .n ≤ length (g .t .now)
-within c = let test = c .before .before in column-within _ _ _ (test .before .before .before .args .t .now) (c .loop-test .taken) (sized _ _ _ (matrix test) .size)
+within c =
+    let at-if1 = c .before .before in
+    let at-start = at-if1 .before .before .before in
+    column-within _ _ _ (at-start .args .t .now) (c .loop-test .taken) (sized _ _ _ (matrix at-if1) .size)
 
 returns : tie.Need-returns Inv-loop μ-loop
 unfolding zeroOnDiagonal
@@ -48,12 +51,18 @@ shared-slice-read-is-zero c = omega (arith, within (c .before))
 
 returns-2 : tie.Need-returns-2 Inv-loop μ-loop
 unfolding zeroOnDiagonal
-returns-2 c = let turn = c .before .before .before in
-    rw (matrix (turn .before .before)) (sym (zero-next _ _ _ true (turn .loop-test .taken) (sym (c .before .is-zero .ensures) ∙ (c .if2 .taken))) ∙ turn .before .loop .inv)
+returns-2 c =
+    let at-loop-test = c .before .before .before in
+    let at-loop = at-loop-test .before in
+    let at-if1 = at-loop .before in
+    rw (matrix at-if1) (sym (zero-next _ _ _ true (at-loop-test .loop-test .taken) (sym (c .before .is-zero .ensures) ∙ (c .if2 .taken)))
+    ∙ at-loop .loop .inv)
 
 loop-again : tie.Need-loop-again Inv-loop μ-loop
-loop-again c = let turn = c .before .before .before in
-    sym (zero-next _ _ _ false (turn .loop-test .taken) (sym (c .before .is-zero .ensures) ∙ (c .if2 .left))) ∙ turn .before .loop .inv
+loop-again c =
+    let at-loop-test = c .before .before .before in
+    let at-loop = at-loop-test .before in
+    sym (zero-next _ _ _ false (at-loop-test .loop-test .taken) (sym (c .before .is-zero .ensures) ∙ (c .if2 .left))) ∙ at-loop .loop .inv
 
 returns-3 : tie.Need-returns-3 Inv-loop μ-loop
 unfolding zeroOnDiagonal

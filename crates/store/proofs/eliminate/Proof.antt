@@ -23,7 +23,8 @@ abbrev μ-loop : tie.MeasureT-loop
 μ-loop s₀ m n i j₀ s j = n - j
 
 -- past the tests the slice is a matrix that has row and column i
-has : (c : tie.Else2 Inv-loop μ-loop) → let g = c .before .before .before .before .before .before .args in
+has : (c : tie.Else2 Inv-loop μ-loop) → let at-if1 = c .before .before in
+    let g = at-if1 .before .before .before .before .args in
     (isMatrix (g .m) (g .n) (g .s .now) ≡ true) × (g .i < g .m) × (g .i < g .n)
 has c =
     let at-min = c .before in
@@ -56,8 +57,13 @@ loop-again c =
     let at-loop = at-turn .before in
     let inv = at-loop .loop .inv in
     let hj = at-turn .loop-test .taken in
-    let made = at-step .step-inner .ensures in
-    (at-step .step-inner .kept .0 ∙ inv .0, omega arith, stepped-column _ _ _ _ _ _ hj made (inv .1) ∙ inv .2, stepped-turn _ _ _ _ _ _ hj made _ (inv .2) ∙ inv .3)
+    let made = at-step .step-inner .ensures in (
+      at-step .step-inner .kept .0 ∙ inv .0,
+      omega arith,
+      stepped-column _ _ _ _ _ _ hj made (inv .1)
+          ∙ inv .2,
+      stepped-turn _ _ _ _ _ _ hj made _ (inv .2) ∙ inv .3,
+    )
 
 returns-3 : tie.Need-returns-3 Inv-loop μ-loop
 unfolding stepColumns

@@ -15,22 +15,28 @@ returns : tie.Need-returns
 returns c = on-none _ _ _ _ (sym (c .before .is-matrix .ensures) ∙ not-true _ (c .if1 .taken))
 
 returns-2 : tie.Need-returns-2
-returns-2 c = on-done _ _ _ _ _ (sym (c .before .before .is-matrix .ensures) ∙ not-false _ (c .before .if1 .left)) refl (within-no-column _ _ _ _ _ (c .if2 .taken))
+returns-2 c =
+    on-done _ _ _ _ _ (sym (c .before .before .is-matrix .ensures) ∙ not-false _ (c .before .if1 .left)) refl (within-no-column _ _ _ _ _ (c .if2 .taken))
 
 returns-3 : tie.Need-returns-3
 returns-3 c =
     let at-min = c .before in
+    let at-if1 = at-min .before .before in
+    let at-is-matrix = at-if1 .before in
     let e = at-min .min .ensures in
-    let fit = sym (at-min .before .before .before .is-matrix .ensures) ∙ not-false _ (at-min .before .before .if1 .left) in
-    on-done _ _ _ _ _ fit refl (within-no-row _ _ _ _ _ fit (at-min .before .if2 .left) (omega arith))
+    let fit = sym (at-is-matrix .is-matrix .ensures) ∙ not-false _ (at-if1 .if1 .left) in
+    on-done _ _ _ _ _ fit refl (within-no-row _ _ _ _ _ fit (c .before .before .if2 .left) (omega arith))
 
 -- past the tests: the slice is a matrix that has row i and both columns
-has : (c : tie.Else3) → let g = c .before .before .before .before .before .before .before .args in
+has : (c : tie.Else3) → let at-if1 = c .before .before .before in
+    let g = at-if1 .before .before .before .before .args in
     (isMatrix (g .m) (g .n) (g .s .now) ≡ true) × (g .i < g .m) × (g .i < g .n) × (g .j < g .n)
 has c =
     let at-min = c .before in
+    let at-if1 = at-min .before .before in
+    let at-is-matrix = at-if1 .before in
     let e = at-min .min .ensures in
-    (sym (at-min .before .before .before .is-matrix .ensures) ∙ not-false _ (at-min .before .before .if1 .left), omega arith, omega arith, at-min .before .if2 .left)
+    (sym (at-is-matrix .is-matrix .ensures) ∙ not-false _ (at-if1 .if1 .left), omega arith, omega arith, c .before .before .if2 .left)
 
 step-inner-requires : tie.Need-step-inner-requires
 step-inner-requires c κs = has (c .before)

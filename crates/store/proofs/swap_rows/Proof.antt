@@ -18,14 +18,22 @@ Inv-loop s₀ m n i p from to end j₀ s j = (length s ≡ length s₀) × (rows
 abbrev μ-loop : tie.MeasureT-loop
 μ-loop s₀ m n i p from to end j₀ s j = n - j
 
--- the store has its size all along, and in a turn column j ends within it
-size : (c : tie.At-loop Inv-loop μ-loop) → length (c .loop .s) ≡ (c .before .before .before .before .before .before .before .args .n) * (c .before .before .before .before .before .before .before .args .m)
-size c = (c .loop .inv .0) ∙ sized _ _ _ (sym (c .before .before .before .before .is-matrix .ensures) ∙ not-false _ (c .before .before .before .if1 .left)) .size
+-- the start, from the loop
+abbrev start : tie.At-loop Inv-loop μ-loop → tie.Start Inv-loop μ-loop
+start c =
+    let at-is-matrix = c .before .before .before .before in
+    at-is-matrix .before .before .before
 
-within : (c : tie.In-loop Inv-loop μ-loop) → (c .before .loop .j) * (c .before .before .before .before .before .before .before .before .args .m) + (c .before .before .before .before .before .before .before .before .args .m) ≤ length (c .before .loop .s)
+-- the store has its size all along, and in a turn column j ends within it
+size : (c : tie.At-loop Inv-loop μ-loop) → let g = start c .args in length (c .loop .s) ≡ g .n * g .m
+size c =
+    let at-if1 = c .before .before .before in
+    (c .loop .inv .0) ∙ sized _ _ _ (sym (at-if1 .before .is-matrix .ensures) ∙ not-false _ (at-if1 .if1 .left)) .size
+
+within : (c : tie.In-loop Inv-loop μ-loop) → let g = start (c .before) .args in c .before .loop .j * g .m + g .m ≤ length (c .before .loop .s)
 within c =
-    let e = (c .before .before .min .ensures) in
-    let h : (c .before .loop .j) < (c .before .before .before .before .before .before .before .before .args .n) = omega arith in
+    let e = c .before .before .min .ensures in
+    let h : c .before .loop .j < start (c .before) .args .n = omega arith in
     column-within _ _ _ (c .before .loop .s) h (size (c .before))
 
 returns : tie.Need-returns Inv-loop μ-loop
@@ -48,12 +56,14 @@ part-swap-end c = within c
 
 add-j : tie.Need-add-j Inv-loop μ-loop
 add-j c =
-    let at-min = c .before .before .before .before .before .before in
+    let at-loop = c .before .before .before .before .before in
+    let at-min = at-loop .before in
     let e = at-min .min .ensures in omega arith
 
 loop-less : tie.Need-loop-less Inv-loop μ-loop
 loop-less c =
-    let at-min = c .before .before .before .before .before .before in
+    let at-loop = c .before .before .before .before .before in
+    let at-min = at-loop .before in
     let e = at-min .min .ensures in omega arith
 
 loop-again : tie.Need-loop-again Inv-loop μ-loop
@@ -80,7 +90,8 @@ returns-3 c =
     let at-if1 = at-min .before .before in
     let at-is-matrix = at-if1 .before in
     let e = at-min .min .ensures in
-    on-done _ _ _ _ _ (sym (at-is-matrix .is-matrix .ensures) ∙ not-false _ (at-if1 .if1 .left)) (at-loop .loop .inv .0) (sym (range-stop _ _ _ _ _ _ _ (rw (← e) (c .loop-test .left))) ∙ (at-loop .loop .inv .1))
+    on-done _ _ _ _ _ (sym (at-is-matrix .is-matrix .ensures) ∙ not-false _ (at-if1 .if1 .left)) (at-loop .loop .inv .0)
+    (sym (range-stop _ _ _ _ _ _ _ (rw (← e) (c .loop-test .left))) ∙ (at-loop .loop .inv .1))
 
 pub swap-rows-spec : {M : Type 1} → statement M
 swap-rows-spec =

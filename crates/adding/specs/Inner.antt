@@ -1,0 +1,43 @@
+-- What the promises of adding's inner functions speak of: what they know past the tests, and what each leaves.
+use mathlib.Core.Path.{_≡_}
+use mathlib.Core.Bool.{true}
+use mathlib.Core.List.{List, [], _∷_, _++_}
+use Prim.Native.Nat.{ℕ, _+_, _*_, _≤_, min}
+use lib.ListN.{length}
+use Rattle.numbers.specs.Column.{Column}
+use Rattle.store.specs.Columns.{columns, isMatrix, onColumns}
+use Rattle.store.specs.Steps.{Matrix, rowsSwapped}
+use Rattle.permutation_sequence.specs.SwapList.{goodList}
+use Rattle.factors.specs.declared.Record.{Record}
+use Rattle.factors.specs.Factors.{pairsWith, storeWith, recordOf, factorsIn, recordAfter}
+use Rattle.elimination.specs.Adding.{reduced}
+use Rattle.adding.specs.declared.Added.{Added}
+use Rattle.adding.specs.Adding.{addingRefusal, adding, added, recordIn, addingAnswer}
+
+-- the call is not refused by its tests; so there is room for the column, which has m entries, its slot lies within the store, and the list is good
+pub record Ready (r : Record) (s c : Column) (store : List ℕ) : Type 0 where
+  pub none : addingRefusal r s c store ≡ 0
+  pub few-rows : r .rows ≤ 64
+  pub few : r .columns ≤ 63
+  pub room : isMatrix (r .rows) (r .columns + 1) s ≡ true
+  pub within : r .columns * r .rows + r .rows ≤ length s
+  pub long : length c ≡ r .rows
+  pub store-room : length store ≡ 128
+  pub list : goodList (r .rows) (min (r .rows) (r .columns)) (r .pairs) store ≡ true
+
+-- the older columns, and the reduced column behind them
+unfoldable pub withReduced : ℕ → ℕ → ℕ → Column → Column → List ℕ → Matrix
+withReduced m n pairs s c store = columns m n s ++ reduced m (factorsIn m n pairs s store) c ∷ []
+
+-- rows n and p exchanged in the older columns, n being their number, and the swap recorded
+pub record Joined (r : Record) (p : ℕ) (s : Column) (store : List ℕ) (new : Record) (s' : Column) (store' : List ℕ) : Type 0 where
+  pub told : new ≡ recordOf (r .rows) (r .columns + 1) (pairsWith (r .columns) p (r .pairs) store)
+  pub rows : s' ≡ onColumns (r .rows) (r .columns + 1) (rowsSwapped (r .columns) p 0 (r .columns)) s
+  pub pairs : store' ≡ storeWith (r .columns) p (r .pairs) store
+
+-- the whole promise of adding
+pub record AddedTo (r : Record) (s c : Column) (store : List ℕ) (a : Added) (s' : Column) (store' : List ℕ) : Type 0 where
+  pub answer : added a ≡ addingAnswer r s c store
+  pub told : recordIn a ≡ recordAfter r (adding r s c store .answer)
+  pub factors : s' ≡ adding r s c store .left .factors
+  pub pairs : store' ≡ adding r s c store .left .store

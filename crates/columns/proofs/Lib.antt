@@ -1,0 +1,6 @@
+pub mod Build
+pub mod Reach
+pub mod Removes
+pub mod Restored
+pub mod Undone
+pub mod Unread

@@ -1,0 +1,62 @@
+-- The slot zeroed; then no pair goes, or the last one is undone: each by its law (`Removes`). Assumes nothing.
+use mathlib.Core.Path.{_≡_, sym, _∙_}
+use Prim.Native.Nat.{_<_}
+use native.Mathlib.Omega.{arith}
+use borrow.Author.Needs.{needs}
+use Rattle.columns.proofs.Undone.{undoes-some}
+use Rattle.columns.proofs.Removes.{promise-kept, promise-undone}
+use Rattle.columns.proofs.remove_tested.Statement.{statement}
+use Rattle.columns.proofs.remove_tested.Tie as tie
+
+-- the last pair goes, so there is one
+some : (c : tie.Then1) → let at-fill = c .before .before .before .before .before in 0 < at-fill .before .before .before .before .before .args .told .pairs
+some c = undoes-some _ _ _ (sym (c .before .undoes-swap .ensures) ∙ c .if1 .taken)
+
+undo-requires : tie.Need-undo-requires
+undo-requires c κs =
+    let at-if1 = c .before .before in
+    let at-fill = at-if1 .before .before .before .before .before in
+    let go = at-fill .before .before .before .before .before .pre in
+    let few = go .few in
+    let more = go .some in
+    (omega arith, some at-if1, go .few-pairs, go .room)
+
+sub-t23 : tie.Need-sub-t23
+sub-t23 c = let at-undo = c .before .before .before .before in some (at-undo .before .before .before)
+
+returns : tie.Need-returns
+returns c =
+    let at-undo = c .before .before .before .before in
+    let at-if1 = at-undo .before .before .before in
+    let at-fill = at-if1 .before .before .before .before .before in
+    let at-start = at-fill .before .before .before .before .before in
+    promise-undone _ _ _ (at-start .pre) _ (at-fill .fill-zero .kept .0) (at-fill .fill-zero .ensures) _ _ (some at-if1)
+    (sym (at-if1 .before .undoes-swap .ensures) ∙ at-if1 .if1 .taken) (at-undo .undo .kept .0) (at-undo .undo .ensures .0) (at-undo .undo .ensures .1)
+
+returns-2 : tie.Need-returns-2
+returns-2 c =
+    let at-fill = c .before .before .before .before .before in
+    let at-start = at-fill .before .before .before .before .before in
+    promise-kept _ _ _ (at-start .pre) _ (at-fill .fill-zero .kept .0) (at-fill .fill-zero .ensures) (sym (c .before .undoes-swap .ensures) ∙ c .if1 .left)
+
+pub remove-tested-spec : {M : Type 1} → statement M
+remove-tested-spec =
+    tie.close
+    (tie.spec
+    (λ c. search needs)
+    (λ c. search needs)
+    (λ c. search needs)
+    (λ c. search needs)
+    (λ c. search needs)
+    (λ c. search needs)
+    (λ c. search needs)
+    (λ c κs. search needs)
+    (λ c κs. search needs)
+    undo-requires
+    sub-t23
+    (λ c. search needs)
+    (λ c. search needs)
+    returns
+    (λ c. search needs)
+    (λ c. search needs)
+    returns-2)

@@ -1,0 +1,45 @@
+-- What the promises of the inner functions of removing and building up speak of.
+use mathlib.Core.Path.{_≡_}
+use mathlib.Core.Bool.{Bool, true}
+use mathlib.Core.List.{List}
+use Prim.Native.Nat.{ℕ, _+_, _-_, _*_, _≤_, min}
+use lib.ListN.{length}
+use Rattle.numbers.specs.Column.{Column}
+use Rattle.finite.specs.Finite.{allFinite}
+use Rattle.store.specs.Columns.{columns, flat, isMatrix}
+use Rattle.permutation_sequence.specs.SwapList.{pairsOf, goodList}
+use Rattle.factors.specs.declared.Record.{Record}
+use Rattle.factors.specs.Factors.{storeOf, recordAfter}
+use Rattle.elimination.specs.Elimination.{eliminate}
+use Rattle.elimination.specs.TossUps.{tossUps}
+use Rattle.lu.specs.declared.Factored.{Factored}
+use Rattle.lu.specs.Factoring.{settled, factored, withTossUps}
+use Rattle.columns.specs.declared.Removed.{Removed}
+use Rattle.columns.specs.Removing.{goodUndoing, removingRefusal, removing, removed, recordIn}
+
+-- the list is good and can have the last column taken off it; what is said of a list that is not good does not matter
+pub record RemovableIf (r : Record) (store : List ℕ) (is : Bool) : Type 0 where
+  pub good : goodList (r .rows) (min (r .rows) (r .columns)) (r .pairs) store ≡ true
+      → is ≡ goodUndoing (r .rows) (r .columns - 1) (pairsOf (r .pairs) store)
+
+-- removing is not refused by its tests; so there is a column, its slot lies within the store, and the pairs lie in the swap store
+pub record Ready (r : Record) (s : Column) (store : List ℕ) : Type 0 where
+  pub none : removingRefusal r s store ≡ 0
+  pub some : 1 ≤ r .columns
+  pub few : r .columns ≤ 64
+  pub matrix : isMatrix (r .rows) (r .columns) s ≡ true
+  pub within : (r .columns - 1) * r .rows + r .rows ≤ length s
+  pub few-pairs : r .pairs ≤ 64
+  pub room : length store ≡ 128
+
+-- the whole promise of removing
+pub record RemovedFrom (r : Record) (s : Column) (store : List ℕ) (a : Removed) (s' : Column) (store' : List ℕ) : Type 0 where
+  pub answer : removed a ≡ removing r s store .answer
+  pub told : recordIn a ≡ recordAfter r (removing r s store .answer)
+  pub factors : s' ≡ removing r s store .left .factors
+  pub pairs : store' ≡ removing r s store .left .store
+
+-- what adding all columns of an m by n matrix leaves: factoring's answer, and where the factors are finite, they and the swaps
+pub record AllAdded (m n : ℕ) (a : Column) (r : Factored) (s : Column) (store : List ℕ) : Type 0 where
+  pub answer : factored r ≡ withTossUps (tossUps m (columns m n a)) (settled m n (eliminate m (columns m n a)) .answer)
+  pub held : let f = eliminate m (columns m n a) in allFinite (flat (f .columns)) ≡ true → (s ≡ flat (f .columns)) × (store ≡ storeOf (f .swaps))

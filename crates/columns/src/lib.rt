@@ -1,0 +1,193 @@
+// The last column taken off the factors of `lu` (document 02, request 2), and factors built up column by column.
+ghost use mathlib.Core.Path.{_≡_};
+ghost use mathlib.Core.List.{[]};
+ghost use Prim.Native.Nat.{_+_, _-_, _*_, _<_, _≤_, min};
+ghost use lib.ListN.{length, getD, set};
+ghost use Rattle.store.specs.Columns.{onColumns};
+ghost use Rattle.store.specs.Steps.{rowsSwapped};
+ghost use Rattle.permutation_sequence.specs.SwapList.{pairsOf};
+ghost use Rattle.factors.specs.Factors.{storeOf, recordAfter};
+ghost use Rattle.elimination.specs.Removing.{undoes};
+ghost use Rattle.lu.specs.Factoring.{factoringRefusal, factoring, factored, factoringAnswer};
+ghost use Rattle.columns.specs.Removing.{goodUndoing, removingRefusal, removing, removed, recordIn};
+ghost use Rattle.columns.specs.Inner.{RemovableIf, Ready, RemovedFrom, AllAdded};
+use adding::Added;
+use factors::Asks;
+use factors::Record;
+use lu::Factored;
+
+// What removing a column answers: the new record, or a refusal's number with the old record.
+pub enum Removed {
+    Accepted(Record),
+    Refused { number: usize, told: Record },
+}
+
+// The number of the last of n columns; 0 where there is none.
+fn last_of(n: usize) -> usize
+    ensures { λ r. ⌜ r ≡ n - 1 ⌝ }
+{
+    if n == 0 {
+        return 0;
+    }
+    n - 1
+}
+
+// Whether the last pair begins with the number of the last column.
+fn undoes_swap(swaps: &[usize], pairs: usize, last: usize) -> bool
+    requires { ⌜ 2 * pairs ≤ length (now swaps) ⌝ }
+    ensures { λ r. ⌜ r ≡ undoes last (pairsOf pairs (now (swaps .entry))) ⌝ }
+{
+    if pairs == 0 {
+        return false;
+    }
+    swaps[2 * pairs - 2] == last
+}
+
+// Whether the last column, number `last`, can be taken off a good list.
+fn is_removable(swaps: &[usize], pairs: usize, m: usize, last: usize) -> bool
+    requires { ⌜ (2 * pairs ≤ length (now swaps)) × (pairs ≤ min m (last + 1)) ⌝ }
+    ensures { λ r. ⌜ r ≡ goodUndoing m last (pairsOf pairs (now (swaps .entry))) ⌝ }
+{
+    if undoes_swap(swaps, pairs, last) {
+        return last <= swaps[2 * pairs - 1];
+    }
+    pairs <= store::min(m, last)
+}
+
+// The same of any list; a list that is not good is not removable.
+fn is_good_to_remove(swaps: &[usize], told: Record) -> bool
+    ensures { λ r. ⌜ RemovableIf told (now (swaps .entry)) r ⌝ }
+{
+    let m = told.rows;
+    let n = told.columns;
+    let pairs = told.pairs;
+    if permutation_sequence::is_good_list(swaps, pairs, m, store::min(m, n)) {
+        return is_removable(swaps, pairs, m, last_of(n));
+    }
+    false
+}
+
+// The number of the refusal before the work, 0 for none.
+fn removing_refusal(s: &[f64], swaps: &[usize], told: Record) -> usize
+    ensures { λ r. ⌜ r ≡ removingRefusal told (now (s .entry)) (now (swaps .entry)) ⌝ }
+{
+    let asks = Asks {
+        square: false,
+        solves: false,
+        sizes: 1 <= told.columns,
+        lengths: true,
+        list: is_good_to_remove(swaps, told),
+        numbers: true,
+    };
+    factors::held_refusal(s, swaps, told, asks)
+}
+
+// Undoes the last pair: its two rows exchanged in the n older columns, and the pair zero.
+fn undo(s: &mut [f64], m: usize, n: usize, swaps: &mut [usize], pairs: usize)
+    requires { ⌜ (n < 64) × (0 < pairs) × (pairs ≤ 64) × (length (now swaps) ≡ 128) ⌝ }
+    ensures { λ _. ⌜ now (s .exit) ≡ onColumns m (n + 1) (rowsSwapped n (getD (now (swaps .entry)) (2 * pairs - 1) 0) 0 n) (now (s .entry)) ⌝ }
+    ensures { λ _. ⌜ now (swaps .exit) ≡ set (set (now (swaps .entry)) (2 * pairs - 2) 0) (2 * pairs - 1) 0 ⌝ }
+{
+    let second = swaps[2 * pairs - 1];
+    store::swap_rows(s, m, n + 1, n, second, 0, n);
+    swaps[2 * pairs - 2] = 0;
+    swaps[2 * pairs - 1] = 0;
+}
+
+// Takes the last column off, past the tests.
+fn remove_tested(s: &mut [f64], swaps: &mut [usize], told: Record) -> Record
+    requires { ⌜ Ready told (now s) (now swaps) ⌝ }
+    ensures { λ r. ⌜ RemovedFrom told (now (s .entry)) (now (swaps .entry)) (Removed.Accepted r) (now (s .exit)) (now (swaps .exit)) ⌝ }
+{
+    let m = told.rows;
+    let n = told.columns - 1;
+    let pairs = told.pairs;
+    let a = n * m;
+    let e = a + m;
+    blas::fill_zero(&mut s[a..e]);
+    if undoes_swap(swaps, pairs, n) {
+        undo(s, m, n, swaps, pairs);
+        return Record {
+            rows: m,
+            columns: n,
+            pairs: pairs - 1,
+        };
+    }
+    Record {
+        rows: m,
+        columns: n,
+        pairs,
+    }
+}
+
+// Takes the last column off the factors in s: the factors before it was added, its slot zero.
+pub fn remove_column(s: &mut [f64], swaps: &mut [usize], told: Record) -> Removed
+    ensures { λ r. ⌜ removed r ≡ removing told (now (s .entry)) (now (swaps .entry)) .answer ⌝ }
+    ensures { λ r. ⌜ recordIn r ≡ recordAfter told (removing told (now (s .entry)) (now (swaps .entry)) .answer) ⌝ }
+    ensures { λ _. ⌜ now (s .exit) ≡ removing told (now (s .entry)) (now (swaps .entry)) .left .factors ⌝ }
+    ensures { λ _. ⌜ now (swaps .exit) ≡ removing told (now (s .entry)) (now (swaps .entry)) .left .store ⌝ }
+{
+    let number = removing_refusal(s, swaps, told);
+    if number != 0 {
+        return Removed::Refused { number, told };
+    }
+    Removed::Accepted(remove_tested(s, swaps, told))
+}
+
+// Adds the columns of the m by n matrix a one by one, from none on. Answers the last record, or refusal 7 where a column is refused.
+fn add_all(a: &[f64], m: usize, n: usize, out: &mut [f64], swaps: &mut [usize]) -> Factored
+    requires { ⌜ factoringRefusal m n (now a) (now out) (now swaps) ≡ 0 ⌝ }
+    requires { ⌜ now swaps ≡ storeOf [] ⌝ }
+    ensures { λ r. ⌜ AllAdded m n (now (a .entry)) r (now (out .exit)) (now (swaps .exit)) ⌝ }
+{
+    let mut told = Record {
+        rows: m,
+        columns: 0,
+        pairs: 0,
+    };
+    let mut tossed = 0;
+    let mut k = 0;
+    while k < n {
+        let b = k * m;
+        let e = b + m;
+        let answer = adding::add_column(&mut out[..e], &a[b..e], swaps, told);
+        let Added::Accepted {
+            told: next,
+            toss_ups: own,
+        } = answer
+        else {
+            return Factored::Refused(7);
+        };
+        told = next;
+        tossed += own;
+        k += 1;
+    }
+    Factored::Accepted {
+        told,
+        toss_ups: tossed,
+    }
+}
+
+// Factors the m by n matrix a into out by adding its columns one by one: the same outcome as `factor`, on every input.
+pub fn build_up(a: &[f64], m: usize, n: usize, out: &mut [f64], swaps: &mut [usize]) -> Factored
+    ensures { λ r. ⌜ factored r ≡ factoringAnswer m n (now (a .entry)) (now (out .entry)) (now (swaps .entry)) ⌝ }
+    ensures { λ _. ⌜ now (out .exit) ≡ factoring m n (now (a .entry)) (now (out .entry)) (now (swaps .entry)) .left .factors ⌝ }
+    ensures { λ _. ⌜ now (swaps .exit) ≡ factoring m n (now (a .entry)) (now (out .entry)) (now (swaps .entry)) .left .store ⌝ }
+{
+    let number = lu::factor_refusal(a, m, n, out, swaps);
+    if number != 0 {
+        return Factored::Refused(number);
+    }
+    factors::clear(swaps);
+    let answer = add_all(a, m, n, out, swaps);
+    let Factored::Accepted {
+        told: _,
+        toss_ups: _,
+    } = answer
+    else {
+        blas::fill_zero(out);
+        factors::clear(swaps);
+        return answer;
+    };
+    answer
+}

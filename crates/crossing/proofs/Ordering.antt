@@ -1,0 +1,115 @@
+-- The whole answer as the code puts it together: the factors, then the loads and their ranks; and what is known of the loads. By the case of the outcome.
+-- Assumes nothing.
+use mathlib.Core.Path.{_≡_, sym, ap, _∙_}
+use mathlib.Core.Bool.{true, false}
+use mathlib.Core.List.{List, _++_}
+use Prim.Native.Nat.{ℕ, _+_, _≤_}
+use native.Mathlib.Omega.{arith}
+use lib.ListN.{length, take, drop, length-append, length-drop}
+use lib.Seq.{length-take-le, take-at}
+use Rattle.numbers.specs.Column.{Column}
+use Rattle.finite.specs.Finite.{allFinite}
+use Rattle.refusals.specs.Outcome.{Outcome, done, refused, andThen}
+use Rattle.ranking.specs.Ranking.{ranked, padsTo}
+use Rattle.factors.specs.declared.Record.{Record}
+use Rattle.panel_file.specs.File.{padsOf, readingsOf}
+use Rattle.refusals.proofs.Cases.{done-same, never-both, then-done, then-refused}
+use Rattle.crossing.specs.declared.Order.{Order}
+use Rattle.crossing.specs.declared.Order.the-variants.{Pads, Refused}
+use Rattle.crossing.specs.Below.{Packed, packedIn, solutionBy, solutionIn}
+use Rattle.crossing.specs.Factors.{factorsIn, tossUpsIn, settledIn, fronted}
+use Rattle.crossing.specs.Ordering.{loadsOf, ranksLeft, ordering, padsOrdered}
+use Rattle.crossing.proofs.Below.{solution-finite, solution-few, ranksBy, ranks-made}
+use Rattle.crossing.proofs.Factors.{factors-few, factors-size}
+
+-- ---- solving, then ranking: o is what the solve came to, of n pads
+
+module _ (n tossed : ℕ) (o : Outcome Column) where
+  -- an accepted solve, with k pads and with `now` in the slice for it: the solution stands in front
+  pub record Solved (k : ℕ) (now : Column) : Type 0 where
+    pub x : Column
+    pub pads : k ≡ n
+    pub is : o ≡ done x
+    pub size : length x ≡ k
+    pub front : take k now ≡ x
+
+  front-done : (x was now : Column) → o ≡ done x → now ≡ fronted n o was → n ≤ length was → length now ≡ length was → (length x ≡ n) × (take n now ≡ x)
+  unfolding settledIn
+  front-done x was now e f h l =
+      let is : now ≡ x ++ drop n was = f ∙ ap (λ (p : Outcome Column). fronted n p was) e in
+      let lengths : length now ≡ length x + length (drop n was) = ap length is ∙ length-append x (drop n was) in
+      let size : length x ≡ n = omega (arith, length-drop n was) in
+      (size, ap (take n) is ∙ take-at x (drop n was) n size)
+
+  module _ (made : Order) (e : padsOrdered made ≡ andThen o (λ _. done (n, tossed))) where
+    pub solved : (k t : ℕ) (was now : Column) → made ≡ Pads k t → now ≡ fronted n o was → n ≤ length was → length now ≡ length was → Solved k now
+    unfolding padsOrdered
+    solved k t was now is f h l =
+        then-done o (λ _. done (n, tossed)) (k, t) (sym e ∙ ap padsOrdered is)
+        (λ x d j.
+        let same : k ≡ n = ap (λ (y : ℕ × ℕ). y .0) (sym (done-same (n, tossed) (k, t) j)) in
+        let q = front-done x was now d f h l in
+        record { x = x; pads = same; is = d; size = q .0 ∙ sym same; front = rw same (q .1) })
+
+    pub not-solved : (k : ℕ) → made ≡ Refused k → o ≡ refused k
+    unfolding padsOrdered
+    not-solved k t = then-refused o (λ _. done (n, tossed)) k (sym e ∙ ap padsOrdered t) (λ d. d) (λ x d f. never-both (n, tossed) k f)
+
+  pub ranked-left : (k : ℕ) (now : Column) → Solved k now → ((x : Column) → o ≡ done x → allFinite x ≡ true) → 1 ≤ n → n ≤ 64 → (ranks r : List ℕ)
+      → length ranks ≡ 64 → r ≡ ranksBy k (take k now) (take k ranks) → r ++ drop k ranks ≡ ranksLeft n o ranks
+  unfolding ranksLeft
+  ranked-left k now s finite lo hi ranks r l f =
+      let fits : k ≤ length ranks = omega (arith, s .pads) in
+      let low : 1 ≤ k = omega (arith, s .pads) in
+      let high : k ≤ 64 = omega (arith, s .pads) in
+      let made : r ≡ ranked (s .x) (padsTo k) =
+      f ∙ ap (λ (t : Column). ranksBy k t (take k ranks)) (s .front)
+      ∙ ranks-made k (s .x) (take k ranks) low high (s .size) (length-take-le k ranks fits) (finite (s .x) (s .is)) in
+      (λ i. made i ++ drop k ranks) ∙ ap (λ (j : ℕ). ranked (s .x) (padsTo j) ++ drop j ranks) (s .pads)
+      ∙ ap (λ (p : Outcome Column). ranksLeft n p ranks) (sym (s .is))
+
+pub ranks-kept : (n : ℕ) (o : Outcome Column) (k : ℕ) (ranks : List ℕ) → o ≡ refused k → ranks ≡ ranksLeft n o ranks
+unfolding ranksLeft
+ranks-kept n o k ranks e = ap (λ (p : Outcome Column). ranksLeft n p ranks) (sym e)
+
+-- ---- a file
+
+module _ (bytes : List ℕ) where
+  abbrev n : ℕ
+  n = padsOf bytes
+
+  -- what the loads are known by
+  pub loads-known : (x : Column) → loadsOf bytes ≡ done x → (1 ≤ n) × (n ≤ 64) × (allFinite x ≡ true)
+  unfolding loadsOf
+  loads-known x e =
+      then-done (factorsIn bytes) (λ f. solutionBy false f (readingsOf n bytes)) x e
+      (λ p d f. let size = factors-size bytes p d in (size .0, size .1, solution-finite false p (readingsOf n bytes) x f))
+
+  pub loads-few : (k : ℕ) → loadsOf bytes ≡ refused k → k ≤ 8
+  unfolding loadsOf
+  loads-few k e =
+      then-refused (factorsIn bytes) (λ f. solutionBy false f (readingsOf n bytes)) k e (factors-few bytes k)
+      (λ p d f. solution-few false p (readingsOf n bytes) k f)
+
+  module _ (ranks : List ℕ) (loads : Column) where
+    pub ordering-held : (told : Record) (M R : Column) (S : List ℕ) → factorsIn bytes ≡ done (packedIn told M S) → told .rows ≡ n
+        → take (told .rows) R ≡ readingsOf n bytes
+        → (tossed : ℕ) → tossed ≡ tossUpsIn bytes → (answer : Order) (r : List ℕ) (x : Column) → padsOrdered answer ≡ andThen (solutionIn false told M S R) (λ _. done (told .rows, tossed))
+        → r ≡ ranksLeft (told .rows) (solutionIn false told M S R) ranks → x ≡ fronted (told .rows) (solutionIn false told M S R) loads
+        → (padsOrdered answer ≡ ordering bytes ranks loads .answer)
+        × ((r ≡ ordering bytes ranks loads .left .ranks) × (x ≡ ordering bytes ranks loads .left .loads))
+    unfolding ordering loadsOf andThen
+    ordering-held told M R S e d b tossed t answer r x p q f =
+        let same : solutionIn false told M S R ≡ loadsOf bytes =
+        ap (solutionBy false (packedIn told M S)) b ∙ ap (λ (o : Outcome Packed). andThen o (λ f. solutionBy false f (readingsOf n bytes))) (sym e) in
+        (p ∙ (λ i. andThen (same i) (λ _. done (d i, t i))), (q ∙ (λ i. ranksLeft (d i) (same i) ranks), f ∙ (λ i. fronted (d i) (same i) loads)))
+
+    pub ordering-refused : (k m : ℕ) (answer : Order) (x : Column) → factorsIn bytes ≡ refused k → m ≡ n → answer ≡ Refused k → x ≡ fronted m (refused k) loads
+        → (padsOrdered answer ≡ ordering bytes ranks loads .answer)
+        × ((ranks ≡ ordering bytes ranks loads .left .ranks) × (x ≡ ordering bytes ranks loads .left .loads))
+    unfolding ordering loadsOf andThen padsOrdered ranksLeft
+    ordering-refused k m answer x e d a f =
+        let same : refused k ≡ loadsOf bytes = ap (λ (o : Outcome Packed). andThen o (λ f. solutionBy false f (readingsOf n bytes))) (sym e) in (
+          ap padsOrdered a ∙ ap (λ (o : Outcome Column). andThen o (λ _. done (n, tossUpsIn bytes))) same,
+          (ap (λ (o : Outcome Column). ranksLeft n o ranks) same, f ∙ (λ i. fronted (d i) (same i) loads)),
+        )

@@ -1,0 +1,4 @@
+pub mod Below
+pub mod Factors
+pub mod Ordering
+pub mod Moving

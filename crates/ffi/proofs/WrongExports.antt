@@ -1,0 +1,198 @@
+-- Two wrong programs for each call of `ffi`: all that always give the same, and one that makes an error of this layer, named at each call. Shown at refused
+-- inputs, where nothing has to be computed, and for a panel file at one of no numbers; what the meanings shut out besides is in the theorems of the calls that
+-- are handed on to. Assumes nothing.
+use mathlib.Core.Path.{_≡_, sym, ap, _∙_}
+use mathlib.Core.Bool.{Bool, true, false, false≢true}
+use mathlib.Core.List.{List, [], _∷_}
+use Prim.Native.Nat.{ℕ}
+use native.Mathlib.Omega.{arith}
+use lib.ListN.{replicate}
+use lib.Ieee.{Float}
+use Rattle.numbers.specs.Column.{Column, zeros}
+use Rattle.store.specs.Columns.{isMatrix}
+use Rattle.refusals.specs.Outcome.{Outcome, done, refused, numberOf, firstOf, tested, andThen, Call}
+use Rattle.refusals.specs.Refusals.{outside}
+use Rattle.refusals.proofs.Strength.{ShutsOut, shut-out, Strong, strong, TwoShutOut, two}
+use Rattle.ranking.specs.Ranking.{rankingRefusal, ranking}
+use Rattle.factors.specs.declared.Record.{Record}
+use Rattle.factors.specs.Factors.{recordOf, Slices, recordAfter}
+use Rattle.factors.specs.Held.{heldRefusal}
+use Rattle.lu.specs.Factoring.{factoringRefusal, factoring, withTossUps, factoringAnswer, pairsIn, tossedIn}
+use Rattle.adding.specs.Adding.{addingRefusal, adding, addingAnswer}
+use Rattle.from_factors.specs.Solving.{solving, inverting}
+use Rattle.from_factors.specs.Determinant.{producing, determining, inverseTest}
+use Rattle.from_factors.proofs.Figures.{n0, n1}
+use Rattle.panel_file.specs.File.{littleEndian, fieldAt, headed, padsOf}
+use Rattle.panel_file.specs.Reading.{fileTests, fileRefusal}
+use Rattle.crossing.specs.Factors.{factorsIn, settledIn}
+use Rattle.crossing.specs.Ordering.{loadsOf, ranksLeft, Ranks, ordering}
+use Rattle.ffi.specs.Exports.{valueAfter, resultAfter, padsIn}
+
+-- a name for all that has to unfold for a call to be refused
+refuses : Type 0
+unfolding isMatrix numberOf firstOf outside tested andThen rankingRefusal ranking recordAfter heldRefusal factoringRefusal factoring withTossUps factoringAnswer
+    pairsIn tossedIn addingRefusal adding addingAnswer solving inverting producing determining inverseTest littleEndian fieldAt headed fileTests fileRefusal
+    factorsIn
+    settledIn loadsOf ranksLeft ordering valueAfter resultAfter padsIn
+refuses = Unit {0}
+
+-- ---- factoring and adding
+
+-- what the two calls give: the number, the two slices, the pairs and the toss-ups
+pub record Given : Type 0 where
+  pub number : ℕ
+  pub factors : Column
+  pub store : List ℕ
+  pub pairs : ℕ
+  pub tossed : ℕ
+
+abbrev givenOf : Outcome (Record × ℕ) → Slices → ℕ → Given
+givenOf answer left pairs = record { number = numberOf answer; factors = left .factors; store = left .store; pairs = pairs; tossed = tossedIn answer }
+
+-- sizes, the number of pairs before, two slices and the swap store
+pub record Lent : Type 0 where
+  pub m : ℕ
+  pub n : ℕ
+  pub pairs : ℕ
+  pub first : Column
+  pub second : Column
+  pub store : List ℕ
+
+-- no rows, and one pair; one row, and no store
+abbrev noRows : Lent
+noRows = record { m = 0; n = 0; pairs = 1; first = []; second = []; store = [] }
+
+abbrev noStore : Lent
+noStore = record { m = 1; n = 0; pairs = 1; first = []; second = []; store = [] }
+
+abbrev factors : Lent → Given
+factors x =
+    let answer = factoringAnswer (x .m) (x .n) (x .first) (x .second) (x .store) in
+    givenOf answer (factoring (x .m) (x .n) (x .first) (x .second) (x .store) .left) (pairsIn answer)
+
+-- the pairs as they were, where it is refused
+abbrev pairs-left : Lent → Given
+pairs-left x = record { number = factors x .number; factors = factors x .factors; store = factors x .store; pairs = x .pairs; tossed = factors x .tossed }
+
+pub wejdarox-factor : TwoShutOut factors pairs-left
+unfolding refuses
+wejdarox-factor =
+    two factors pairs-left noRows noRows noStore (λ d. omega (arith, ap (λ (o : Given). o .pairs) d)) (λ d. omega (arith, ap (λ (o : Given). o .number) d))
+
+abbrev adds : Lent → Given
+adds x =
+    let r = recordOf (x .m) (x .n) (x .pairs) in
+    let o = adding r (x .first) (x .second) (x .store) in
+    givenOf (addingAnswer r (x .first) (x .second) (x .store)) (o .left) (recordAfter r (o .answer) .pairs)
+
+-- no pairs, whatever there were
+abbrev pairs-lost : Lent → Given
+pairs-lost x = record { number = adds x .number; factors = adds x .factors; store = adds x .store; pairs = 0; tossed = adds x .tossed }
+
+pub wejdarox-add-column : TwoShutOut adds pairs-lost
+unfolding refuses
+wejdarox-add-column =
+    two adds pairs-lost noRows noRows noStore (λ d. omega (arith, ap (λ (o : Given). o .pairs) d)) (λ d. omega (arith, ap (λ (o : Given). o .number) d))
+
+-- ---- the calls on factors: rows and columns exchanged, which gives 2 for 1; one row and no store is 3
+
+abbrev Sizes : Type 0
+Sizes = ℕ × (ℕ × ℕ)
+
+abbrev noSizes : Sizes
+noSizes = (0, (1, 0))
+
+abbrev oneByOne : Sizes
+oneByOne = (1, (1, 0))
+
+abbrev swapped : Sizes → Sizes
+swapped s = (s .1 .0, (s .0, s .1 .1))
+
+-- the calls that leave one slice: their number, and the slice
+abbrev numbered : Call (Unit {0}) Column → ℕ × Column
+numbered o = (numberOf (o .answer), o .left)
+
+abbrev solves : Sizes × (Column × (List ℕ × (ℕ × (Column × Column)))) → ℕ × Column
+solves x = numbered (solving (recordOf (x .0 .0) (x .0 .1 .0) (x .0 .1 .1)) (x .1 .0) (x .1 .1 .0) (x .1 .1 .1 .0) (x .1 .1 .1 .1 .0) (x .1 .1 .1 .1 .1))
+
+pub wejdarox-solve : TwoShutOut solves (λ x. solves (swapped (x .0), x .1))
+unfolding refuses
+wejdarox-solve =
+    two solves (λ x. solves (swapped (x .0), x .1)) (noSizes, ([], ([], (1, ([], []))))) (noSizes, ([], ([], (1, ([], [])))))
+    (oneByOne, ([], ([], (1, ([], [])))))
+    (λ d. omega (arith, ap (λ (o : ℕ × Column). o .0) d)) (λ d. omega (arith, ap (λ (o : ℕ × Column). o .0) d))
+
+abbrev inverts : Sizes × (Column × (List ℕ × Column)) → ℕ × Column
+inverts x = numbered (inverting (recordOf (x .0 .0) (x .0 .1 .0) (x .0 .1 .1)) (x .1 .0) (x .1 .1 .0) (x .1 .1 .1))
+
+pub wejdarox-inverse : TwoShutOut inverts (λ x. inverts (swapped (x .0), x .1))
+unfolding refuses
+wejdarox-inverse =
+    two inverts (λ x. inverts (swapped (x .0), x .1)) (noSizes, ([], ([], []))) (noSizes, ([], ([], []))) (oneByOne, ([], ([], [])))
+    (λ d. omega (arith, ap (λ (o : ℕ × Column). o .0) d)) (λ d. omega (arith, ap (λ (o : ℕ × Column). o .0) d))
+
+-- the determinant, where a number stood before: +0.0 for every refusal
+abbrev determines : Sizes × (Column × (List ℕ × Float)) → ℕ × Float
+determines x = let o = determining (recordOf (x .0 .0) (x .0 .1 .0) (x .0 .1 .1)) (x .1 .0) (x .1 .1 .0) in (numberOf o, resultAfter o (x .1 .1 .1))
+
+abbrev zeroed : Sizes × (Column × (List ℕ × Float)) → ℕ × Float
+zeroed x = (determines x .0, n0)
+
+pub wejdarox-determinant : TwoShutOut determines zeroed
+unfolding refuses
+wejdarox-determinant =
+    two determines zeroed (noSizes, ([], ([], n1))) (noSizes, ([], ([], n1))) (oneByOne, ([], ([], n1)))
+    (λ d. one-zero (ap (λ (o : ℕ × Float). o .1) d)) (λ d. omega (arith, ap (λ (o : ℕ × Float). o .0) d))
+  where
+    one-zero : n1 ≡ n0 → ⊥
+    one-zero d = let z : _≡_ {A = ℕ} 0 1 = cc in omega arith
+
+-- the invertible test, where a truth stood before: false for every refusal
+abbrev tests : Sizes × (Column × (List ℕ × Bool)) → ℕ × Bool
+tests x = let o = inverseTest (recordOf (x .0 .0) (x .0 .1 .0) (x .0 .1 .1)) (x .1 .0) (x .1 .1 .0) in (numberOf o, valueAfter o (x .1 .1 .1))
+
+abbrev denied : Sizes × (Column × (List ℕ × Bool)) → ℕ × Bool
+denied x = (tests x .0, false)
+
+pub wejdarox-is-invertible : TwoShutOut tests denied
+unfolding refuses
+wejdarox-is-invertible =
+    two tests denied (noSizes, ([], ([], true))) (noSizes, ([], ([], true))) (oneByOne, ([], ([], true)))
+    (λ d. false≢true (sym (ap (λ (o : ℕ × Bool). o .1) d))) (λ d. omega (arith, ap (λ (o : ℕ × Bool). o .0) d))
+
+-- ---- the ranking: never a refusal
+abbrev ranks : ℕ × (Column × List ℕ) → ℕ × List ℕ
+ranks x = let o = ranking (x .0) (x .1 .0) (x .1 .1) in (numberOf (o .answer), o .left)
+
+pub wejdarox-rank : Strong ranks ((made : ℕ × (Column × List ℕ) → List ℕ) → ShutsOut ranks (λ x. (0, made x)))
+unfolding refuses
+wejdarox-rank =
+    strong ranks (0, ([], [])) (1, ([], [])) (λ d. omega (arith, ap (λ (o : ℕ × List ℕ). o .0) d))
+    (λ made. shut-out ranks (λ x. (0, made x)) (0, ([], [])) (λ d. omega (arith, ap (λ (o : ℕ × List ℕ). o .0) d)))
+
+-- ---- a panel file, with slices of 64: the number of pads in its head, also where it is refused; `LXP`, version 1, one pad and no numbers is 3
+pub record Ordered : Type 0 where
+  pub number : ℕ
+  pub pads : ℕ
+  pub tossed : ℕ
+  pub left : Ranks
+
+abbrev orders : List ℕ × Ranks → Ordered
+orders x =
+    let o = ordering (x .0) (x .1 .ranks) (x .1 .loads) in
+    record { number = numberOf (o .answer); pads = padsIn (o .answer); tossed = tossedIn (o .answer); left = o .left }
+
+abbrev headPads : List ℕ × Ranks → Ordered
+headPads x = record { number = orders x .number; pads = padsOf (x .0); tossed = orders x .tossed; left = orders x .left }
+
+abbrev onePad : List ℕ
+onePad = 76 ∷ 88 ∷ 80 ∷ 1 ∷ 0 ∷ 1 ∷ []
+
+abbrev unranked : Ranks
+unranked = record { ranks = replicate 64 0; loads = zeros 64 }
+
+pub wejdarox-pad-order : TwoShutOut orders headPads
+unfolding refuses
+wejdarox-pad-order =
+    two orders headPads (onePad, unranked) (onePad, unranked) ([], unranked) (λ d. omega (arith, ap (λ (o : Ordered). o .pads) d))
+    (λ d. omega (arith, ap (λ (o : Ordered). o .number) d))

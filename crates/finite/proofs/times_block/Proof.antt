@@ -1,0 +1,49 @@
+-- Each product takes the factor at its own place: what is left to do from place k on is `eachFrom` from k on. Assumes nothing.
+use Prim.Native.Nat.{_-_}
+use mathlib.Core.Path.{_≡_, refl, sym, _∙_}
+use native.Mathlib.Omega.{arith}
+use borrow.Author.Needs.{needs}
+use lib.ListN.{length}
+use lib.Ieee.{nan}
+use Rattle.numbers.specs.Each.{eachFrom}
+use Rattle.numbers.proofs.Each.{each-step, each-stop}
+use Rattle.finite.proofs.Product.{byEntry}
+use Rattle.finite.proofs.times_block.Statement.{statement}
+use Rattle.finite.proofs.times_block.Tie as tie
+
+abbrev Inv-loop : tie.InvT-loop
+Inv-loop products₀ x k₀ products k = (length products ≡ length products₀) × (eachFrom (byEntry x) k products ≡ eachFrom (byEntry x) 0 products₀)
+
+abbrev μ-loop : tie.MeasureT-loop
+μ-loop products₀ x k₀ products k = length products₀ - k
+
+loop-holds : tie.Need-loop-holds Inv-loop μ-loop
+loop-holds c = (refl, refl)
+
+loop-again : tie.Need-loop-again Inv-loop μ-loop
+loop-again c =
+    let at-loop = c .before .before .before in
+    let at-start = at-loop .before in
+    (search needs, each-step (byEntry (at-start .args .x .now)) _ _ nan (search needs) ∙ (at-loop .loop .inv .1))
+
+returns : tie.Need-returns Inv-loop μ-loop
+returns c = sym (each-stop _ _ _ (c .loop-test .left)) ∙ c .before .loop .inv .1
+
+pub times-block-spec : {M : Type 1} → statement M
+times-block-spec =
+    tie.close
+    (tie.spec
+    Inv-loop
+    μ-loop
+    loop-holds
+    (λ c. omega arith)
+    (λ c. omega arith)
+    (λ c. omega arith)
+    (λ c. omega arith)
+    (λ c. omega arith)
+    (λ c. omega arith)
+    (λ c. omega arith)
+    (λ c. omega arith)
+    loop-again
+    (λ c. search needs)
+    returns)

@@ -1,0 +1,4 @@
+pub mod ByRows
+pub mod Places
+pub mod Left
+pub mod Within

@@ -1,0 +1,116 @@
+// The line that a case prints: the refusal number, then the parts that its op prints, each behind a bar.
+mod text;
+
+pub use text::flush;
+pub use text::put;
+pub use text::put_bar;
+pub use text::put_bytes;
+use text::put_float;
+use text::put_floats;
+pub use text::put_front;
+pub use text::put_shown;
+pub use text::put_whole;
+use text::put_wholes;
+pub use text::put_word;
+
+// What the parts of a line are, at most five: x and s the slices x and swaps, 1, 2 and 3 the line's whole numbers, f its float,
+// and a dash for a number that a refused call does not answer.
+pub struct Parts(pub u8, pub u8, pub u8, pub u8, pub u8);
+
+// No part.
+pub const NO: u8 = 0;
+
+// What a call answered: its refusal number, the parts that are printed, and the numbers in them.
+pub struct Line {
+    pub number: usize,
+    pub parts: Parts,
+    pub first: usize,
+    pub second: usize,
+    pub third: usize,
+    pub float: f64,
+}
+
+// A line with up to three whole numbers.
+pub fn line_of(number: usize, parts: Parts, first: usize, second: usize, third: usize) -> Line {
+    Line {
+        number,
+        parts,
+        first,
+        second,
+        third,
+        float: 0.0,
+    }
+}
+
+// The line of a call whose result is the slice x.
+pub fn result_line(number: usize) -> Line {
+    line_of(number, Parts(b'x', NO, NO, NO, NO), 0, 0, 0)
+}
+
+// The line of a refused call that would have answered a number.
+pub fn refused_line(number: usize) -> Line {
+    line_of(number, Parts(b'-', NO, NO, NO, NO), 0, 0, 0)
+}
+
+// The line of a call that answered a whole number.
+pub fn whole_line(whole: usize) -> Line {
+    line_of(0, Parts(b'1', NO, NO, NO, NO), whole, 0, 0)
+}
+
+// The line of a call that answered a float.
+pub fn float_line(float: f64) -> Line {
+    Line {
+        number: 0,
+        parts: Parts(b'f', NO, NO, NO, NO),
+        first: 0,
+        second: 0,
+        third: 0,
+        float,
+    }
+}
+
+// Puts what stands behind a part's bar.
+fn put_items(
+    text: &mut [u8],
+    at: usize,
+    kind: u8,
+    line: Line,
+    x: &[f64],
+    swaps: &[usize],
+) -> usize {
+    match kind {
+        b'x' => put_floats(text, at, x),
+        b's' => put_wholes(text, at, swaps),
+        b'1' => put_whole(text, at, line.first),
+        b'2' => put_whole(text, at, line.second),
+        b'3' => put_whole(text, at, line.third),
+        b'f' => put_float(text, at, line.float),
+        _ => put(text, at, b'-'),
+    }
+}
+
+// Puts a part with its bar.
+fn put_part(text: &mut [u8], at: usize, kind: u8, line: Line, x: &[f64], swaps: &[usize]) -> usize {
+    if kind == NO {
+        return at;
+    }
+    let behind = put_bar(text, at);
+    put_items(text, behind, kind, line, x, swaps)
+}
+
+// Puts the refusal number and the first two parts.
+fn put_two(text: &mut [u8], from: usize, line: Line, x: &[f64], swaps: &[usize]) -> usize {
+    let parts = line.parts;
+    let at = put_whole(text, from, line.number);
+    let end = put_part(text, at, parts.0, line, x, swaps);
+    put_part(text, end, parts.1, line, x, swaps)
+}
+
+// Puts a line.
+pub fn put_line(text: &mut [u8], from: usize, line: Line, x: &[f64], swaps: &[usize]) -> usize {
+    let parts = line.parts;
+    let mut at = put_two(text, from, line, x, swaps);
+    at = put_part(text, at, parts.2, line, x, swaps);
+    at = put_part(text, at, parts.3, line, x, swaps);
+    put_part(text, at, parts.4, line, x, swaps)
+}

@@ -1,0 +1,5 @@
+pub mod OnePass
+pub mod Pivot
+pub mod Tied
+pub mod TossUp
+pub mod Walk

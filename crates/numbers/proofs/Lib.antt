@@ -1,0 +1,9 @@
+pub mod Choice
+pub mod Each
+pub mod Equal
+pub mod FiniteTest
+pub mod First
+pub mod Lasting
+pub mod One
+pub mod Smaller
+pub mod Walk

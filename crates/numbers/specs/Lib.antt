@@ -1,0 +1,4 @@
+pub mod Numbers
+pub mod Column
+pub mod Each
+pub mod First

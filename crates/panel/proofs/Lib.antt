@@ -1,5 +1,0 @@
-pub mod Determined
-pub mod Moving
-pub mod Ordering
-pub mod Printed
-pub mod Writing

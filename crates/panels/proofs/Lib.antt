@@ -1,2 +1,0 @@
-pub mod ByRows
-pub mod Within
