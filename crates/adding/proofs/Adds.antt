@@ -12,9 +12,9 @@ use lib.Seq.{length-take-le, getD-at}
 use Rattle.numbers.specs.Column.{Column, zeros}
 use Rattle.finite.specs.Finite.{allFinite}
 use Rattle.min_max.specs.TossUp.{tossUp}
-use Rattle.numbers.proofs.Choice.{test-cases, cond-cases, and-first, and-second, and-true}
-use Rattle.store.specs.Columns.{columns, flat, isMatrix, onColumns}
-use Rattle.store.specs.Steps.{column, swapInAll, rowsSwapped}
+use Rattle.numbers.proofs.Choice.{test-cases, and-first, and-second, and-true}
+use Rattle.store.specs.Columns.{columns, flat, isMatrix}
+use Rattle.store.specs.Steps.{column, swapInAll}
 use Rattle.store.proofs.Columns.{sized, is-matrix, column-within, same-matrix, length-columns, column-length, flat-columns, flat-snoc}
 use Rattle.store.proofs.Steps.{length-swapInAll}
 use Rattle.refusals.specs.Outcome.{done, refused, numberOf, firstOf, andThen, leaving}
@@ -23,7 +23,7 @@ use Rattle.refusals.proofs.Outcomes.{tested-none, tested-some, none-given}
 use Rattle.permutation_sequence.specs.SwapList.{pairsOf, withPair, goodList}
 use Rattle.permutation_sequence.proofs.SwapList.{good}
 use Rattle.factors.specs.declared.Record.{Record}
-use Rattle.factors.specs.Factors.{Factors, recordSwap, written, recordOf, factorsIn, slices, recordAfter}
+use Rattle.factors.specs.Factors.{Factors, recordSwap, written, recordOf, slices, recordAfter}
 use Rattle.factors.specs.Held.{heldRefusal}
 use Rattle.factors.proofs.Held.{passed}
 use Rattle.factors.proofs.Swaps.{Recorded, recorded, written-record, count-held}
@@ -32,7 +32,6 @@ use Rattle.elimination.specs.Own.{ownRow, ownColumn}
 use Rattle.elimination.specs.TossUps.{tossAt, ownTossUp}
 use Rattle.elimination.proofs.Own.{joined, adding-joins}
 use Rattle.lu.specs.Factoring.{withTossUps}
-use Rattle.adding.specs.declared.Added.{Added}
 use Rattle.adding.specs.declared.Added.the-variants.{Accepted, Refused}
 use Rattle.adding.specs.Adding.{addingAsks, olderIn, addingRefusal, olderFactors, addingSettled, adding, added, recordIn, addingAnswer}
 use Rattle.adding.specs.Inner.{Ready, withReduced, Joined, AddedTo}
@@ -90,7 +89,8 @@ module _ (r : Record) (s c : Column) (store : List ℕ) where
       (λ t. let more = ltb-true 63 n t in rw (t, lt-leb n 63 more) (or-same (outside 1 m) (outside 0 n)))
       (λ t. let few = ltb-false 63 n t in rw (t, le-leb n 63 few, le-ltb 64 n (omega arith), le-ltb n 0 (omega arith)) (or-none (outside 1 m)))
 
-  with-room : isMatrix m (n + 1) s ≡ true → testedAs true (goodList m (min m n) (r .pairs) store) (allFinite (take (n * m) s) && allFinite c) ≡ addingRefusal r s c store
+  with-room : isMatrix m (n + 1) s ≡ true
+      → testedAs true (goodList m (min m n) (r .pairs) store) (allFinite (take (n * m) s) && allFinite c) ≡ addingRefusal r s c store
   unfolding addingRefusal heldRefusal firstOf
   with-room t =
       let w = sized m (n + 1) s t in
@@ -106,10 +106,12 @@ module _ (r : Record) (s c : Column) (store : List ℕ) where
       → number ≡ testedAs room (goodList m (min m n) (r .pairs) store) (allFinite (take a s) && allFinite c) → number ≡ addingRefusal r s c store
   refusal-found room a number fits is e = e ∙ test-cases (isMatrix m (n + 1) s) yes no
     where
-      yes : isMatrix m (n + 1) s ≡ true → testedAs room (goodList m (min m n) (r .pairs) store) (allFinite (take a s) && allFinite c) ≡ addingRefusal r s c store
+      yes : isMatrix m (n + 1) s ≡ true
+          → testedAs room (goodList m (min m n) (r .pairs) store) (allFinite (take a s) && allFinite c) ≡ addingRefusal r s c store
       yes t = rw (is, fits ∙ t) (with-room t)
 
-      no : isMatrix m (n + 1) s ≡ false → testedAs room (goodList m (min m n) (r .pairs) store) (allFinite (take a s) && allFinite c) ≡ addingRefusal r s c store
+      no : isMatrix m (n + 1) s ≡ false
+          → testedAs room (goodList m (min m n) (r .pairs) store) (allFinite (take a s) && allFinite c) ≡ addingRefusal r s c store
       no t = rw (fits ∙ t) (without-room t (goodList m (min m n) (r .pairs) store) (allFinite (take a s) && allFinite c))
 
   pub refused-by : (number : ℕ) → number ≡ addingRefusal r s c store → (number ≡ 0 → ⊥) → AddedTo r s c store (Refused number r) s store

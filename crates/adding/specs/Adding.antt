@@ -1,6 +1,6 @@
 -- What adding a column answers and leaves, on every input: document 01, "Adding a column" and "Refusal numbers". A store s with room for one column more behind
 -- those of the record r, the raw column c, and the swap store.
-use mathlib.Core.Bool.{Bool, true, false, cond, _&&_}
+use mathlib.Core.Bool.{true, false, cond, _&&_}
 use mathlib.Core.List.{List, _++_}
 use Prim.Native.Nat.{ℕ, _+_, _*_}
 use lib.Dec.{leb, eqb}

@@ -30,7 +30,7 @@ use Rattle.lu.proofs.Told.{Passed, passed, passes, worked, told-accepted, told-
 use Rattle.lu.proofs.Shape.{factorsOf, size-f, accepted-is, settled-number}
 use Rattle.adding.specs.declared.Added.{Added}
 use Rattle.adding.specs.declared.Added.the-variants.{Accepted, Refused}
-use Rattle.adding.specs.Adding.{olderFactors, adding, added, addingAnswer}
+use Rattle.adding.specs.Adding.{adding, added, addingAnswer}
 use Rattle.adding.proofs.Afresh.{accepted-given, adding-afresh}
 use Rattle.adding.proofs.Front.{finite-front}
 use Rattle.adding.proofs.Tossed.{toss-added}

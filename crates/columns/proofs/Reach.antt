@@ -3,14 +3,12 @@
 use mathlib.Core.Path.{_≡_, refl, sym, ap, _∙_}
 use mathlib.Core.List.{List, _++_}
 use Prim.Native.Nat.{ℕ, _+_, _*_}
-use native.Mathlib.Omega.{arith}
 use lib.ListN.{length, take, replicate, length-replicate}
 use Rattle.numbers.specs.Column.{Column, zeros}
-use Rattle.refusals.specs.Outcome.{Outcome, done, refused, numberOf}
+use Rattle.refusals.specs.Outcome.{done, numberOf}
 use Rattle.factors.specs.declared.Record.{Record}
 use Rattle.factors.specs.Factors.{Factoring}
-use Rattle.lu.specs.Factoring.{acceptedAs, factoring}
-use Rattle.lu.proofs.Shape.{factorsOf, no-refusal, accepted-is}
+use Rattle.lu.specs.Factoring.{factoring}
 use Rattle.adding.specs.Adding.{adding}
 use Rattle.adding.proofs.Afresh.{adding-afresh}
 use Rattle.adding.proofs.Front.{same-outcome}

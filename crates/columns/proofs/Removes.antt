@@ -23,7 +23,6 @@ use Rattle.factors.specs.Factors.{recordOf, factorsIn, slices, recordAfter}
 use Rattle.factors.specs.Held.{heldRefusal}
 use Rattle.factors.proofs.Held.{passed}
 use Rattle.elimination.specs.Removing.{lastPair, undoes, pairsBefore, removeColumn}
-use Rattle.columns.specs.declared.Removed.{Removed}
 use Rattle.columns.specs.declared.Removed.the-variants.{Accepted, Refused}
 use Rattle.columns.specs.Removing.{goodUndoing, removingAsks, removingRefusal, erased, removingMade, removing, removed, recordIn}
 use Rattle.columns.specs.Inner.{RemovableIf, Ready, RemovedFrom}

@@ -14,7 +14,6 @@ use lib.Seq.{take-at}
 use Rattle.numbers.specs.Numbers.{isZero}
 use Rattle.numbers.specs.Column.{Column, entry, zeros}
 use Rattle.min_max.specs.Pivot.{pivotRow}
-use Rattle.finite.specs.Finite.{allFinite}
 use Rattle.numbers.proofs.Choice.{cond-cases}
 use Rattle.min_max.proofs.Pivot.{pivot-from}
 use Rattle.store.specs.Columns.{columns, flat}

@@ -5,7 +5,7 @@ use mathlib.Core.Bool.{Bool, true, false}
 use mathlib.Core.List.{List, [], _∷_}
 use Prim.Native.Nat.{ℕ, _*_, _≤_}
 use native.Mathlib.Omega.{arith}
-use borrow.Author.Tests.{eqb-true, eqb-false, eq-eqb, ne-eqb}
+use borrow.Author.Tests.{eqb-false, ne-eqb}
 use lib.Dec.{eqb}
 use lib.ListN.{length, replicate, length-replicate}
 use Rattle.numbers.specs.Numbers.{zero64}
@@ -25,7 +25,7 @@ use Rattle.factors.specs.declared.Asks.{Asks}
 use Rattle.factors.specs.Factors.{Factors as Eliminated, numbersOf, storeOf, slices, Factoring}
 use Rattle.factors.specs.Held.{heldRefusal}
 use Rattle.elimination.specs.Elimination.{eliminate}
-use Rattle.lu.specs.Factoring.{factoringRefusal, settled, factoring, factored, withTossUps, factoringAnswer}
+use Rattle.lu.specs.Factoring.{settled, factoring, factored, withTossUps, factoringAnswer}
 use Rattle.lu.proofs.Told.{passes, worked}
 use Rattle.from_factors.specs.Solving.{Way, solved, trSolved, solveAsks, solvedBy, solvingBy, solving, trSolving}
 use Rattle.refusals.proofs.Cases.{done-same, refused-same, never-both}

@@ -94,7 +94,8 @@ module _ (bytes : List ℕ) where
   module _ (ranks : List ℕ) (loads : Column) where
     pub ordering-held : (told : Record) (M R : Column) (S : List ℕ) → factorsIn bytes ≡ done (packedIn told M S) → told .rows ≡ n
         → take (told .rows) R ≡ readingsOf n bytes
-        → (tossed : ℕ) → tossed ≡ tossUpsIn bytes → (answer : Order) (r : List ℕ) (x : Column) → padsOrdered answer ≡ andThen (solutionIn false told M S R) (λ _. done (told .rows, tossed))
+        → (tossed : ℕ) → tossed ≡ tossUpsIn bytes → (answer : Order) (r : List ℕ) (x : Column)
+        → padsOrdered answer ≡ andThen (solutionIn false told M S R) (λ _. done (told .rows, tossed))
         → r ≡ ranksLeft (told .rows) (solutionIn false told M S R) ranks → x ≡ fronted (told .rows) (solutionIn false told M S R) loads
         → (padsOrdered answer ≡ ordering bytes ranks loads .answer)
         × ((r ≡ ordering bytes ranks loads .left .ranks) × (x ≡ ordering bytes ranks loads .left .loads))

@@ -10,7 +10,7 @@ use lib.ListN.{replicate}
 use lib.Ieee.{Float}
 use Rattle.numbers.specs.Column.{Column, zeros}
 use Rattle.store.specs.Columns.{isMatrix}
-use Rattle.refusals.specs.Outcome.{Outcome, done, refused, numberOf, firstOf, tested, andThen, Call}
+use Rattle.refusals.specs.Outcome.{Outcome, refused, numberOf, firstOf, tested, andThen, Call}
 use Rattle.refusals.specs.Refusals.{outside}
 use Rattle.refusals.proofs.Strength.{ShutsOut, shut-out, Strong, strong, TwoShutOut, two}
 use Rattle.ranking.specs.Ranking.{rankingRefusal, ranking}

@@ -1,7 +1,6 @@
 -- Every marked line of document 01's table holds, and the corrected one, by computation. Assumes nothing.
 use mathlib.Core.Path.{_≡_, refl}
 use mathlib.Core.List.{map}
-use Rattle.solve.specs.Calls.{refusalOf, solving}
 use Rattle.ranking.specs.Ranking.{ahead, insertPad, ranked, padsTo, rankingRefusal, ranking}
 use Rattle.figures.specs.Table.{Shown, marked}
 use Rattle.figures.proofs.WrongAnswers.{triangles}

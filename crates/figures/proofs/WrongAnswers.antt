@@ -8,35 +8,34 @@ use Prim.Native.Nat.{ℕ}
 use native.Mathlib.Omega.{arith}
 use lib.IntN.{pos}
 use lib.Ieee.{Float, fin, add, sub, mul, div, neg, eq, ofBits}
-use Rattle.numbers.specs.Each.{eachFrom, turnsFrom, listOf}
+use Rattle.numbers.specs.Each.{eachFrom, turnsFrom}
 use Rattle.numbers.specs.Numbers.{isZero}
 use Rattle.numbers.specs.Column.{Column, entry, zeros}
 use Rattle.blas.specs.Blas.{axpyFrom}
 use Rattle.finite.specs.Finite.{allFinite}
 use Rattle.blas.specs.Dot.{addProduct, addBlock, eightSums, pairSums, dotOf}
 use Rattle.store.specs.Columns.{columns, flat, isMatrix, onColumns}
-use Rattle.refusals.specs.Outcome.{Outcome, done, refused, firstOf, tested, andThen, Call, leaving}
+use Rattle.refusals.specs.Outcome.{Outcome, done, firstOf, tested, Call}
 use Rattle.refusals.specs.Refusals.{outside, seventh}
 use Rattle.refusals.proofs.Strength.{OneOutcome, one-outcome, ShutsOut, shut-out, BothShutOut, both, Strong, strong, done-refused}
-use Rattle.permutation_sequence.specs.SwapList.{pairsOf, holds, goodPair, goodPairs, goodList}
 use Rattle.solve_by_rows.specs.Rows.{passOf}
 use Rattle.solve.specs.declared.Pass.{Pass}
 use Rattle.solve.specs.declared.Pass.the-variants.{Lower, Upper, GivenDiagonal, TransposedLower, TransposedUpper, CorrectedDiagonal}
 use Rattle.solve.specs.Triangular.{lowerRow, upperRow, keptRow, transposedLowerRow, transposedUpperRow, solvedRow, turn, solvedColumn, solvedFrom}
 use Rattle.solve.specs.Triangular.{solvedInPlace}
 use Rattle.solve.specs.Calls.{sizesOutside, lengthsFit, numbersFinite, zeroFrom, zeroOnDiagonal, refusalOf, solving}
-use Rattle.ranking.specs.Ranking.{ranking, rankingRefusal}
+use Rattle.ranking.specs.Ranking.{ranking}
 use Rattle.ranking.proofs.Figures.{one-three-three}
 use Rattle.factors.specs.declared.Asks.{Asks}
 use Rattle.factors.specs.declared.Record.{Record}
 use Rattle.lu.specs.Factoring.{factoringAnswer, factoring}
-use Rattle.factors.specs.Factors.{storeOf, recordOf, numbersOf, Slices, Factoring}
+use Rattle.factors.specs.Factors.{storeOf, recordOf, numbersOf, Slices}
 use Rattle.adding.specs.Adding.{addingAnswer, adding}
 use Rattle.factors.specs.Held.{heldRefusal}
 use Rattle.from_factors.specs.Triangles.{lowerOf, upperOf, lowerFactor, upperFactor, lowering, uppering}
 use Rattle.from_factors.specs.Solving.{inverting, solving as lu-solving, trSolving}
 use Rattle.from_factors.specs.Determinant.{diagonalProduct, determining, inverseTest}
-use Rattle.from_factors.proofs.Figures.{computes, transposes, leaves, n0, n1, n2, n4, n8, ones, transposed-figure}
+use Rattle.from_factors.proofs.Figures.{computes, leaves, n0, n1, n2, n4, n8, ones, transposed-figure}
 
 -- ---- the triangular solves
 

@@ -1,7 +1,7 @@
 -- Two wrong programs for each call on a panel file, at slices as the calls take them: one that always refuses, shown at an accepted file of one pad (matrix 1,
 -- reading 2), and one that leaves its slices as they were (for an answer of one number: that always gives the same, and that never refuses). For the writer at
 -- no pads (1), at a matrix of no numbers (3) and at one pad. Assumes nothing.
-use mathlib.Core.Path.{_≡_, refl, sym, ap, ap₂, _∙_}
+use mathlib.Core.Path.{_≡_, refl, sym, ap, _∙_}
 use mathlib.Core.Bool.{true, false, false≢true}
 use mathlib.Core.List.{List, [], _∷_, _++_}
 use Prim.Native.Nat.{ℕ, zero, suc}
@@ -18,17 +18,18 @@ use Rattle.finite.proofs.Finite.{finite-zeros}
 use Rattle.refusals.specs.Outcome.{Outcome, done, refused, numberOf, firstOf, tested, andThen, Call}
 use Rattle.refusals.specs.Refusals.{outside}
 use Rattle.refusals.proofs.Strength.{ShutsOut, shut-out, BothShutOut, both, Strong, strong, Keeps, StrongBy, strong-by, done-refused}
-use Rattle.panel_file.specs.File.{littleEndian, fieldAt, headed, numberAt, padsOf}
+use Rattle.panel_file.specs.File.{littleEndian, fieldAt, headed, numberAt}
 use Rattle.panel_file.specs.Reading.{fileTests, fileRefusal, Stores, stores, readingRefusal, filled, reading}
 use Rattle.panel_file.specs.Writing.{writingRefusal, bytesWritten, written, Writing}
-use Rattle.panel_file.specs.declared.Written.{Written}
-use Rattle.panel_file.specs.declared.Written.the-variants.{Bytes, Refused as NotWritten}
+use Rattle.panel_file.specs.declared.Written.the-variants.{Refused as NotWritten}
 use Rattle.panel_file.proofs.Writing.{Fit, not-refused, write-refused}
 use Rattle.panel_file.proofs.Crossings.{one-writing}
 use Rattle.ranking.specs.Ranking.{ahead, insertPad, ranked, padsTo}
-use Rattle.from_factors.proofs.Figures.{computes, transposes, n0, n1, n2}
+use Rattle.from_factors.proofs.Figures.{transposes, n0, n1, n2}
 use Rattle.crossing.specs.Below.{factorsOf, solutionBy, determinantBy}
-use Rattle.crossing.specs.Factors.{factorsIn, stiffness, settledIn}
+use Rattle.crossing.specs.Factors.{factorsIn, stiffness, settledIn, swapsLeft, Stores as Held, stores as held, holding}
+use Rattle.factors.specs.declared.Record.{Record}
+use Rattle.factors.specs.Factors.{recordOf}
 use Rattle.crossing.specs.Ordering.{loadsOf, ranksLeft, Ranks, ordering}
 use Rattle.crossing.specs.Moving.{movesRefusal, movesOf, moving}
 use Rattle.panel_text.specs.Text.{written as writtenOver, decimal, lineOf, linesOf, padsText, refusedText}
@@ -123,6 +124,21 @@ write =
         } in
         let answer : a ≡ done 22 = w .answers ∙ ap (λ (k : ℕ). tested k refused (done 22)) (not-refused 1 (zeros 1) (zeros 1) 22 fit) in
         false≢true (w .file (ap numberOf answer) .head)
+
+-- ---- factoring a file's matrix: a file, and the stores for the matrix, the readings and the swaps
+
+abbrev files : List ℕ × Held → Call (Record × ℕ) Held
+files x = holding (x .0) (x .1)
+
+abbrev emptyStores : Held
+emptyStores = held (zeros 4096) (zeros 64) (replicate 128 0)
+
+pub factor-file : BothShutOut files (λ x. x .1)
+unfolding answers swapsLeft holding
+factor-file =
+    both files (λ x. x .1) (onePadFile, emptyStores) {a = (recordOf 1 1 0, 0)}
+    {made = held (n1 ∷ drop 1 (zeros 4096)) (n2 ∷ drop 1 (zeros 64)) (replicate 128 0)} refl
+    (λ d. zero-one (drop 1 (zeros 4096)) (zeros 4095) (ap (λ (s : Held). s .matrix) d))
 
 -- ---- the order: a file, and the slices for 64 ranks and 64 loads
 

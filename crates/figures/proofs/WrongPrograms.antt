@@ -27,10 +27,10 @@ use Rattle.columns.specs.Removing.{goodUndoing, removingRefusal, erased, removi
 use Rattle.permutation_sequence.specs.SwapList.{Swaps, withPair}
 use Rattle.from_factors.specs.Solving.{unitColumn, identity}
 use Rattle.from_factors.proofs.Accepted.{accepted-is}
-use Rattle.figures.specs.Table.{determinant, marked}
+use Rattle.figures.specs.Table.{determinant}
 use Rattle.figures.proofs.Table.{every-line}
 use Rattle.from_factors.proofs.Figures.{computes, ones, toldIn, n0, n1, n2, n4}
-use Rattle.refusals.specs.Outcome.{Outcome, done, refused, firstOf, tested, andThen, Call, leaving}
+use Rattle.refusals.specs.Outcome.{Outcome, done, refused}
 use Rattle.refusals.proofs.Strength.{TwoShutOut, two as shut-out-two, done-refused}
 
 -- what a program for factoring gives for each input, and that it is what the contract gives

@@ -12,7 +12,7 @@ use Rattle.finite.specs.Finite.{allFinite}
 use Rattle.blas.specs.Blas.{exchanged}
 use Rattle.store.specs.Columns.{columns, flat, isMatrix, onColumns}
 use Rattle.store.specs.Steps.{swapInAll}
-use Rattle.refusals.specs.Outcome.{Outcome, done, refused, firstOf, tested, Call}
+use Rattle.refusals.specs.Outcome.{Outcome, refused, firstOf, tested, Call}
 use Rattle.refusals.specs.Refusals.{outside}
 use Rattle.refusals.proofs.Strength.{ShutsOut, shut-out, BothShutOut, both, Strong, strong, done-refused}
 use Rattle.permutation_sequence.specs.SwapList.{pairsOf, holds, held, withPair, goodPair, goodPairs, goodList}

@@ -23,7 +23,7 @@ use Rattle.factors.proofs.Held.{passes}
 use Rattle.factors.proofs.Swaps.{length-store, pairs-store}
 use Rattle.elimination.specs.Elimination.{eliminate}
 use Rattle.elimination.proofs.Recorded.{rising-good}
-use Rattle.lu.specs.Factoring.{factoringRefusal, acceptedAs, factoring}
+use Rattle.lu.specs.Factoring.{acceptedAs, factoring}
 use Rattle.lu.proofs.Told.{passed}
 use Rattle.lu.proofs.Shape.{factorsOf, wide, shape-f, size-f, rising, few}
 use Rattle.adding.proofs.Afresh.{Given, accepted-given}

@@ -1,6 +1,6 @@
 -- Document 01, "Strength of the contracts", over any call: a contract that equates a call's outcome (its answer and the final contents of each lent slice)
 -- with a meaning admits one outcome only, and shuts out every program that is wrong at some input. Assumes nothing.
-use mathlib.Core.Path.{_≡_, refl, sym, ap, _∙_}
+use mathlib.Core.Path.{_≡_, sym, ap, _∙_}
 use Prim.Native.Nat.{ℕ}
 use Rattle.refusals.specs.Outcome.{Outcome, done, refused, Call}
 use Rattle.refusals.proofs.Cases.{never-both}

@@ -5,7 +5,7 @@ use lib.Dec.{leb}
 use lib.ListN.{set}
 use Rattle.numbers.specs.Each.{eachFrom, turnsFrom}
 use Rattle.numbers.specs.Numbers.{isZero}
-use Rattle.numbers.specs.Column.{Column, entry}
+use Rattle.numbers.specs.Column.{entry}
 use Rattle.store.specs.Steps.{Matrix, column}
 use Rattle.elimination.specs.Adding.{update}
 

@@ -2,7 +2,6 @@
 use Prim.Native.Nat.{_+_, _*_, _≤_}
 use mathlib.Core.Path.{sym, _∙_}
 use native.Mathlib.Omega.{arith}
-use borrow.Author.Needs.{needs}
 use lib.ListN.{length}
 use Rattle.store.proofs.Columns.{sized, column-within}
 use Rattle.adding.proofs.older.Statement.{statement}

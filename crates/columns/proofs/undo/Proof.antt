@@ -1,5 +1,4 @@
 -- The rows exchanged, and the two numbers written. Assumes nothing.
-use mathlib.Core.Path.{refl}
 use native.Mathlib.Omega.{arith}
 use borrow.Author.Needs.{needs}
 use lib.ListN.{length-set}

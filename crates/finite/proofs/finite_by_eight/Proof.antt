@@ -9,7 +9,7 @@ use lib.ListN.{length, drop}
 use lib.Ieee.{ofBits}
 use Rattle.numbers.specs.Each.{eachFrom}
 use Rattle.finite.specs.Finite.{allFinite}
-use Rattle.finite.proofs.Product.{naught, calm, every, eight, block-more, eight, eight-tell, entries, eight-first}
+use Rattle.finite.proofs.Product.{naught, calm, every, eight, block-more, eight-tell, entries, eight-first}
 use Rattle.finite.proofs.finite_by_eight.Statement.{statement}
 use Rattle.finite.proofs.finite_by_eight.Tie as tie
 
