@@ -22,14 +22,14 @@ const double *original_solution(const struct original *o);
 const double *original_factors(const struct original *o);
 size_t original_pairs(const struct original *o, size_t *swaps);
 // original/src/by_hand.rs
-void by_hand_add_column(double *factors, const double *raw, size_t *swaps, size_t m, size_t n, size_t *pairs);
+void by_hand_add_column(double *factors, const double *raw, size_t *swaps, size_t m, size_t n, size_t *pairs, size_t *dead);
 size_t by_hand_tested_add_column(double *factors, size_t factors_length, const double *raw, size_t raw_length, size_t *swaps,
-                                 size_t swaps_length, size_t m, size_t n, size_t *pairs);
+                                 size_t swaps_length, size_t m, size_t n, size_t *pairs, size_t *dead);
 
 // What the timed calls work on: an n by n matrix, its last column, a right-hand column, each of the three once more with a NaN at
 // its end, and the stores. `narrow` holds the factors of all columns but the last, with room for it. `wrong` gathers wrong answers.
 struct input {
-    size_t n, wrong, pairs, narrow_pairs, toss_ups;
+    size_t n, wrong, pairs, dead, narrow_pairs, narrow_dead, toss_ups;
     double *a, *last, *b, *bad_a, *bad_last, *bad_b;
     double *factors, *narrow, *x, *peer_factors;
     size_t *swaps, *narrow_swaps;
@@ -84,38 +84,38 @@ static double *spoiled(const double *p, size_t count) {
 
 // ---- the calls that test their input, with the lengths that their sizes ask for
 
-static size_t factor(const double *a, size_t m, size_t n, double *factors, size_t *swaps, size_t *pairs, size_t *toss_ups) {
-    return wejdarox_factor(a, m * n, m, n, factors, m * n, swaps, SWAPS, pairs, toss_ups);
+static size_t factor(const double *a, size_t m, size_t n, double *factors, size_t *swaps, size_t *pairs, size_t *dead, size_t *toss_ups) {
+    return wejdarox_factor(a, m * n, m, n, factors, m * n, swaps, SWAPS, pairs, dead, toss_ups);
 }
 
-static size_t add(double *factors, const double *column, size_t *swaps, size_t m, size_t n, size_t *pairs, size_t *toss_ups) {
-    return wejdarox_add_column(factors, m * (n + 1), column, m, swaps, SWAPS, m, n, pairs, toss_ups);
+static size_t add(double *factors, const double *column, size_t *swaps, size_t m, size_t n, size_t *pairs, size_t *dead, size_t *toss_ups) {
+    return wejdarox_add_column(factors, m * (n + 1), column, m, swaps, SWAPS, m, n, pairs, dead, toss_ups);
 }
 
-static size_t add_by_hand_tested(double *factors, const double *column, size_t *swaps, size_t m, size_t n, size_t *pairs) {
-    return by_hand_tested_add_column(factors, m * (n + 1), column, m, swaps, SWAPS, m, n, pairs);
+static size_t add_by_hand_tested(double *factors, const double *column, size_t *swaps, size_t m, size_t n, size_t *pairs, size_t *dead) {
+    return by_hand_tested_add_column(factors, m * (n + 1), column, m, swaps, SWAPS, m, n, pairs, dead);
 }
 
-static size_t solve(const double *factors, const size_t *swaps, size_t n, size_t pairs, const double *b, double *x) {
-    return wejdarox_solve(factors, n * n, swaps, SWAPS, n, n, pairs, b, n, 1, x, n);
+static size_t solve(const double *factors, const size_t *swaps, size_t n, size_t pairs, size_t dead, const double *b, double *x) {
+    return wejdarox_solve(factors, n * n, swaps, SWAPS, n, n, pairs, dead, b, n, 1, x, n);
 }
 
 // ---- what is timed
 
-static void our_factor(struct input *p) { p->wrong |= factor(p->a, p->n, p->n, p->factors, p->swaps, &p->pairs, &p->toss_ups); }
-static void our_solve(struct input *p) { p->wrong |= solve(p->factors, p->swaps, p->n, p->pairs, p->b, p->x); }
+static void our_factor(struct input *p) { p->wrong |= factor(p->a, p->n, p->n, p->factors, p->swaps, &p->pairs, &p->dead, &p->toss_ups); }
+static void our_solve(struct input *p) { p->wrong |= solve(p->factors, p->swaps, p->n, p->pairs, p->dead, p->b, p->x); }
 static void our_both(struct input *p) { our_factor(p); our_solve(p); }
 static void our_add(struct input *p) {
-    p->wrong |= add(p->narrow, p->last, p->narrow_swaps, p->n, p->n - 1, &p->narrow_pairs, &p->toss_ups);
+    p->wrong |= add(p->narrow, p->last, p->narrow_swaps, p->n, p->n - 1, &p->narrow_pairs, &p->narrow_dead, &p->toss_ups);
 }
 
 static void refused_factor(struct input *p) {
-    size_t none;
-    p->wrong |= 5 ^ factor(p->bad_a, p->n, p->n, p->factors, p->swaps, &none, &p->toss_ups);
+    size_t no_pairs, no_dead;
+    p->wrong |= 5 ^ factor(p->bad_a, p->n, p->n, p->factors, p->swaps, &no_pairs, &no_dead, &p->toss_ups);
 }
-static void refused_solve(struct input *p) { p->wrong |= 5 ^ solve(p->factors, p->swaps, p->n, p->pairs, p->bad_b, p->x); }
+static void refused_solve(struct input *p) { p->wrong |= 5 ^ solve(p->factors, p->swaps, p->n, p->pairs, p->dead, p->bad_b, p->x); }
 static void refused_add(struct input *p) {
-    p->wrong |= 5 ^ add(p->narrow, p->bad_last, p->narrow_swaps, p->n, p->n - 1, &p->narrow_pairs, &p->toss_ups);
+    p->wrong |= 5 ^ add(p->narrow, p->bad_last, p->narrow_swaps, p->n, p->n - 1, &p->narrow_pairs, &p->narrow_dead, &p->toss_ups);
 }
 
 static void its_factor(struct input *p) { original_factor(p->original, p->a); }
@@ -123,9 +123,11 @@ static void its_solve(struct input *p) { p->wrong |= !original_solve(p->original
 static void its_solve_vector(struct input *p) { p->wrong |= !original_solve_vector(p->original, p->b); }
 static void its_both(struct input *p) { its_factor(p); its_solve(p); }
 
-static void hand_add(struct input *p) { by_hand_add_column(p->narrow, p->last, p->narrow_swaps, p->n, p->n - 1, &p->narrow_pairs); }
+static void hand_add(struct input *p) {
+    by_hand_add_column(p->narrow, p->last, p->narrow_swaps, p->n, p->n - 1, &p->narrow_pairs, &p->narrow_dead);
+}
 static void hand_tested_add(struct input *p) {
-    p->wrong |= add_by_hand_tested(p->narrow, p->last, p->narrow_swaps, p->n, p->n - 1, &p->narrow_pairs);
+    p->wrong |= add_by_hand_tested(p->narrow, p->last, p->narrow_swaps, p->n, p->n - 1, &p->narrow_pairs, &p->narrow_dead);
 }
 
 #ifdef EIGEN // eigen.cpp
@@ -178,7 +180,7 @@ enum { CONTENDERS = sizeof contenders / sizeof *contenders };
 
 static size_t compared;
 
-struct factored { double *factors; size_t swaps[SWAPS], pairs, toss_ups; };
+struct factored { double *factors; size_t swaps[SWAPS], pairs, dead, toss_ups; };
 
 static int same(const void *p, const void *q, size_t count) { return memcmp(p, q, count * 8) == 0; }
 
@@ -191,12 +193,15 @@ static void must_agree(const char *what, const struct factored *f, const struct 
     size_t swaps[SWAPS], pairs = original_pairs(o, swaps);
     if (f->pairs != pairs || !same(f->swaps, swaps, SWAPS)) stop(what, "the swaps differ from the original's", m, n);
     if (!same(f->factors, original_factors(o), m * n)) stop(what, "the factors differ from the original's", m, n);
+    size_t dead = 0;
+    for (size_t i = 0; i < m && i < n; i++) dead += f->factors[i * m + i] == 0.0;
+    if (f->dead != dead) stop(what, "the number of dead columns is not that of the factors", m, n);
 }
 
 static void check_solve(const struct factored *f, struct original *o, size_t n, enum kind kind) {
     double b[64], x[64], vector[64];
     fill(b, n, kind);
-    size_t answer = solve(f->factors, f->swaps, n, f->pairs, b, x);
+    size_t answer = solve(f->factors, f->swaps, n, f->pairs, f->dead, b, x);
     _Bool solved = original_solve_vector(o, b);
     memcpy(vector, original_solution(o), n * sizeof *b);
     if (solved != original_solve(o, b)) stop("solve", "the original's two ways differ", n, n);
@@ -214,10 +219,10 @@ static void check_add(const double *a, const struct original *o, size_t m, size_
     for (int way = 0; way < 3; way++) {
         struct factored f = {.factors = numbers(m * n)};
         size_t number = 0;
-        if (factor(a, m, n - 1, f.factors, f.swaps, &f.pairs, &f.toss_ups)) stop("factor", "a part of an accepted matrix is refused", m, n - 1);
-        if (way == 0) number = add(f.factors, last, f.swaps, m, n - 1, &f.pairs, &f.toss_ups);
-        if (way == 1) by_hand_add_column(f.factors, last, f.swaps, m, n - 1, &f.pairs);
-        if (way == 2) number = add_by_hand_tested(f.factors, last, f.swaps, m, n - 1, &f.pairs);
+        if (factor(a, m, n - 1, f.factors, f.swaps, &f.pairs, &f.dead, &f.toss_ups)) stop("factor", "a part of an accepted matrix is refused", m, n - 1);
+        if (way == 0) number = add(f.factors, last, f.swaps, m, n - 1, &f.pairs, &f.dead, &f.toss_ups);
+        if (way == 1) by_hand_add_column(f.factors, last, f.swaps, m, n - 1, &f.pairs, &f.dead);
+        if (way == 2) number = add_by_hand_tested(f.factors, last, f.swaps, m, n - 1, &f.pairs, &f.dead);
         if (number) stop(ways[way], "refused, though the whole is accepted", m, n);
         must_agree(ways[way], &f, o, m, n);
         free(f.factors);
@@ -228,7 +233,7 @@ static void check(const double *a, size_t m, size_t n, enum kind kind) {
     struct factored f = {.factors = numbers(m * n)};
     struct original *o = original_new(m, n);
     original_factor(o, a);
-    size_t answer = factor(a, m, n, f.factors, f.swaps, &f.pairs, &f.toss_ups);
+    size_t answer = factor(a, m, n, f.factors, f.swaps, &f.pairs, &f.dead, &f.toss_ups);
     size_t right = all_finite(original_factors(o), m * n) ? 0 : 7;
     if (answer != right) stop("factor", "accepted or refused otherwise than the original's result asks for", m, n);
     if (right == 0) {
@@ -282,7 +287,7 @@ static void make(struct input *p, size_t n) {
     p->bad_b = spoiled(p->b, n);
     p->bad_last = spoiled(p->last, n);
     check(p->a, n, n, PLAIN);
-    p->wrong |= factor(p->a, n, n - 1, p->narrow, p->narrow_swaps, &p->narrow_pairs, &p->toss_ups);
+    p->wrong |= factor(p->a, n, n - 1, p->narrow, p->narrow_swaps, &p->narrow_pairs, &p->narrow_dead, &p->toss_ups);
     try_all(p);
 }
 

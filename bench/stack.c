@@ -26,19 +26,19 @@ __asm__(".globl _start\n_start: and $-16,%rsp\n call start\n");
 enum { DEEP = 262144, FULL = 4096, HEAD = 6 };
 static double a[FULL], factors[FULL], result[FULL], column[64], x[64], loads[64], value;
 static bool invertible;
-static size_t swaps[128], ranks[64], pairs, toss_ups, pads, answer;
+static size_t swaps[128], ranks[64], pairs, dead, toss_ups, pads, answer;
 static byte file[HEAD + FULL * 8 + 64 * 8];
 
 #define APART __attribute__((noinline)) static
 APART void paint(void) { volatile byte s[DEEP]; for (int i = 0; i < DEEP; i++) s[i] = 0xA5; }
 APART size_t used(void) { volatile byte s[DEEP]; size_t i = 0; while (i < DEEP && s[i] == 0xA5) i++; return DEEP - i; }
 APART void nothing(void) { __asm__ volatile(""); }
-APART void factor(void) { answer = wejdarox_factor(a, FULL, 64, 64, factors, FULL, swaps, 128, &pairs, &toss_ups); __asm__ volatile(""); }
-APART void add(void) { answer = wejdarox_add_column(factors, FULL, column, 64, swaps, 128, 64, 63, &pairs, &toss_ups); __asm__ volatile(""); }
-APART void solve(void) { answer = wejdarox_solve(factors, FULL, swaps, 128, 64, 64, pairs, column, 64, 1, x, 64); __asm__ volatile(""); }
-APART void inverse(void) { answer = wejdarox_inverse(factors, FULL, swaps, 128, 64, 64, pairs, result, FULL); __asm__ volatile(""); }
-APART void determinant(void) { answer = wejdarox_determinant(factors, FULL, swaps, 128, 64, 64, pairs, &value); __asm__ volatile(""); }
-APART void is_invertible(void) { answer = wejdarox_is_invertible(factors, FULL, swaps, 128, 64, 64, pairs, &invertible); __asm__ volatile(""); }
+APART void factor(void) { answer = wejdarox_factor(a, FULL, 64, 64, factors, FULL, swaps, 128, &pairs, &dead, &toss_ups); __asm__ volatile(""); }
+APART void add(void) { answer = wejdarox_add_column(factors, FULL, column, 64, swaps, 128, 64, 63, &pairs, &dead, &toss_ups); __asm__ volatile(""); }
+APART void solve(void) { answer = wejdarox_solve(factors, FULL, swaps, 128, 64, 64, pairs, dead, column, 64, 1, x, 64); __asm__ volatile(""); }
+APART void inverse(void) { answer = wejdarox_inverse(factors, FULL, swaps, 128, 64, 64, pairs, dead, result, FULL); __asm__ volatile(""); }
+APART void determinant(void) { answer = wejdarox_determinant(factors, FULL, swaps, 128, 64, 64, pairs, dead, &value); __asm__ volatile(""); }
+APART void is_invertible(void) { answer = wejdarox_is_invertible(factors, FULL, swaps, 128, 64, 64, pairs, dead, &invertible); __asm__ volatile(""); }
 APART void rank(void) { answer = wejdarox_rank(x, 64, 64, ranks, 64); __asm__ volatile(""); }
 APART void order(void) { answer = wejdarox_pad_order(file, sizeof file, ranks, loads, &pads, &toss_ups); __asm__ volatile(""); }
 
@@ -77,7 +77,7 @@ __attribute__((used)) void start(void) {
     memcpy(file + HEAD, a, sizeof a);
     memcpy(file + HEAD + sizeof a, column, sizeof column);
     say("factor", factor);
-    wejdarox_factor(a, FULL - 64, 64, 63, factors, FULL - 64, swaps, 128, &pairs, &toss_ups);
+    wejdarox_factor(a, FULL - 64, 64, 63, factors, FULL - 64, swaps, 128, &pairs, &dead, &toss_ups);
     say("add_column", add);
     say("solve", solve);
     say("inverse", inverse);
@@ -86,7 +86,7 @@ __attribute__((used)) void start(void) {
     say("rank", rank);
     say("pad_order", order);
     memset(a, 0, 64 * sizeof *a); // the first step is skipped
-    wejdarox_factor(a, FULL - 64, 64, 63, factors, FULL - 64, swaps, 128, &pairs, &toss_ups);
+    wejdarox_factor(a, FULL - 64, 64, 63, factors, FULL - 64, swaps, 128, &pairs, &dead, &toss_ups);
     say("add_skipped", add);
     leave(0);
 }

@@ -9,6 +9,9 @@
  *  Lengths    a slice is a pointer and a length, the length counted in elements (bytes for a file). A length that does not fit the sizes is refused with 3.
  *  Swaps      the swap store has 128 numbers, pair after pair: rows swaps[2*i] and swaps[2*i + 1] were exchanged, i below the number of pairs, counted
  *             from 0 and in this order. What follows the last pair is 0 after a factoring.
+ *  Record     what belongs to factors is four numbers: m rows, n columns, the pairs of the swap store, and the dead columns. A column is dead where the
+ *             diagonal of the factors has a zero of either sign in it; one past the last row has no diagonal and is never dead. Factoring sets the number
+ *             and adding keeps it true. Every call on factors compares it with them, and refuses another number with 9.
  *
  *  Answers    0: done. Else the call was refused, by the first of these that holds; each call lists those that it can give.
  *             1  a size is outside its limits
@@ -19,7 +22,8 @@
  *             6  the matrix is singular: a zero on the diagonal of its factors
  *             7  a result is too large for a finite number
  *             8  not a panel file of version 1
- *             1 to 6 and 8 are answered before the work: every slice is left as it was. 7 is answered after it: results are +0.0, as each call says.
+ *             9  the number of dead columns is not that of the factors; it is tested after 5 and before 6
+ *             1 to 6, 8 and 9 are answered before the work: every slice is left as it was. 7 is answered after it: results are +0.0, as each call says.
  *
  *  A caller   owes that
  *             - a pointer beside a length n points to n elements of its type, aligned, for the time of the call; where n is 0 nothing is read or written
@@ -48,8 +52,12 @@
 extern "C" {
 #endif
 
-/* The version of this header and of the archive that it was packed with: the same number as in the file VERSION. */
-#define WEJDAROX_VERSION "0.7.0"
+/*
+ * The version of this header and of the archive that it was packed with: the same number as in the file VERSION.
+ * Since 0.7.0: a record has a fourth number, the dead columns. The six calls on matrices take it behind the pairs (wejdarox_factor and
+ * wejdarox_add_column through a pointer, the others as it is), and those that take factors can answer 9.
+ */
+#define WEJDAROX_VERSION "0.8.0"
 
 /* The most rows, columns, right-hand columns and loads; and the length of a swap store. */
 #define WEJDAROX_MOST 64
@@ -76,6 +84,7 @@ extern "C" {
  *            The exchanged rows, pair after pair; what follows the last pair is 0. It may hold anything before.
  *  swaps_len (input) the length of swaps: 128.
  *  pairs     (output) the number of pairs, at most min(m, n). Refused: 0.
+ *  dead      (output) the number of dead columns, at most min(m, n): those whose step was skipped. Refused: 0.
  *  toss_ups  (output) the number of columns whose pivot was a toss-up: another row had the same magnitude, not zero. Refused: 0.
  *
  *  Answer
@@ -88,15 +97,15 @@ extern "C" {
  *  A zero pivot is no refusal: its step is skipped. a is never changed.
  */
 size_t wejdarox_factor(const double *a, size_t a_len, size_t m, size_t n, double *factors, size_t factors_len,
-                       size_t *swaps, size_t swaps_len, size_t *pairs, size_t *toss_ups);
+                       size_t *swaps, size_t swaps_len, size_t *pairs, size_t *dead, size_t *toss_ups);
 
 /*
  * wejdarox_add_column
  *
  *  Purpose
  *  =======
- *  Adds one raw column to the factors of an m by n matrix. What it leaves is, bit for bit, what factoring the m by (n + 1) matrix gives, where the
- *  factors came from accepted calls of wejdarox_factor and wejdarox_add_column.
+ *  Adds one raw column to the factors of an m by n matrix. What it leaves is, bit for bit, what factoring the m by (n + 1) matrix gives, pairs and dead
+ *  columns too, where the factors came from accepted calls of wejdarox_factor and wejdarox_add_column.
  *
  *  Arguments
  *  =========
@@ -112,6 +121,7 @@ size_t wejdarox_factor(const double *a, size_t a_len, size_t m, size_t n, double
  *  m         (input) the number of rows, 1 to 64.
  *  n         (input) the number of columns before the call, 0 to 63.
  *  pairs     (input/output) the number of pairs. Refused: as it was.
+ *  dead      (input/output) the number of dead columns; one more where the new column has a diagonal and is dead. Refused: as it was.
  *  toss_ups  (output) 1 where the pivot of the new column was a toss-up, else 0. Refused: 0.
  *
  *  Answer
@@ -121,11 +131,12 @@ size_t wejdarox_factor(const double *a, size_t a_len, size_t m, size_t n, double
  *  3  factors_len is not m * (n + 1), column_len is not m, or swaps_len is not 128   factors and swaps as they were
  *  4  the swap list is bad                               factors and swaps as they were
  *  5  a number of the n columns or of column is not finite   factors and swaps as they were
+ *  9  dead is not the number of dead columns of the factors  factors and swaps as they were
  *  7  a number of the new column is not finite           the room for the column +0.0; the n columns and swaps as they were
  *  column is never changed.
  */
 size_t wejdarox_add_column(double *factors, size_t factors_len, const double *column, size_t column_len, size_t *swaps,
-                           size_t swaps_len, size_t m, size_t n, size_t *pairs, size_t *toss_ups);
+                           size_t swaps_len, size_t m, size_t n, size_t *pairs, size_t *dead, size_t *toss_ups);
 
 /*
  * wejdarox_solve
@@ -145,6 +156,7 @@ size_t wejdarox_add_column(double *factors, size_t factors_len, const double *co
  *  m         (input) the number of rows, 1 to 64.
  *  n         (input) the number of columns: m.
  *  pairs     (input) the number of pairs.
+ *  dead      (input) the number of dead columns.
  *  b         (input) double array, dimension (m * k)
  *            The k right-hand columns.
  *  b_len     (input) the length of b: m * k.
@@ -161,12 +173,13 @@ size_t wejdarox_add_column(double *factors, size_t factors_len, const double *co
  *  3  factors_len is not m * n, swaps_len is not 128, or b_len or x_len is not m * k   x as it was
  *  4  the swap list is bad                               x as it was
  *  5  a number of factors or b is not finite             x as it was
- *  6  a zero of either sign on the diagonal              x as it was
+ *  9  dead is not the number of dead columns of factors  x as it was
+ *  6  dead is not 0: a zero of either sign on the diagonal   x as it was
  *  7  a number of the solution is not finite             x all +0.0
  *  factors, swaps and b are never changed.
  */
 size_t wejdarox_solve(const double *factors, size_t factors_len, const size_t *swaps, size_t swaps_len, size_t m, size_t n,
-                      size_t pairs, const double *b, size_t b_len, size_t k, double *x, size_t x_len);
+                      size_t pairs, size_t dead, const double *b, size_t b_len, size_t k, double *x, size_t x_len);
 
 /*
  * wejdarox_inverse
@@ -186,6 +199,7 @@ size_t wejdarox_solve(const double *factors, size_t factors_len, const size_t *s
  *  m         (input) the number of rows, 1 to 64.
  *  n         (input) the number of columns: m.
  *  pairs     (input) the number of pairs.
+ *  dead      (input) the number of dead columns.
  *  x         (output) double array, dimension (m * m)
  *            The inverse. It may hold anything before.
  *  x_len     (input) the length of x: m * m.
@@ -198,12 +212,13 @@ size_t wejdarox_solve(const double *factors, size_t factors_len, const size_t *s
  *  3  factors_len is not m * n, swaps_len is not 128, or x_len is not m * m   x as it was
  *  4  the swap list is bad                               x as it was
  *  5  a number of factors is not finite                  x as it was
- *  6  a zero of either sign on the diagonal              x as it was
+ *  9  dead is not the number of dead columns of factors  x as it was
+ *  6  dead is not 0: a zero of either sign on the diagonal   x as it was
  *  7  a number of the inverse is not finite              x all +0.0
  *  factors and swaps are never changed.
  */
 size_t wejdarox_inverse(const double *factors, size_t factors_len, const size_t *swaps, size_t swaps_len, size_t m, size_t n,
-                        size_t pairs, double *x, size_t x_len);
+                        size_t pairs, size_t dead, double *x, size_t x_len);
 
 /*
  * wejdarox_determinant
@@ -223,6 +238,7 @@ size_t wejdarox_inverse(const double *factors, size_t factors_len, const size_t 
  *  m         (input) the number of rows, 1 to 64.
  *  n         (input) the number of columns: m.
  *  pairs     (input) the number of pairs.
+ *  dead      (input) the number of dead columns.
  *  value     (output) the determinant.
  *
  *  Answer
@@ -233,18 +249,19 @@ size_t wejdarox_inverse(const double *factors, size_t factors_len, const size_t 
  *  3  factors_len is not m * n, or swaps_len is not 128  value as it was
  *  4  the swap list is bad                               value as it was
  *  5  a number of factors is not finite                  value as it was
+ *  9  dead is not the number of dead columns of factors  value as it was
  *  7  the determinant is not finite                      value +0.0
  *  factors and swaps are never changed.
  */
 size_t wejdarox_determinant(const double *factors, size_t factors_len, const size_t *swaps, size_t swaps_len, size_t m,
-                            size_t n, size_t pairs, double *value);
+                            size_t n, size_t pairs, size_t dead, double *value);
 
 /*
  * wejdarox_is_invertible
  *
  *  Purpose
  *  =======
- *  Whether the square matrix A is invertible, by its factors: no zero of either sign on the diagonal.
+ *  Whether the square matrix A is invertible, by its factors: no dead column, that is, no zero of either sign on the diagonal.
  *
  *  Arguments
  *  =========
@@ -257,6 +274,7 @@ size_t wejdarox_determinant(const double *factors, size_t factors_len, const siz
  *  m         (input) the number of rows, 1 to 64.
  *  n         (input) the number of columns: m.
  *  pairs     (input) the number of pairs.
+ *  dead      (input) the number of dead columns.
  *  invertible (output) true or false.
  *
  *  Answer
@@ -267,10 +285,11 @@ size_t wejdarox_determinant(const double *factors, size_t factors_len, const siz
  *  3  factors_len is not m * n, or swaps_len is not 128  invertible as it was
  *  4  the swap list is bad                               invertible as it was
  *  5  a number of factors is not finite                  invertible as it was
+ *  9  dead is not the number of dead columns of factors  invertible as it was
  *  factors and swaps are never changed.
  */
 size_t wejdarox_is_invertible(const double *factors, size_t factors_len, const size_t *swaps, size_t swaps_len, size_t m,
-                              size_t n, size_t pairs, bool *invertible);
+                              size_t n, size_t pairs, size_t dead, bool *invertible);
 
 /*
  * wejdarox_rank

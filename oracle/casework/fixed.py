@@ -6,8 +6,8 @@ from array import array
 
 from . import floats
 from .make import MAKERS, SQUARE, file_case, moves_case, panel
-from .rules import GIVEN
-from .wire import Case, FLOATS, LONGEST, NEWLINE, OPS, encode, hexes, line, words
+from .rules import GIVEN, dead_columns
+from .wire import Case, FLOATS, HELD, LONGEST, NEWLINE, OPS, encode, hexes, line, words
 
 LARGEST = 6 + 8 * 64 * 65      # bytes of a file of 64 pads
 
@@ -24,6 +24,11 @@ def pairs(count):
     return array('Q', [count])
 
 
+def held(count, dead=0):
+    """The two numbers beside factors: the pairs, and the dead columns."""
+    return array('Q', [count, dead])
+
+
 def spare(count):
     return doubles(*[7.5] * count)
 
@@ -34,21 +39,21 @@ def factoring(m, n, *numbers):
     return Case(1, m, n, 0, [doubles(*numbers), spare(m * n), swap_store(9)])
 
 
-def factored(count, rows, *numbers, toss_ups=0):
-    return line(0, [str(count), hexes(doubles(*numbers)), words(swap_store(*rows)), str(toss_ups)])
+def factored(count, rows, *numbers, toss_ups=0, dead=0):
+    return line(0, [str(count), hexes(doubles(*numbers)), words(swap_store(*rows)), str(toss_ups), str(dead)])
 
 
 def overflowed(m, n):
-    return line(7, ['0', hexes(doubles(*[0.0] * m * n)), words(swap_store()), '0'])
+    return line(7, ['0', hexes(doubles(*[0.0] * m * n)), words(swap_store()), '0', '0'])
 
 
 def size_refused(count):
-    return line(1, ['0', hexes(spare(count)), words(swap_store(9)), '0'])
+    return line(1, ['0', hexes(spare(count)), words(swap_store(9)), '0', '0'])
 
 
 def table():
-    packed, one = doubles(2.0, 0.0, 0.0, 1.0), [swap_store(0, 1), pairs(1)]
-    none = [swap_store(), pairs(0)]
+    packed, one = doubles(2.0, 0.0, 0.0, 1.0), [swap_store(0, 1), held(1)]
+    none = [swap_store(), held(0)]
     top = 1.75 * 2.0 ** 1023
     r = random.Random('64 by 64')
     return [
@@ -63,12 +68,12 @@ def table():
         ('2 by 1: (2^-1023, 0)', factoring(2, 1, 2.0 ** -1023, 0.0), factored(0, [], 2.0 ** -1023, 0.0)),
         ('2 by 1: (2, -2)', factoring(2, 1, 2.0, -2.0), factored(0, [], 2.0, -1.0, toss_ups=1)),
         ('2 by 1: 1.75*2^1023 twice', factoring(2, 1, top, top), factored(0, [], top, 1.0 + 2.0 ** -51, toss_ups=1)),
-        ('columns (0,0),(-1,-0.0), fresh', factoring(2, 2, 0.0, 0.0, -1.0, -0.0), factored(0, [], 0.0, 0.0, -1.0, -0.0)),
+        ('columns (0,0),(-1,-0.0), fresh', factoring(2, 2, 0.0, 0.0, -1.0, -0.0), factored(0, [], 0.0, 0.0, -1.0, -0.0, dead=2)),
         ('columns (0,0),(-1,-0.0), added',
-         Case(2, 2, 1, 0, [doubles(0.0, 0.0) + spare(2), doubles(-1.0, -0.0), *none], doubles(0.0, 0.0, -1.0, -0.0)),
-         factored(0, [], 0.0, 0.0, -1.0, -0.0)),
-        ('2 by 2 zeros', factoring(2, 2, 0.0, 0.0, 0.0, 0.0), factored(0, [], 0.0, 0.0, 0.0, 0.0)),
-        ('2 by 2 zeros, solve', Case(3, 2, 2, 1, [doubles(0.0, 0.0, 0.0, 0.0), *none, doubles(1.0, 1.0), spare(2)]),
+         Case(2, 2, 1, 0, [doubles(0.0, 0.0) + spare(2), doubles(-1.0, -0.0), swap_store(), held(0, 1)], doubles(0.0, 0.0, -1.0, -0.0)),
+         factored(0, [], 0.0, 0.0, -1.0, -0.0, dead=2)),
+        ('2 by 2 zeros', factoring(2, 2, 0.0, 0.0, 0.0, 0.0), factored(0, [], 0.0, 0.0, 0.0, 0.0, dead=2)),
+        ('2 by 2 zeros, solve', Case(3, 2, 2, 1, [doubles(0.0, 0.0, 0.0, 0.0), swap_store(), held(0, 2), doubles(1.0, 1.0), spare(2)]),
          line(6, [hexes(spare(2))])),
         ('diagonal 2^-600 twice, determinant', Case(5, 2, 2, 0, [doubles(2.0 ** -600, 0.0, 0.0, 2.0 ** -600), *none]),
          line(0, [hexes(doubles(0.0))])),
@@ -100,7 +105,7 @@ def table():
 def adding(m, matrix, column):
     """Columns that are their own factors without a swap, and one more."""
     n = len(matrix) // m
-    return Case(2, m, n, 0, [matrix + spare(m), column, swap_store(), pairs(0)], matrix + column)
+    return Case(2, m, n, 0, [matrix + spare(m), column, swap_store(), held(0, dead_columns(m, n, matrix))], matrix + column)
 
 
 def added():
@@ -155,7 +160,7 @@ def tossed():
         yield adding(2, doubles(), doubles(*column))
     for column in ((5.0, 1.0, -1.0), (1.0, 1.0, 0.5), (3.0, 0.0, 3.0), (9.0, 0.0, -0.0)):
         yield adding(3, doubles(1.0, 0.0, 0.0), doubles(*column))
-        yield Case(2, 3, 1, 0, [doubles(1.0, 0.5, 0.0) + spare(3), doubles(*column), swap_store(0, 1), pairs(1)])
+        yield Case(2, 3, 1, 0, [doubles(1.0, 0.5, 0.0) + spare(3), doubles(*column), swap_store(0, 1), held(1)])
     yield adding(2, doubles(1.0, 0.0), doubles(3.0, 3.0))                               # its own row alone is left
     yield adding(2, doubles(1.0, 0.0, 0.0, 1.0), doubles(5.0, 5.0))
     infinite, nan = floats.NOT_FINITE[0], floats.NOT_FINITE[2]
@@ -172,12 +177,11 @@ def tossed():
 
 def removing(m, n, list_, *numbers):
     """Any factors with that list; if no numbers are given, those of the places."""
-    numbers = numbers or [float(x + 1) for x in range(m * n)]
-    return Case(22, m, n, 0, [doubles(*numbers), swap_store(*list_), pairs(len(list_) // 2)])
+    return removing_factored(m, n, doubles(*(numbers or [float(x + 1) for x in range(m * n)])), list_, None)
 
 
 def removing_factored(m, n, factors, list_, whole):
-    return Case(22, m, n, 0, [factors, swap_store(*list_), pairs(len(list_) // 2)], whole)
+    return Case(22, m, n, 0, [factors, swap_store(*list_), held(len(list_) // 2, dead_columns(m, n, factors))], whole)
 
 
 def removed():
@@ -225,7 +229,7 @@ def removed():
 # ---- the transposed solve: which reading moves which pad
 
 def transposing(n, k, factors, list_, b):
-    return Case(25, n, n, k, [factors, swap_store(*list_), pairs(len(list_) // 2), b, spare(n * k)])
+    return Case(25, n, n, k, [factors, swap_store(*list_), held(len(list_) // 2), b, spare(n * k)])
 
 
 def transposed():
@@ -245,6 +249,94 @@ def transposed():
     for n in (9, 10, 12, 16, 17, 18, 25, 33):                                           # the order of the sums
         r = random.Random(f'sums of {n}')
         yield transposing(n, 2, floats.without_zero_diagonal(r, n, floats.unit(r, n * n)), [0, 1, n - 1, 0], floats.unit(r, 2 * n))
+
+
+# ---- dead columns: numbers that are wrong, and factors that keep theirs through adding and removing
+
+def holding(op, m, n, dead, *numbers, list_=()):
+    """A call on any m by n factors with that list and that number of dead columns; what it takes besides is good."""
+    factors, told, column = doubles(*numbers), [swap_store(*list_), held(len(list_) // 2, dead)], doubles(*[float(x + 1) for x in range(m)])
+    if op == 2:
+        return Case(2, m, n, 0, [factors + spare(m), column, *told])
+    lent = {3: m, 4: m * n, 7: m * min(m, n), 8: n * min(m, n), 25: m}
+    return Case(op, m, n, 1, [factors, *told, *([column] if op in (3, 25) else []), *([spare(lent[op])] if op in lent else [])])
+
+
+# two diagonal numbers, with numbers of dead columns to tell, right and wrong
+TOLD = (((2.0, 3.0), (0, 1, 2 ** 32, 2 ** 64 - 1)), ((-0.0, 3.0), (0, 1, 2)), ((2.0, 0.0), (0, 1, 2 ** 32 + 1)), ((0.0, -0.0), (0, 1, 2, 3)))
+
+
+def dead():
+    """Each call with right and wrong numbers for none, one and two dead columns, of either sign; columns past the last row and rows past
+    the last column, which have no diagonal; and 9 behind each of 1 to 5, before 6 and before 7."""
+    infinite = floats.NOT_FINITE[0]
+    for op in HELD:
+        for (first, last), told in TOLD:
+            for number in told:
+                yield holding(op, 2, 2, number, first, 0.5, 0.0, last)                  # a zero over 0.5: no factoring gives it
+        for number in (0, 1):
+            bad = holding(op, 2, 2, number, -0.0, 1.0, 0.0, 3.0)
+            yield changed(bad, 0, with_item(bad.slices[0], 1, infinite))                # 5 before 9
+            yield changed(bad, bad.at('swaps'), swap_store()[:-1])                      # 3 before 9
+            yield changed(bad, bad.at('pairs'), held(3, number))                        # 4 before 9
+            yield Case(op, 2, 65, bad.k, bad.slices)                                    # 1 before 9
+            if op in (2, 3, 25):
+                at = 1 if op == 2 else 3
+                yield changed(bad, at, with_item(bad.slices[at], 1, infinite))          # 5, of the column or the right-hand side
+        if op in (3, 4, 25):                                                            # 9 before 7
+            yield holding(op, 1, 1, 1, 2.0 ** -1074)
+            yield holding(op, 1, 1, 0, 2.0 ** -1074)
+    for op in (2, 7, 8, 22):
+        for number in (0, 1, 2, 3):
+            yield holding(op, 1, 3, number, 2.0, 0.0, -0.0)                             # past the last row: no diagonal
+            yield holding(op, 2, 4, number, 2.0, 0.5, 0.0, 0.0, 0.0, 0.0, 0.0, 0.0)
+            yield holding(op, 3, 1, number, 2.0, 0.0, 0.0)                              # below the last column: none
+            yield holding(op, 3, 2, number, 0.0, 4.0, 5.0, 0.0, -0.0, 6.0)
+    for op in (3, 4, 5, 6, 25):
+        for number in (0, 1):
+            yield holding(op, 2, 1, number, 0.0, 1.0)                                   # 2 before 9
+    yield holding(2, 2, 0, 0)
+    yield holding(2, 2, 0, 1)                                                           # with no columns it is 0
+    for n in (0, 1):
+        yield holding(7, 2, n, 1 - n, *[0.0] * 2 * n)
+        yield holding(8, 2, n, n, *[0.0] * 2 * n)
+
+
+def kept():
+    """Dead columns that factoring, adding and removing meet, of factors that factoring gives and of others; and past the last row."""
+    for m, n, numbers in ((3, 3, [0.0, -0.0, 0.0] * 3), (3, 3, [1.0, 0.0, 0.0, 2.0, 0.0, -0.0, 3.0, 0.0, 4.0]), (2, 2, [1.0, 2.0, 2.0, 4.0]),
+                          (2, 4, [0.0] * 8), (4, 2, [-0.0] * 8), (2, 3, [0.0, 1.0, 0.0, 2.0, 0.0, 0.0]), (1, 1, [-0.0])):
+        yield factoring(m, n, *numbers)
+        yield Case(35, m, n, 0, factoring(m, n, *numbers).slices)
+    yield adding(2, doubles(), doubles(0.0, -0.0))
+    yield adding(2, doubles(), doubles(-0.0, 0.0))
+    yield adding(3, doubles(1.0, 0.0, 0.0), doubles(5.0, 0.0, -0.0))                    # dead behind a column that lives
+    yield adding(3, doubles(0.0, 0.0, 0.0), doubles(5.0, 0.0, 0.0))                     # behind a dead one
+    yield adding(3, doubles(0.0, -0.0, 0.0), doubles(5.0, 0.0, 2.0))                    # a living one, and a swap
+    yield adding(2, doubles(1.0, -1.0), doubles(3.0, -3.0))                             # dead after its update alone
+    yield adding(2, doubles(1.0, -1.0), doubles(3.0, 0.0))                              # not dead after it
+    yield adding(1, doubles(0.0), doubles(0.0))                                         # past the last row
+    yield adding(1, doubles(1.0), doubles(-0.0))
+    yield adding(2, doubles(0.0, 0.0, 0.0, 0.0), doubles(0.0, 0.0))
+    yield adding(2, doubles(1.0, 0.0, 0.0, 1.0), doubles(0.0, 0.0))
+    yield adding(2, doubles(0.0, 0.0), doubles(2.0 ** -1074, 0.0))                      # living, with no row below
+    yield adding(3, doubles(0.0, 0.0, 0.0), doubles(0.0, 2.0 ** -1074, 0.0))            # 7: the number as it was
+    yield adding(64, doubles(*[0.0] * 64 * 63), doubles(*[0.0] * 64))
+    yield holding(2, 3, 2, 1, 0.0, 4.0, 5.0, 7.0, 1.0, 6.0, list_=(0, 2))               # no factoring gives it: 4 below a zero
+    yield holding(2, 3, 2, 2, -0.0, 4.0, 5.0, 7.0, 0.0, 6.0, list_=(0, 2))
+    for column in ((7.0, 0.0, -0.0), (-0.0, -0.0, -0.0), (0.0, 0.0, 1.0)):              # two dead ones behind such a column, and a living one
+        yield Case(2, 3, 1, 0, [doubles(-0.0, 4.0, 5.0) + spare(3), doubles(*column), swap_store(1, 2), held(1, 1)])
+    for last in ((5.0, 0.0, -0.0), (5.0, -0.0, 0.0), (5.0, 1.0, 0.0)):
+        yield removing_factored(3, 2, doubles(1.0, 0.0, 0.0, *last), [], doubles(1.0, 0.0, 0.0, *last))
+        yield removing_factored(3, 2, doubles(0.0, 0.0, -0.0, *last), [], doubles(0.0, 0.0, -0.0, *last))
+    yield removing_factored(2, 1, doubles(-0.0, 0.0), [], doubles(-0.0, 0.0))
+    yield removing_factored(1, 2, doubles(0.0, 0.0), [], doubles(0.0, 0.0))             # past the last row
+    yield removing_factored(1, 2, doubles(1.0, -0.0), [], doubles(1.0, -0.0))
+    yield removing_factored(2, 3, doubles(*[0.0] * 6), [], doubles(*[0.0] * 6))
+    yield removing(3, 2, [1, 2], 0.0, 4.0, 5.0, 7.0, -0.0, 6.0)                         # no factoring gives it: a dead column with a swap
+    yield removing(3, 2, [1, 2], 0.0, 0.0, 5.0, 7.0, 0.0, 6.0)
+    yield removing(3, 3, [], 1.0, 2.0, 3.0, 4.0, 0.0, 6.0, 7.0, 8.0, 0.0)
+    yield removing(2, 3, [], 0.0, 2.0, 3.0, 0.0, 0.0, 0.0)
 
 
 # ---- one fault at a time
@@ -288,8 +380,8 @@ def faults_of(case):
         if name == 'pairs':
             full = changed(case, at - 1, array('Q', [0, 1] * 64))
             for count in COUNTS:
-                yield changed(case, at, pairs(count))
-                yield changed(full, at, pairs(count))       # good pairs, at most too many
+                yield changed(case, at, with_item(items, 0, count))
+                yield changed(full, at, with_item(items, 0, count))         # good pairs, at most too many
         if name == 'swaps' and case.op not in (1, 35):
             for row in ROWS:
                 yield changed(case, at, with_item(items, 0, row))
@@ -303,26 +395,26 @@ def faults_of(case):
 def good(op):
     """A small case that is accepted: 4 by 3 where the call takes that, else 3 by 3 with 2 right-hand columns."""
     matrix = doubles(4.0, 1.0, -2.0, 0.5, 6.0, 1.0, 3.0, 8.0, 1.0)
-    list_ = [swap_store(0, 1, 1, 2), pairs(2)]
+    list_, told = [swap_store(0, 1, 1, 2), pairs(2)], [swap_store(0, 1, 1, 2), held(2)]
     b, x = doubles(1.0, 2.0, 3.0, -4.0, 5.0, -6.0), spare(6)
     tall, wide = matrix + doubles(2.0, -1.0, 0.25), spare(12)
     return {
         1: lambda: Case(1, 4, 3, 0, [tall, wide, swap_store(9, 9)]),
-        2: lambda: Case(2, 4, 2, 0, [tall, doubles(1.0, -2.0, 3.0, 5.0), *list_]),
-        3: lambda: Case(3, 3, 3, 2, [matrix, *list_, b, x]),
-        4: lambda: Case(4, 3, 3, 0, [matrix, *list_, spare(9)]),
-        5: lambda: Case(5, 3, 3, 0, [matrix, *list_]),
-        6: lambda: Case(6, 3, 3, 0, [matrix, *list_]),
-        7: lambda: Case(7, 4, 3, 0, [tall, *list_, wide]),
-        8: lambda: Case(8, 4, 3, 0, [tall, *list_, spare(9)]),
+        2: lambda: Case(2, 4, 2, 0, [tall, doubles(1.0, -2.0, 3.0, 5.0), *told]),
+        3: lambda: Case(3, 3, 3, 2, [matrix, *told, b, x]),
+        4: lambda: Case(4, 3, 3, 0, [matrix, *told, spare(9)]),
+        5: lambda: Case(5, 3, 3, 0, [matrix, *told]),
+        6: lambda: Case(6, 3, 3, 0, [matrix, *told]),
+        7: lambda: Case(7, 4, 3, 0, [tall, *told, wide]),
+        8: lambda: Case(8, 4, 3, 0, [tall, *told, spare(9)]),
         11: lambda: Case(11, 0, 3, 2, [matrix, doubles(2.0), b, x]),
         18: lambda: Case(18, 3, 0, 0, [*list_, array('Q', [5, 2])]),
         19: lambda: Case(19, 0, 3, 0, [doubles(2.0, -2.0, 5.0), array('Q', [7, 8, 9])]),
         21: lambda: writing(2, doubles(4.0, -0.0, 2.0 ** -1074, -8.0), doubles(5.0, 0.1), 57),
-        22: lambda: Case(22, 4, 3, 0, [tall, swap_store(0, 1, 2, 3), pairs(2)]),
+        22: lambda: Case(22, 4, 3, 0, [tall, swap_store(0, 1, 2, 3), held(2)]),
         23: lambda: searching(1, 3.0, -2.0, 1.0, 2.0, 3.0),
         24: lambda: Case(24, 0, 3, 2, [matrix, doubles(2.0), b, x]),
-        25: lambda: Case(25, 3, 3, 2, [matrix, *list_, b, x]),
+        25: lambda: Case(25, 3, 3, 2, [matrix, *told, b, x]),
         35: lambda: Case(35, 4, 3, 0, [tall, wide, swap_store(9, 9)]),
     }.get(op, lambda: Case(op, 0, 3, 2, [matrix, b, x]) if op < 14 else Case(op, 4, 3, 0, [*list_, tall]))()
 
@@ -444,7 +536,7 @@ def fixed():
     """All of them, as generators: makers ask the oracle."""
     for _, case, _ in table():
         yield done(case)
-    for case in (*added(), *given(), *tossed(), *removed(), *transposed()):
+    for case in (*added(), *given(), *tossed(), *removed(), *transposed(), *dead(), *kept()):
         yield done(case)
     for op in OPS:
         if op == 20:
@@ -478,6 +570,9 @@ def bad_cases():
     yield b'\xff' + bytes(8 * LONGEST)
     yield whole[:25] + b'\xff\xff'
     yield whole[:-8]
+    for op in HELD:                                                                     # other than two numbers of pairs and dead columns
+        for told in (pairs(2), array('Q'), array('Q', [2, 0, 0])):
+            yield encode(changed(good(op), good(op).at('pairs'), told))
 
 
 BAD = list(bad_cases())

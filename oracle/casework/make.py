@@ -5,12 +5,12 @@ from array import array
 
 from . import floats
 from .judge import finite
-from .rules import GIVEN, MOST, STORE, request_factoring
-from .wire import Case, FLOATS, LONGEST, OPS, unhex
+from .rules import GIVEN, MOST, STORE, dead_columns, request_factoring
+from .wire import Case, FLOATS, HELD, LONGEST, OPS, hexes, unhex
 
 # how often each op comes in a round
-TURNS = {1: 3, 2: 3, 3: 3, 4: 2, 5: 1, 6: 1, 7: 3, 8: 3, 9: 2, 10: 2, 11: 2, 12: 3, 13: 3,
-         14: 3, 15: 3, 16: 3, 17: 3, 18: 2, 19: 1, 20: 2, 21: 2, 22: 3, 23: 2, 24: 2, 25: 3, 26: 2, 35: 3}
+TURNS = {1: 4, 2: 4, 3: 3, 4: 2, 5: 2, 6: 2, 7: 4, 8: 4, 9: 2, 10: 2, 11: 2, 12: 3, 13: 3,
+         14: 4, 15: 4, 16: 4, 17: 4, 18: 2, 19: 1, 20: 2, 21: 2, 22: 4, 23: 2, 24: 2, 25: 3, 26: 2, 35: 4}
 ROUND = [(op, turn) for turn in range(max(TURNS.values())) for op in TURNS if turn < TURNS[op]]
 
 JUNK = [0, 1, 63, 64, 65, 255, 2 ** 32, 2 ** 63, 2 ** 64 - 1]
@@ -86,6 +86,11 @@ def list_slices(r, pairs):
     return [store_of(r, pairs), array('Q', [len(pairs)])]
 
 
+def held_slices(r, m, n, factors, pairs):
+    """What is held beside factors: their swap store, and the pairs and dead columns."""
+    return [store_of(r, pairs), array('Q', [len(pairs), dead_columns(m, n, factors)])]
+
+
 # ---- one maker for each group of ops: r, op, the two sizes of its turn
 
 def make_factor(r, op, m, n):
@@ -100,24 +105,25 @@ def make_add(r, op, m, n):
         made = yield from factored(m, n, whole[:m * n])
         if made:
             factors, pairs = made
-            return Case(op, m, n, 0, [factors + floats.anything(r, m), whole[m * n:], *list_slices(r, pairs)], fresh=whole)
-    return Case(op, m, n, 0, [whole[:m * n] + floats.anything(r, m), whole[m * n:], *list_slices(r, good_pairs(r, m, min(m, n)))])
+            return Case(op, m, n, 0, [factors + floats.anything(r, m), whole[m * n:], *held_slices(r, m, n, factors, pairs)], fresh=whole)
+    pairs = good_pairs(r, m, min(m, n))
+    return Case(op, m, n, 0, [whole[:m * n] + floats.anything(r, m), whole[m * n:], *held_slices(r, m, n, whole, pairs)])
 
 
 def make_solve(r, op, n, k):
     factors, pairs = yield from some_factors(r, n, n, r.random() < 0.8)
-    return Case(op, n, n, k, [factors, *list_slices(r, pairs), floats.matrix(r, n, k), floats.anything(r, n * k)])
+    return Case(op, n, n, k, [factors, *held_slices(r, n, n, factors, pairs), floats.matrix(r, n, k), floats.anything(r, n * k)])
 
 
 def make_square(r, op, n, k):
     """Inverse, determinant, invertible."""
     factors, pairs = yield from some_factors(r, n, n, r.random() < 0.8)
-    return Case(op, n, n, 0, [factors, *list_slices(r, pairs)] + ([floats.anything(r, n * n)] if op == 4 else []))
+    return Case(op, n, n, 0, [factors, *held_slices(r, n, n, factors, pairs)] + ([floats.anything(r, n * n)] if op == 4 else []))
 
 
 def make_l_or_u(r, op, m, n):
     factors, pairs = yield from some_factors(r, m, n)
-    return Case(op, m, n, 0, [factors, *list_slices(r, pairs), floats.anything(r, min(m, n) * (m if op == 7 else n))])
+    return Case(op, m, n, 0, [factors, *held_slices(r, m, n, factors, pairs), floats.anything(r, min(m, n) * (m if op == 7 else n))])
 
 
 def make_triangular(r, op, n, k):
@@ -181,8 +187,8 @@ def make_remove(r, op, m, n):
         made = yield from factored(m, n, whole)
         if made:
             factors, pairs = made
-            return Case(op, m, n, 0, [factors, *list_slices(r, pairs)], fresh=whole)
-    return Case(op, m, n, 0, [whole, *list_slices(r, pairs_to_remove_from(r, m, n))])
+            return Case(op, m, n, 0, [factors, *held_slices(r, m, n, factors, pairs)], fresh=whole)
+    return Case(op, m, n, 0, [whole, *held_slices(r, m, n, whole, pairs_to_remove_from(r, m, n))])
 
 
 def pairs_to_remove_from(r, m, n):
@@ -280,11 +286,27 @@ def number_fault(r, c):
 
 
 def zero_fault(r, c):
+    """A zero on the diagonal; of factors most often with the number of dead columns that is then right."""
     at = 1 if c.op in GIVEN and r.random() < 0.7 else 0
     items = c.slices[at]
     if len(items):
-        i = 0 if at else r.randrange(max(1, min(c.n, 64))) * (c.n + 1)
+        i = 0 if at else r.randrange(max(1, min(c.n, 64))) * ((c.m if c.op in HELD else c.n) + 1)
         items[i % len(items)] = r.choice((0.0, -0.0))
+    if c.op in HELD and r.random() < 0.8:
+        c.part('pairs')[1] = dead_columns(c.m, c.n, c.slices[0])
+
+
+def dead_fault(r, c):
+    """Another number of dead columns: near the right one, far from it, or as a hurried hand would count."""
+    told, factors = c.part('pairs'), c.slices[0]
+    d, diagonal = told[1], factors[::c.m + 1]
+    hurried = [zeros(factors), zeros(diagonal), zeros(diagonal[:-1]), zeros(factors[::c.n + 1]), hexes(diagonal).split(' ').count('0' * 16)]
+    told[1] = r.choice([d + 1, d + 1, d - 1, d - 1, 0, 1, 2, min(c.m, c.n), c.n, 64, 65, 2 ** 32 + d, 2 ** 63, 2 ** 63 + d, 2 ** 64 - 1,
+                        *r.choices(hurried, k=4)]) % 2 ** 64
+
+
+def zeros(items):
+    return sum(x == 0.0 for x in items)
 
 
 def remove_fault(r, c):
@@ -321,8 +343,10 @@ def faults_of(op):
         kinds += [list_fault, list_fault]
     if any(kind == FLOATS for _, kind in OPS[op].slices):
         kinds += [number_fault, number_fault]
-    if op in (3, 4, 5, 6, 9, 10, 11, 12, 13, 24, 25):
+    if op in (9, 10, 11, 12, 13, 24, *HELD):
         kinds.append(zero_fault)
+    if op in HELD:
+        kinds += [dead_fault] * 2
     if op == 18:
         kinds += [append_fault] * 3
     if op == 22:

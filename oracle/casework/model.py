@@ -6,9 +6,10 @@ Matrices are lists of rows here. Every operation is one Python operation on floa
 import struct
 import sys
 
-TAKES = {1: 'FFW', 2: 'FFWW', 3: 'FWWFF', 4: 'FWWF', 5: 'FWW', 6: 'FWW', 7: 'FWWF', 8: 'FWWF', 9: 'FFF', 10: 'FFF', 11: 'FFFF', 12: 'FFF',
-         13: 'FFF', 14: 'WWF', 15: 'WWF', 16: 'WWF', 17: 'WWF', 18: 'WWW', 19: 'FW', 20: 'W', 21: 'FFW', 22: 'FWW', 23: 'F', 24: 'FFFF',
-         25: 'FWWFF', 26: 'W', 35: 'FFW'}
+# F: floats, W: whole numbers, T: two of them
+TAKES = {1: 'FFW', 2: 'FFWT', 3: 'FWTFF', 4: 'FWTF', 5: 'FWT', 6: 'FWT', 7: 'FWTF', 8: 'FWTF', 9: 'FFF', 10: 'FFF', 11: 'FFFF', 12: 'FFF',
+         13: 'FFF', 14: 'WWF', 15: 'WWF', 16: 'WWF', 17: 'WWF', 18: 'WWW', 19: 'FW', 20: 'W', 21: 'FFW', 22: 'FWT', 23: 'F', 24: 'FFFF',
+         25: 'FWTFF', 26: 'W', 35: 'FFW'}
 
 
 class Refused(Exception):
@@ -39,7 +40,7 @@ class Input:
 
     def slice(self, kind):
         count, = self.take('<H')
-        if count > 4168:
+        if count > 4168 or kind == 'T' and count != 2:
             raise BadCase
         return list(self.take(f'<{count}d' if kind == 'F' else f'<{count}Q'))
 
@@ -127,13 +128,14 @@ def toss_up(column, i, best):
 
 
 def eliminate(m, n, a):
-    """Gives the pairs and the number of toss-ups."""
-    pairs, tosses = [], 0
+    """Gives the pairs, the number of toss-ups and that of skipped steps: each leaves a zero on the diagonal, and no other step does."""
+    pairs, tosses, dead = [], 0, 0
     for i in range(min(m, n)):
         column = [row[i] for row in a]
         p = pivot_row(column, i)
         tosses += toss_up(column, i, p)
         if a[p][i] == 0.0:
+            dead += 1
             continue
         if p != i:
             pairs.append((i, p))
@@ -143,12 +145,12 @@ def eliminate(m, n, a):
         for r in range(i + 1, m):
             for j in range(i + 1, n):
                 a[r][j] = (-a[i][j]) * a[r][i] + a[r][j]
-    return pairs, tosses
+    return pairs, tosses, dead
 
 
 def add_column(m, n, a, pairs, column):
-    """The rows of a get one entry more; gives the new pairs and the number of toss-ups."""
-    new, tosses = list(column), 0
+    """The rows of a get one entry more; gives the new pairs, and 0 or 1 for a toss-up and for a dead column."""
+    new, tosses, dead = list(column), 0, 0
     swap(new, pairs)
     for i in range(min(m, n)):
         if a[i][i] == 0.0:
@@ -160,13 +162,14 @@ def add_column(m, n, a, pairs, column):
     if n < m:
         p = pivot_row(new, n)
         tosses = toss_up(new, n, p)
-        if a[p][n] != 0.0:
+        dead = int(a[p][n] == 0.0)
+        if dead == 0:
             if p != n:
                 pairs = pairs + [(n, p)]
                 a[n], a[p] = a[p], a[n]
             for r in range(n + 1, m):
                 a[r][n] *= 1.0 / a[n][n]
-    return pairs, tosses
+    return pairs, tosses, dead
 
 
 # ---- solves of one right-hand column
@@ -249,53 +252,65 @@ def factor(m, n, k, matrix, out0, swaps):
     length(matrix, m * n), length(out0, m * n), length(swaps, 128)
     numbers(matrix)
     a = rows_of(m, n, matrix)
-    pairs, tosses = eliminate(m, n, a)
+    pairs, tosses, dead = eliminate(m, n, a)
     made = flat_of(m, n, a)
     overflow(made)
     used = [x for p in pairs for x in p]
-    return [len(pairs)], made, used + [0] * (128 - len(used)), [tosses]
+    return [len(pairs)], made, used + [0] * (128 - len(used)), [tosses], [dead]
 
 
 def factor_left(number, m, n, k, matrix, out0, swaps):
     if number == 7:
-        return [0], [0.0] * len(out0), [0] * 128, [0]
-    return [0], out0, swaps, [0]
+        return [0], [0.0] * len(out0), [0] * 128, [0], [0]
+    return [0], out0, swaps, [0], [0]
 
 
-def add(m, n, k, store, column, swaps, count):
+def dead_number(m, n, t, told):
+    """The zeros on the diagonal, of either sign, are those that the record tells."""
+    dead = 0
+    for i in range(min(m, n)):
+        if t[i][i] == 0.0:
+            dead += 1
+    refuse(9, told != dead)
+
+
+def add(m, n, k, store, column, swaps, told):
     size(m, 1), size(n, 0, 63)
     length(store, m * n + m), length(column, m), length(swaps, 128)
-    pairs = swap_list(swaps, count[0], m, min(m, n))
+    pairs = swap_list(swaps, told[0], m, min(m, n))
     numbers(store[:m * n]), numbers(column)
     a = rows_of(m, n, store)
-    pairs, tosses = add_column(m, n, a, pairs, column)
+    dead_number(m, n, a, told[1])
+    pairs, tosses, dead = add_column(m, n, a, pairs, column)
     made = flat_of(m, n + 1, a)
     overflow(made)
     after = list(swaps)
     for p, pair in enumerate(pairs):
         after[2 * p:2 * p + 2] = pair
-    return [len(pairs)], made, after, [tosses]
+    return [len(pairs)], made, after, [tosses], [told[1] + dead]
 
 
-def add_left(number, m, n, k, store, column, swaps, count):
+def add_left(number, m, n, k, store, column, swaps, told):
     if number == 7:
         store = store[:m * n] + [0.0] * m
-    return count, store, swaps, [0]
+    return told[:1], store, swaps, [0], told[1:]
 
 
-def factors(m, n, flat, swaps, count, square, *others):
-    """Refusals 1 to 5 of calls on factors; `others` are (slice, wanted length, is it an input)."""
+def factors(m, n, flat, swaps, told, square, *others):
+    """Refusals 1 to 5 and 9 of calls on factors; `others` are (slice, wanted length, is it an input)."""
     size(m, 1), size(n, 0)
     refuse(2, square and m != n)
     length(flat, m * n), length(swaps, 128)
     for items, wanted, _ in others:
         length(items, wanted)
-    pairs = swap_list(swaps, count[0], m, min(m, n))
+    pairs = swap_list(swaps, told[0], m, min(m, n))
     numbers(flat)
     for items, _, is_input in others:
         if is_input:
             numbers(items)
-    return rows_of(m, n, flat), pairs
+    t = rows_of(m, n, flat)
+    dead_number(m, n, t, told[1])
+    return t, pairs
 
 
 def zero_diagonal(n, t):
@@ -304,10 +319,10 @@ def zero_diagonal(n, t):
 
 
 def solving(run):
-    def call(m, n, k, flat, swaps, count, b, x0):
+    def call(m, n, k, flat, swaps, told, b, x0):
         size(k, 1)
-        t, pairs = factors(m, n, flat, swaps, count, True, (b, m * k, True), (x0, m * k, False))
-        zero_diagonal(n, t)
+        t, pairs = factors(m, n, flat, swaps, told, True, (b, m * k, True), (x0, m * k, False))
+        refuse(6, told[1] > 0)
         x = columns_of(n, k, b)
         run(n, t, pairs, x)
         made = sum(x, [])
@@ -316,9 +331,9 @@ def solving(run):
     return call
 
 
-def inverse(m, n, k, flat, swaps, count, x0):
-    t, pairs = factors(m, n, flat, swaps, count, True, (x0, m * n, False))
-    zero_diagonal(n, t)
+def inverse(m, n, k, flat, swaps, told, x0):
+    t, pairs = factors(m, n, flat, swaps, told, True, (x0, m * n, False))
+    refuse(6, told[1] > 0)
     x = [[1.0 if i == j else 0.0 for i in range(n)] for j in range(n)]
     solved(n, t, pairs, x)
     made = sum(x, [])
@@ -326,8 +341,8 @@ def inverse(m, n, k, flat, swaps, count, x0):
     return made,
 
 
-def determinant(m, n, k, flat, swaps, count):
-    t, pairs = factors(m, n, flat, swaps, count, True)
+def determinant(m, n, k, flat, swaps, told):
+    t, pairs = factors(m, n, flat, swaps, told, True)
     product = 1.0
     for i in range(n):
         product *= t[i][i]
@@ -336,19 +351,19 @@ def determinant(m, n, k, flat, swaps, count):
     return [product],
 
 
-def invertible(m, n, k, flat, swaps, count):
-    t, _ = factors(m, n, flat, swaps, count, True)
-    return [int(all(t[i][i] != 0.0 for i in range(n)))],
+def invertible(m, n, k, flat, swaps, told):
+    factors(m, n, flat, swaps, told, True)
+    return [int(told[1] == 0)],
 
 
-def l_of(m, n, k, flat, swaps, count, out0):
-    t, _ = factors(m, n, flat, swaps, count, False, (out0, m * min(m, n), False))
+def l_of(m, n, k, flat, swaps, told, out0):
+    t, _ = factors(m, n, flat, swaps, told, False, (out0, m * min(m, n), False))
     least = min(m, n)
     return flat_of(m, least, [[1.0 if i == j else t[i][j] if i > j else 0.0 for j in range(least)] for i in range(m)]),
 
 
-def u_of(m, n, k, flat, swaps, count, out0):
-    t, _ = factors(m, n, flat, swaps, count, False, (out0, min(m, n) * n, False))
+def u_of(m, n, k, flat, swaps, told, out0):
+    t, _ = factors(m, n, flat, swaps, told, False, (out0, min(m, n) * n, False))
     least = min(m, n)
     return flat_of(least, n, [[t[i][j] if i <= j else 0.0 for j in range(n)] for i in range(least)]),
 
@@ -458,7 +473,7 @@ def read_panel(k, items):
 
 def factored_panel(pads, values):
     t = rows_of(pads, pads, values)
-    pairs, _ = eliminate(pads, pads, t)
+    pairs, _, _ = eliminate(pads, pads, t)
     overflow(flat_of(pads, pads, t))
     zero_diagonal(pads, t)
     return t, pairs
@@ -492,20 +507,23 @@ def write_left(number, m, n, k, matrix, readings, items):
     return '-', struct.pack(f'<{len(items)}Q', *items)[:k].hex()
 
 
-def remove(m, n, k, store, swaps, count):
+def remove(m, n, k, store, swaps, told):
     size(m, 1), size(n, 1)
     length(store, m * n), length(swaps, 128)
-    pairs = swap_list(swaps, count[0], m, min(m, n))
+    pairs = swap_list(swaps, told[0], m, min(m, n))
     undone = [pair for pair in pairs[-1:] if pair[0] == n - 1]
     left = len(pairs) - len(undone)
     refuse(4, left > min(m, n - 1))
     for i, j in undone:
         refuse(4, j < i)
     numbers(store)
+    a = rows_of(m, n, store)
+    dead_number(m, n, a, told[1])
+    own = int(n <= m and a[n - 1][n - 1] == 0.0)
     older = rows_of(m, n - 1, store)
     swap(older, undone)
     after = [0 if 2 * left <= at < 2 * len(pairs) else x for at, x in enumerate(swaps)]
-    return [left], flat_of(m, n - 1, older) + [0.0] * m, after
+    return [left], flat_of(m, n - 1, older) + [0.0] * m, after, [told[1] - own]
 
 
 def search(m, n, k, column):
@@ -539,7 +557,7 @@ CALLS = {
     16: (permute(True, False), last_left), 17: (permute(True, True), last_left),
     18: (append, lambda number, m, n, k, swaps, count, two: (count, swaps)), 19: (rank, last_left),
     20: (panel_file, lambda number, *case: (f'refused {number}\n',)), 21: (write_file, write_left),
-    22: (remove, lambda number, m, n, k, store, swaps, count: (count, store, swaps)),
+    22: (remove, lambda number, m, n, k, store, swaps, told: (told[:1], store, swaps, told[1:])),
     23: (search, None), 24: (given_diagonal(corrected), last_left), 25: (solving(transposed_solved), last_left),
     26: (moves, lambda *case: ('-',)), 35: (factor, factor_left),
 }

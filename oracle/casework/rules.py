@@ -37,6 +37,11 @@ def zero_on_diagonal(n, matrix):
     return any(x == 0.0 for x in matrix[::n + 1])
 
 
+def dead_columns(m, n, factors):
+    """Document 02, request 7: how many of the first min(m, n) columns have a zero of either sign on the diagonal."""
+    return sum(x == 0.0 for x in factors[:m * n:m + 1][:min(m, n)])
+
+
 def first(tests):
     for number, holds in tests:
         if holds:
@@ -95,18 +100,18 @@ def factor_tests(c):
 
 
 def factor_left(c):
-    return ['0', hexes(c.slices[1]), words(c.slices[2]), '0']
+    return ['0', hexes(c.slices[1]), words(c.slices[2]), '0', '0']
 
 
 def factor_made(c):
     matrix, _, _ = c.slices
     pairs, factors, swaps = (yield request_factoring(c.m, c.n, matrix)).split(' | ')
     if not finite(factors):
-        return 7, ['0', zeros(matrix), words([0] * STORE), '0']
+        return 7, ['0', zeros(matrix), words([0] * STORE), '0', '0']
     built, toss_ups = built_up(c.m, c.n, matrix)
     assert built == factors, 'building up in Python gives other factors than the crate'
     store = swaps.split() + ['0'] * (STORE - 2 * int(pairs))
-    return 0, [pairs, factors, ' '.join(store), str(toss_ups)]
+    return 0, [pairs, factors, ' '.join(store), str(toss_ups), str(dead_columns(c.m, c.n, unhex(factors)))]
 
 
 def built_up(m, n, matrix):
@@ -120,31 +125,32 @@ def built_up(m, n, matrix):
 
 
 def add_tests(c):
-    store, column, swaps, pairs = c.slices
+    store, column, swaps, (pairs, dead) = c.slices
     yield 1, outside(1, c.m) or outside(0, c.n, MOST - 1)
     yield 3, len(store) != c.m * (c.n + 1) or len(column) != c.m or len(swaps) != STORE
-    yield 4, bad_list(swaps, pairs[0], c.m, min(c.m, c.n))
+    yield 4, bad_list(swaps, pairs, c.m, min(c.m, c.n))
     yield 5, not_finite(store[:c.m * c.n], column)
+    yield 9, dead != dead_columns(c.m, c.n, store)
 
 
 def add_left(c):
-    store, _, swaps, pairs = c.slices
-    return [words(pairs), hexes(store), words(swaps), '0']
+    store, _, swaps, (pairs, dead) = c.slices
+    return [str(pairs), hexes(store), words(swaps), '0', str(dead)]
 
 
 def add_made(c):
     """Document 01's steps are run here; where the whole matrix is known, the oracle factors it afresh, and its numbers are taken."""
-    store, column, swaps, (old,) = c.slices
+    store, column, swaps, (old, dead) = c.slices
     made, pair, toss_up = added(c.m, c.n, store[:c.m * c.n], column, swaps[:2 * old])
     text = hexes(made)
     if c.fresh is not None:
         _, text, list_ = (yield request_factoring(c.m, c.n + 1, c.fresh)).split(' | ')
         pair = [int(w) for w in list_.split()[2 * old:]]
     if not finite(text):
-        return 7, [str(old), hexes(store[:c.m * c.n] + array('d', bytes(8 * c.m))), words(swaps), '0']
+        return 7, [str(old), hexes(store[:c.m * c.n] + array('d', bytes(8 * c.m))), words(swaps), '0', str(dead)]
     swaps = swaps[:]
     swaps[2 * old:2 * old + len(pair)] = array('Q', pair)
-    return 0, [str(old + len(pair) // 2), text, words(swaps), str(toss_up)]
+    return 0, [str(old + len(pair) // 2), text, words(swaps), str(toss_up), str(dead_columns(c.m, c.n + 1, unhex(text)))]
 
 
 def added(m, n, store, column, list_):
@@ -179,26 +185,27 @@ def added(m, n, store, column, list_):
 # ---- 3 to 8: calls on factors
 
 def factors_tests(c, square, lengths, numbers):
-    """Refusals 1 to 5 of a call on factors, the number of right-hand columns apart."""
-    factors, swaps, pairs = c.slices[:3]
+    """Refusals 1 to 5 and 9 of a call on factors, the number of right-hand columns apart."""
+    factors, swaps, (pairs, dead) = c.slices[:3]
     yield 1, outside(1, c.m) or outside(0, c.n)
     yield 2, square and c.m != c.n
     yield 3, len(factors) != c.m * c.n or len(swaps) != STORE or lengths
-    yield 4, bad_list(swaps, pairs[0], c.m, min(c.m, c.n))
+    yield 4, bad_list(swaps, pairs, c.m, min(c.m, c.n))
     yield 5, not_finite(factors, *numbers)
+    yield 9, dead != dead_columns(c.m, c.n, factors)
 
 
 def solve_tests(c):
-    factors, _, _, b, x0 = c.slices
+    _, _, (_, dead), b, x0 = c.slices
     yield 1, outside(1, c.k)
     yield from factors_tests(c, True, len(b) != c.m * c.k or len(x0) != c.m * c.k, [b])
-    yield 6, zero_on_diagonal(c.n, factors)
+    yield 6, dead != 0
 
 
 def inverse_tests(c):
-    factors, _, _, x0 = c.slices
+    _, _, (_, dead), x0 = c.slices
     yield from factors_tests(c, True, len(x0) != c.m * c.n, [])
-    yield 6, zero_on_diagonal(c.n, factors)
+    yield 6, dead != 0
 
 
 def square_tests(c):
@@ -232,7 +239,10 @@ def determinant_made(c):
 
 
 def invertible_made(c):
-    return 0, [(yield encode(c))]
+    """Answered from the number; the crate, which walks the diagonal, must agree."""
+    text = str(int(c.slices[2][1] == 0))
+    assert (yield encode(c)) == text, 'the crate answers otherwise than the number of dead columns'
+    return 0, [text]
 
 
 # ---- 9 to 13 and 24: triangular solves
@@ -348,13 +358,15 @@ def refused(number):
 
 
 def file_factored(c):
-    """The number of pads, the readings, and the factors with their list and count of pairs, or nothing where factoring overflows."""
+    """The number of pads, the readings, and the factors with their list and its two numbers, or nothing where factoring overflows."""
     file = c.slices[0]
     n = file[5]
     numbers = array('d', file[6:])
     pairs, factors, swaps = (yield request_factoring(n, n, numbers[:n * n])).split(' | ')
-    held = [unhex(factors), array('Q', map(int, swaps.split())), array('Q', [int(pairs)])] if finite(factors) else None
-    return n, numbers[n * n:], held
+    if not finite(factors):
+        return n, numbers[n * n:], None
+    factors = unhex(factors)
+    return n, numbers[n * n:], [factors, array('Q', map(int, swaps.split())), array('Q', [int(pairs), dead_columns(n, n, factors)])]
 
 
 def file_made(c):
@@ -396,28 +408,29 @@ def write_made(c):
 
 def undoes(c):
     """The last pair begins with the last column's number."""
-    _, swaps, (pairs,) = c.slices
+    _, swaps, (pairs, _) = c.slices
     return pairs > 0 and swaps[2 * pairs - 2] == c.n - 1
 
 
 def remove_tests(c):
-    store, swaps, (pairs,) = c.slices
+    store, swaps, (pairs, dead) = c.slices
     yield 1, outside(1, c.m) or outside(1, c.n)
     yield 3, len(store) != c.m * c.n or len(swaps) != STORE
     yield 4, bad_list(swaps, pairs, c.m, min(c.m, c.n))
     yield 4, pairs - undoes(c) > min(c.m, c.n - 1)
     yield 4, undoes(c) and swaps[2 * pairs - 1] < swaps[2 * pairs - 2]
     yield 5, not_finite(store)
+    yield 9, dead != dead_columns(c.m, c.n, store)
 
 
 def remove_left(c):
-    store, swaps, pairs = c.slices
-    return [words(pairs), hexes(store), words(swaps)]
+    store, swaps, (pairs, dead) = c.slices
+    return [str(pairs), hexes(store), words(swaps), str(dead)]
 
 
 def remove_made(c):
     """Where the whole matrix is known, the oracle factors the columns that remain afresh; else the two rows are swapped back here."""
-    _, swaps, (old,) = c.slices
+    _, swaps, (old, _) = c.slices
     if c.fresh is None:
         count, older = removed(c)
     else:
@@ -426,12 +439,12 @@ def remove_made(c):
         assert [int(w) for w in list_.split()] == list(swaps[:2 * count]), 'the pairs that remain are not those of the columns that remain'
     swaps = swaps[:]
     swaps[2 * count:2 * old] = array('Q', [0] * (2 * (old - count)))
-    return 0, [str(count), hexes(older + array('d', bytes(8 * c.m))), words(swaps)]
+    return 0, [str(count), hexes(older + array('d', bytes(8 * c.m))), words(swaps), str(dead_columns(c.m, c.n - 1, older))]
 
 
 def removed(c):
     """The count of pairs and the older columns, on any factors."""
-    store, swaps, (pairs,) = c.slices
+    store, swaps, (pairs, _) = c.slices
     m, n = c.m, c.n - 1
     older = store[:m * n]
     if not undoes(c):
@@ -462,7 +475,7 @@ def transposed_solved(n, k, factors, swaps, pairs, b):
     unit = factors[:]
     unit[::n + 1] = array('d', [1.0] * n)
     passed = yield encode(Case(12, 0, n, k, [unit, with_nans(passed), array('d')]))
-    return (yield encode(Case(15, n, k, 0, [swaps, pairs, with_nans(passed)])))
+    return (yield encode(Case(15, n, k, 0, [swaps, pairs[:1], with_nans(passed)])))
 
 
 def transposed_made(c):

@@ -53,6 +53,9 @@ OPS = {
     35: Op('build up', 'mn', 'matrix', 'out0', 'swaps'),
 }
 
+# the ops that take factors: their slice `pairs` has two numbers, the pairs and the dead columns; in the other ops it has one
+HELD = (2, 3, 4, 5, 6, 7, 8, 22, 25)
+
 
 class Case:
     """One case: slices are arrays of doubles or of 64-bit numbers, a panel file's or lent bytes as bytes.
@@ -62,9 +65,13 @@ class Case:
     def __init__(self, op, m, n, k, slices, fresh=None):
         self.op, self.m, self.n, self.k, self.slices, self.fresh = op, m, n, k, slices, fresh
 
+    def at(self, name):
+        """The place of the slice of that name."""
+        return [s for s, _ in OPS[self.op].slices].index(name)
+
     def part(self, name):
         """The slice of that name."""
-        return self.slices[[s for s, _ in OPS[self.op].slices].index(name)]
+        return self.slices[self.at(name)]
 
 
 # ---- bytes
@@ -123,6 +130,7 @@ def show(case, most=24):
         else:
             shown = ', '.join(f'{x!r} ({h})' for x, h in zip(items[:most], hexes(items[:most]).split(' ')))
         more = ' ...' if kind != WORDS and len(items) > most else ''
+        name = 'pairs and dead columns' if name == 'pairs' and case.op in HELD else name
         out.append(f'  {name}, {len(items)} {"bytes" if kind == BYTES else "items"}: {shown}{more}')
     return '\n'.join(out)
 

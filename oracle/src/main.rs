@@ -56,7 +56,7 @@ impl Case {
     }
     fn list(&self, swaps: usize, room: usize) -> P {
         let mut p = P::identity(room);
-        let pairs = self.slices[swaps + 1][0] as usize;
+        let pairs = self.slices[swaps + 1][0] as usize; // beside factors the dead columns follow, of which the crate knows nothing
         for pair in self.slices[swaps][..2 * pairs].chunks(2) {
             p.append_permutation(pair[0] as usize, pair[1] as usize);
         }

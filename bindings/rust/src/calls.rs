@@ -14,6 +14,7 @@ mod c {
             swaps: *mut usize,
             swaps_len: usize,
             pairs: *mut usize,
+            dead: *mut usize,
             toss_ups: *mut usize,
         ) -> usize;
         pub fn wejdarox_add_column(
@@ -26,6 +27,7 @@ mod c {
             m: usize,
             n: usize,
             pairs: *mut usize,
+            dead: *mut usize,
             toss_ups: *mut usize,
         ) -> usize;
         pub fn wejdarox_solve(
@@ -36,6 +38,7 @@ mod c {
             m: usize,
             n: usize,
             pairs: usize,
+            dead: usize,
             b: *const f64,
             b_len: usize,
             k: usize,
@@ -50,6 +53,7 @@ mod c {
             m: usize,
             n: usize,
             pairs: usize,
+            dead: usize,
             x: *mut f64,
             x_len: usize,
         ) -> usize;
@@ -61,6 +65,7 @@ mod c {
             m: usize,
             n: usize,
             pairs: usize,
+            dead: usize,
             value: *mut f64,
         ) -> usize;
         pub fn wejdarox_is_invertible(
@@ -71,11 +76,20 @@ mod c {
             m: usize,
             n: usize,
             pairs: usize,
+            dead: usize,
             invertible: *mut bool,
         ) -> usize;
         pub fn wejdarox_rank(loads: *const f64, loads_len: usize, n: usize, ranks: *mut usize, ranks_len: usize) -> usize;
         pub fn wejdarox_pad_order(file: *const u8, file_len: usize, ranks: *mut usize, loads: *mut f64, pads: *mut usize, toss_ups: *mut usize) -> usize;
     }
+}
+
+/// What factoring and adding count.
+#[derive(Clone, Copy, Debug, Default, PartialEq)]
+pub(crate) struct Counts {
+    pub pairs: usize,
+    pub dead: usize,
+    pub toss_ups: usize,
 }
 
 /// Factors and what belongs to them, as a call on them takes it.
@@ -86,38 +100,41 @@ pub(crate) struct Held<'a> {
     pub rows: usize,
     pub columns: usize,
     pub pairs: usize,
+    pub dead: usize,
 }
 
-pub(crate) fn factor(a: &[f64], m: usize, n: usize, factors: &mut [f64], swaps: &mut [usize], pairs: &mut usize, toss_ups: &mut usize) -> usize {
+pub(crate) fn factor(a: &[f64], m: usize, n: usize, factors: &mut [f64], swaps: &mut [usize], counts: &mut Counts) -> usize {
     let (fp, fl, sp, sl) = (factors.as_mut_ptr(), factors.len(), swaps.as_mut_ptr(), swaps.len());
-    unsafe { c::wejdarox_factor(a.as_ptr(), a.len(), m, n, fp, fl, sp, sl, pairs, toss_ups) }
+    let Counts { pairs, dead, toss_ups } = counts;
+    unsafe { c::wejdarox_factor(a.as_ptr(), a.len(), m, n, fp, fl, sp, sl, pairs, dead, toss_ups) }
 }
 
-pub(crate) fn add_column(factors: &mut [f64], column: &[f64], swaps: &mut [usize], m: usize, n: usize, pairs: &mut usize, toss_ups: &mut usize) -> usize {
+pub(crate) fn add_column(factors: &mut [f64], column: &[f64], swaps: &mut [usize], m: usize, n: usize, counts: &mut Counts) -> usize {
     let (fp, fl, sp, sl) = (factors.as_mut_ptr(), factors.len(), swaps.as_mut_ptr(), swaps.len());
-    unsafe { c::wejdarox_add_column(fp, fl, column.as_ptr(), column.len(), sp, sl, m, n, pairs, toss_ups) }
+    let Counts { pairs, dead, toss_ups } = counts;
+    unsafe { c::wejdarox_add_column(fp, fl, column.as_ptr(), column.len(), sp, sl, m, n, pairs, dead, toss_ups) }
 }
 
 pub(crate) fn solve(held: Held, b: &[f64], k: usize, x: &mut [f64]) -> usize {
-    let Held { factors: f, swaps: s, rows: m, columns: n, pairs } = held;
+    let Held { factors: f, swaps: s, rows: m, columns: n, pairs, dead } = held;
     let (xp, xl) = (x.as_mut_ptr(), x.len());
-    unsafe { c::wejdarox_solve(f.as_ptr(), f.len(), s.as_ptr(), s.len(), m, n, pairs, b.as_ptr(), b.len(), k, xp, xl) }
+    unsafe { c::wejdarox_solve(f.as_ptr(), f.len(), s.as_ptr(), s.len(), m, n, pairs, dead, b.as_ptr(), b.len(), k, xp, xl) }
 }
 
 pub(crate) fn inverse(held: Held, x: &mut [f64]) -> usize {
-    let Held { factors: f, swaps: s, rows: m, columns: n, pairs } = held;
+    let Held { factors: f, swaps: s, rows: m, columns: n, pairs, dead } = held;
     let (xp, xl) = (x.as_mut_ptr(), x.len());
-    unsafe { c::wejdarox_inverse(f.as_ptr(), f.len(), s.as_ptr(), s.len(), m, n, pairs, xp, xl) }
+    unsafe { c::wejdarox_inverse(f.as_ptr(), f.len(), s.as_ptr(), s.len(), m, n, pairs, dead, xp, xl) }
 }
 
 pub(crate) fn determinant(held: Held, value: &mut f64) -> usize {
-    let Held { factors: f, swaps: s, rows: m, columns: n, pairs } = held;
-    unsafe { c::wejdarox_determinant(f.as_ptr(), f.len(), s.as_ptr(), s.len(), m, n, pairs, value) }
+    let Held { factors: f, swaps: s, rows: m, columns: n, pairs, dead } = held;
+    unsafe { c::wejdarox_determinant(f.as_ptr(), f.len(), s.as_ptr(), s.len(), m, n, pairs, dead, value) }
 }
 
 pub(crate) fn is_invertible(held: Held, invertible: &mut bool) -> usize {
-    let Held { factors: f, swaps: s, rows: m, columns: n, pairs } = held;
-    unsafe { c::wejdarox_is_invertible(f.as_ptr(), f.len(), s.as_ptr(), s.len(), m, n, pairs, invertible) }
+    let Held { factors: f, swaps: s, rows: m, columns: n, pairs, dead } = held;
+    unsafe { c::wejdarox_is_invertible(f.as_ptr(), f.len(), s.as_ptr(), s.len(), m, n, pairs, dead, invertible) }
 }
 
 pub(crate) fn rank(loads: &[f64], n: usize, ranks: &mut [usize]) -> usize {
@@ -126,4 +143,46 @@ pub(crate) fn rank(loads: &[f64], n: usize, ranks: &mut [usize]) -> usize {
 
 pub(crate) fn pad_order(file: &[u8], ranks: &mut [usize; 64], loads: &mut [f64; 64], pads: &mut usize, toss_ups: &mut usize) -> usize {
     unsafe { c::wejdarox_pad_order(file.as_ptr(), file.len(), ranks.as_mut_ptr(), loads.as_mut_ptr(), pads, toss_ups) }
+}
+
+#[cfg(test)]
+mod tests {
+    use super::*;
+
+    /// An `Lu` keeps its number of dead columns true, so 9 is met here alone: numbers that do not match, for two dead columns of either sign.
+    #[test]
+    fn another_number_of_dead_columns() {
+        let (factors, swaps) = ([0.0, 0.0, 5.0, -0.0], [0; 128]);
+        for dead in [0, 1, 3, 1 << 32, usize::MAX] {
+            let held = Held { factors: &factors, swaps: &swaps, rows: 2, columns: 2, pairs: 0, dead };
+            let (mut x, mut value, mut invertible) = ([7.5; 4], 7.5, true);
+            assert_eq!(solve(held, &[1.0, 2.0], 1, &mut x[..2]), 9);
+            assert_eq!(inverse(held, &mut x), 9);
+            assert_eq!(determinant(held, &mut value), 9);
+            assert_eq!(is_invertible(held, &mut invertible), 9);
+            assert_eq!((x, value, invertible), ([7.5; 4], 7.5, true));
+
+            let (mut store, mut list) = ([0.0, 0.0, 5.0, -0.0, 7.5, 7.5], swaps);
+            let mut counts = Counts { pairs: 0, dead, toss_ups: 9 };
+            assert_eq!(add_column(&mut store, &[1.0, 2.0], &mut list, 2, 2, &mut counts), 9);
+            assert_eq!((store, list), ([0.0, 0.0, 5.0, -0.0, 7.5, 7.5], swaps));
+            assert_eq!(counts, Counts { pairs: 0, dead, toss_ups: 0 });
+        }
+    }
+
+    /// The number is tested after 1 to 5, and before 6.
+    #[test]
+    fn order_of_tests() {
+        let (none, one, mut x) = ([0; 128], [1; 128], [7.5; 2]);
+        let of = |factors, swaps, columns, pairs, dead| Held { factors, swaps, rows: 2, columns, pairs, dead };
+        assert_eq!(solve(of(&[0.0; 4], &none, 2, 0, 2), &[1.0, 2.0], 1, &mut x), 6);
+        assert_eq!(solve(of(&[0.0; 4], &none, 2, 0, 1), &[1.0, 2.0], 1, &mut x), 9);
+        assert_eq!(solve(of(&[0.0; 4], &none, 2, 0, 1), &[1.0, f64::NAN], 1, &mut x), 5);
+        assert_eq!(solve(of(&[0.0, f64::NAN, 0.0, 0.0], &none, 2, 0, 1), &[1.0, 2.0], 1, &mut x), 5);
+        assert_eq!(solve(of(&[0.0; 4], &one, 2, 1, 1), &[1.0, f64::NAN], 1, &mut x), 4);
+        assert_eq!(solve(of(&[0.0; 3], &one, 2, 1, 1), &[1.0, 2.0], 1, &mut x), 3);
+        assert_eq!(solve(of(&[0.0; 3], &one, 1, 1, 1), &[1.0, 2.0], 1, &mut x), 2);
+        assert_eq!(solve(of(&[0.0; 3], &one, 65, 1, 1), &[1.0, 2.0], 1, &mut x), 1);
+        assert_eq!(x, [7.5; 2]);
+    }
 }

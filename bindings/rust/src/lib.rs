@@ -7,6 +7,7 @@
 
 mod calls;
 
+use calls::Counts;
 use std::error::Error;
 use std::fmt;
 
@@ -38,10 +39,12 @@ pub enum Refusal {
     Overflow,
     /// 8: not a panel file of version 1.
     NotAPanelFile,
+    /// 9: a number of dead columns that is not that of the factors. An [`Lu`] keeps its own true, so that none of its calls meets this.
+    DeadColumns,
 }
 
 impl Refusal {
-    /// Its number, 1 to 8.
+    /// Its number, 1 to 9.
     pub fn number(self) -> usize {
         match self {
             Refusal::Size => 1,
@@ -52,10 +55,11 @@ impl Refusal {
             Refusal::Singular => 6,
             Refusal::Overflow => 7,
             Refusal::NotAPanelFile => 8,
+            Refusal::DeadColumns => 9,
         }
     }
 
-    /// What a call's answer says; no call answers a number past 8.
+    /// What a call's answer says; no call answers a number past 9.
     fn told(answer: usize) -> Result<(), Refusal> {
         match answer {
             0 => Ok(()),
@@ -66,7 +70,8 @@ impl Refusal {
             5 => Err(Refusal::NotFinite),
             6 => Err(Refusal::Singular),
             7 => Err(Refusal::Overflow),
-            _ => Err(Refusal::NotAPanelFile),
+            8 => Err(Refusal::NotAPanelFile),
+            _ => Err(Refusal::DeadColumns),
         }
     }
 }
@@ -82,6 +87,7 @@ impl fmt::Display for Refusal {
             Refusal::Singular => "the matrix is singular: a zero on the diagonal of its factors",
             Refusal::Overflow => "a result is too large for a finite number",
             Refusal::NotAPanelFile => "this is no panel file of version 1: under 6 bytes, another mark or another version",
+            Refusal::DeadColumns => "the number of dead columns is not that of the factors",
         };
         write!(f, "refused {}: {words}", self.number())
     }
@@ -96,31 +102,31 @@ pub struct Lu {
     swaps: [usize; 2 * MOST],
     rows: usize,
     columns: usize,
-    pairs: usize,
-    toss_ups: usize,
+    counts: Counts,
 }
 
 impl Lu {
     /// Factors the matrix `a` of so many rows and columns, column after column. Refusals: 1, 3, 5, 7. A zero pivot is none: its step is skipped.
     pub fn factor(a: &[f64], rows: usize, columns: usize) -> Result<Lu, Refusal> {
-        let mut lu = Lu { factors: vec![0.0; a.len().min(MOST_ENTRIES)], swaps: [0; 2 * MOST], rows, columns, pairs: 0, toss_ups: 0 };
-        Refusal::told(calls::factor(a, rows, columns, &mut lu.factors, &mut lu.swaps, &mut lu.pairs, &mut lu.toss_ups))?;
+        let mut lu = Lu { factors: vec![0.0; a.len().min(MOST_ENTRIES)], swaps: [0; 2 * MOST], rows, columns, counts: Counts::default() };
+        Refusal::told(calls::factor(a, rows, columns, &mut lu.factors, &mut lu.swaps, &mut lu.counts))?;
         Ok(lu)
     }
 
-    /// Adds one column of the matrix behind the others: the same factors, to the last bit, as factoring the widened matrix.
+    /// Adds one column of the matrix behind the others: the same factors, to the last bit, and the same counts as factoring the widened matrix.
     /// Refusals: 1 (there are 64 columns), 3, 5, 7; all is then as it was.
     pub fn add_column(&mut self, column: &[f64]) -> Result<(), Refusal> {
         let before = self.factors.len();
-        let mut own = 0;
+        let mut counts = self.counts;
         self.factors.resize(before + self.rows, 0.0);
-        let answer = calls::add_column(&mut self.factors, column, &mut self.swaps, self.rows, self.columns, &mut self.pairs, &mut own);
+        let answer = calls::add_column(&mut self.factors, column, &mut self.swaps, self.rows, self.columns, &mut counts);
         if let Err(refusal) = Refusal::told(answer) {
             self.factors.truncate(before);
             return Err(refusal);
         }
         self.columns += 1;
-        self.toss_ups += own;
+        counts.toss_ups += self.counts.toss_ups; // the call told the new column's alone
+        self.counts = counts;
         Ok(())
     }
 
@@ -145,7 +151,7 @@ impl Lu {
         Ok(value)
     }
 
-    /// Whether a square matrix is invertible: no zero on the diagonal of its factors. Refusal: 2.
+    /// Whether a square matrix is invertible: it has no dead column. Refusal: 2.
     pub fn is_invertible(&self) -> Result<bool, Refusal> {
         let mut invertible = false;
         Refusal::told(calls::is_invertible(self.held(), &mut invertible))?;
@@ -169,16 +175,22 @@ impl Lu {
 
     /// The exchanged rows, pair after pair, counted from 0.
     pub fn swaps(&self) -> impl Iterator<Item = (usize, usize)> + '_ {
-        self.swaps.chunks_exact(2).take(self.pairs).map(|pair| (pair[0], pair[1]))
+        self.swaps.chunks_exact(2).take(self.counts.pairs).map(|pair| (pair[0], pair[1]))
+    }
+
+    /// How many columns are dead: a zero of either sign on the diagonal of the factors. Those past the last row have no diagonal and do not count.
+    pub fn dead_columns(&self) -> usize {
+        self.counts.dead
     }
 
     /// In how many columns another row had the pivot's magnitude, so that the first was taken.
     pub fn toss_ups(&self) -> usize {
-        self.toss_ups
+        self.counts.toss_ups
     }
 
     fn held(&self) -> calls::Held<'_> {
-        calls::Held { factors: &self.factors, swaps: &self.swaps, rows: self.rows, columns: self.columns, pairs: self.pairs }
+        let Counts { pairs, dead, .. } = self.counts;
+        calls::Held { factors: &self.factors, swaps: &self.swaps, rows: self.rows, columns: self.columns, pairs, dead }
     }
 }
 

@@ -137,12 +137,17 @@ fn shown(lu: &Lu) -> String {
     format!("{} | {} | {}", pairs.len(), hex(lu.factors()), pairs.join(" "))
 }
 
-/// The store of 128 numbers and the count, as a case has them.
+/// The store of 128 numbers, and the pairs and the dead columns, as a case has them.
 fn swaps(lu: &Lu) -> (Vec<u64>, Vec<u64>) {
     let mut store: Vec<u64> = lu.swaps().flat_map(|(i, j)| [i as u64, j as u64]).collect();
-    let pairs = vec![store.len() as u64 / 2];
+    let told = vec![store.len() as u64 / 2, lu.dead_columns() as u64];
     store.resize(128, 0);
-    (store, pairs)
+    (store, told)
+}
+
+/// The zeros on the diagonal of the factors, of either sign.
+fn zeros(lu: &Lu) -> usize {
+    (0..lu.rows().min(lu.columns())).filter(|i| lu.factors()[i * lu.rows() + i] == 0.0).count()
 }
 
 /// All columns added one by one, from none on.
@@ -168,16 +173,19 @@ fn factoring_and_adding() {
     }
     let answers = cases.answers();
     assert_eq!(answers.len(), matrices.len());
-    let (mut accepted, mut refused) = (0, 0);
+    let (mut accepted, mut refused, mut dead) = (0, 0, 0);
     for ((rows, columns, a), line) in matrices.iter().zip(&answers) {
         let wanted = expected_factors(line);
         let fresh = Lu::factor(a, *rows, *columns);
         assert_eq!(fresh.as_ref().map(shown).map_err(|e| *e), wanted, "{rows} by {columns}");
         match built_up(a, *rows) {
             Ok(built) => {
+                let fresh = fresh.expect("accepted");
                 assert_eq!(Ok(shown(&built)), wanted);
-                assert_eq!(built.toss_ups(), fresh.expect("accepted").toss_ups());
+                assert_eq!((built.toss_ups(), built.dead_columns()), (fresh.toss_ups(), fresh.dead_columns()));
+                assert_eq!(fresh.dead_columns(), zeros(&fresh), "{rows} by {columns}");
                 accepted += 1;
+                dead += usize::from(fresh.dead_columns() > 0);
             }
             Err(refusal) => {
                 assert_eq!(Err(refusal), wanted);
@@ -185,8 +193,8 @@ fn factoring_and_adding() {
             }
         }
     }
-    println!("{accepted} accepted and {refused} refused with 7, each factored and built up column by column");
-    assert!(accepted > 300 && refused > 30);
+    println!("{accepted} accepted, {dead} of them with dead columns, and {refused} refused with 7, each factored and built up column by column");
+    assert!(accepted > 300 && refused > 30 && dead > 30);
 }
 
 #[test]
@@ -201,12 +209,12 @@ fn calls_on_factors() {
         let k = 1 + random.below(4);
         let kind = random.below(6);
         let b = random.numbers(n * k, kind);
-        let (store, pairs) = swaps(&lu);
+        let (store, told) = swaps(&lu);
         let factors = bits(lu.factors());
-        cases.add(3, [n, n, k], &[&factors, &store, &pairs, &bits(&b), &[]]);
-        cases.add(4, [n, n, 0], &[&factors, &store, &pairs, &[]]);
-        cases.add(5, [n, n, 0], &[&factors, &store, &pairs]);
-        cases.add(6, [n, n, 0], &[&factors, &store, &pairs]);
+        cases.add(3, [n, n, k], &[&factors, &store, &told, &bits(&b), &[]]);
+        cases.add(4, [n, n, 0], &[&factors, &store, &told, &[]]);
+        cases.add(5, [n, n, 0], &[&factors, &store, &told]);
+        cases.add(6, [n, n, 0], &[&factors, &store, &told]);
         asked.push((lu, b, k));
     }
     let answers = cases.answers();

@@ -2,8 +2,9 @@
 use wejdarox::{pad_order, rank, Lu, Refusal};
 
 /// All that can be seen of factors.
-fn seen(lu: &Lu) -> (usize, usize, Vec<u64>, Vec<(usize, usize)>, usize) {
-    (lu.rows(), lu.columns(), lu.factors().iter().map(|x| x.to_bits()).collect(), lu.swaps().collect(), lu.toss_ups())
+fn seen(lu: &Lu) -> ([usize; 4], Vec<u64>, Vec<(usize, usize)>) {
+    let numbers = [lu.rows(), lu.columns(), lu.dead_columns(), lu.toss_ups()];
+    (numbers, lu.factors().iter().map(|x| x.to_bits()).collect(), lu.swaps().collect())
 }
 
 fn refused<T>(answer: Result<T, Refusal>) -> usize {
@@ -70,10 +71,24 @@ fn not_finite() {
 #[test]
 fn singular() {
     let lu = Lu::factor(&[1.0, 2.0, 2.0, 4.0], 2, 2).expect("a zero pivot is no refusal of factoring");
+    assert_eq!(lu.dead_columns(), 1);
     assert_eq!(lu.is_invertible(), Ok(false));
     assert_eq!(lu.determinant().map(f64::abs), Ok(0.0));
     assert_eq!(lu.solve(&[1.0, 1.0], 1), Err(Refusal::Singular));
     assert_eq!(lu.inverse(), Err(Refusal::Singular));
+}
+
+#[test]
+fn dead_columns() {
+    let mut lu = Lu::factor(&[], 2, 0).expect("no columns");
+    assert_eq!(lu.dead_columns(), 0);
+    for (column, dead) in [([0.0, -0.0], 1), ([-1.0, -0.0], 2), ([0.0, 0.0], 2)] {
+        lu.add_column(&column).expect("finite");
+        assert_eq!(lu.dead_columns(), dead, "{} columns", lu.columns());
+    }
+    assert_eq!(Lu::factor(&[0.0; 4096], 64, 64).expect("zeros").dead_columns(), 64);
+    assert_eq!(Lu::factor(&[0.0; 64], 1, 64).expect("zeros").dead_columns(), 1);
+    assert_eq!(Lu::factor(&[1.0, 0.0, 0.0, 1.0], 2, 2).expect("the identity").dead_columns(), 0);
 }
 
 #[test]
@@ -92,7 +107,7 @@ fn overflow() {
 fn refused_adding_leaves_all() {
     let mut lu = Lu::factor(&[0.0, 2.0, 1.0], 3, 1).expect("a column");
     let before = seen(&lu);
-    assert_eq!(before.3, [(0, 1)]);
+    assert_eq!(before.2, [(0, 1)]);
     assert_eq!(lu.add_column(&[1.0, 2.0]), Err(Refusal::Length));
     assert_eq!(lu.add_column(&vec![1.0; 5000]), Err(Refusal::Length));
     assert_eq!(lu.add_column(&[1.0, f64::NAN, 0.0]), Err(Refusal::NotFinite));
@@ -100,6 +115,13 @@ fn refused_adding_leaves_all() {
     assert_eq!(seen(&lu), before);
     lu.add_column(&[1.0, 0.0, 0.0]).expect("it fits");
     assert_eq!((lu.columns(), lu.factors().len()), (2, 6));
+
+    let mut dead = Lu::factor(&[0.0; 3], 3, 1).expect("zeros");
+    let before = seen(&dead);
+    assert_eq!(before.0, [3, 1, 1, 0]);
+    assert_eq!(dead.add_column(&[0.0, f64::INFINITY, 0.0]), Err(Refusal::NotFinite));
+    assert_eq!(dead.add_column(&[0.0, f64::from_bits(1), 0.0]), Err(Refusal::Overflow));
+    assert_eq!(seen(&dead), before);
 
     let mut full = Lu::factor(&[1.0; 64], 1, 64).expect("64 columns");
     let before = seen(&full);
@@ -121,6 +143,7 @@ fn panel_file() {
 #[test]
 fn words() {
     assert_eq!(Refusal::Singular.to_string(), "refused 6: the matrix is singular: a zero on the diagonal of its factors");
+    assert_eq!(Refusal::DeadColumns.to_string(), "refused 9: the number of dead columns is not that of the factors");
     let boxed: Box<dyn std::error::Error> = Box::new(Refusal::NotAPanelFile);
     assert!(boxed.to_string().starts_with("refused 8: "));
 }

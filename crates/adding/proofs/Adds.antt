@@ -17,6 +17,8 @@ use Rattle.store.specs.Columns.{columns, flat, isMatrix}
 use Rattle.store.specs.Steps.{column, swapInAll}
 use Rattle.store.proofs.Columns.{sized, is-matrix, column-within, same-matrix, length-columns, column-length, flat-columns, flat-snoc}
 use Rattle.store.proofs.Steps.{length-swapInAll}
+use Rattle.dead_columns.specs.Dead.{deadAt, deadIn, deadOf}
+use Rattle.dead_columns.proofs.Dead.{dead-most, dead-snoc, dead-swapped}
 use Rattle.refusals.specs.Outcome.{done, refused, numberOf, firstOf, andThen, leaving}
 use Rattle.refusals.specs.Refusals.{outside}
 use Rattle.refusals.proofs.Outcomes.{tested-none, tested-some, none-given}
@@ -30,12 +32,12 @@ use Rattle.factors.proofs.Swaps.{Recorded, recorded, written-record, count-held
 use Rattle.elimination.specs.Adding.{reduced, addColumn}
 use Rattle.elimination.specs.Own.{ownRow, ownColumn}
 use Rattle.elimination.specs.TossUps.{tossAt, ownTossUp}
-use Rattle.elimination.proofs.Own.{joined, adding-joins}
+use Rattle.elimination.proofs.Own.{joined, own-from, length-own, length-reduced, adding-joins}
 use Rattle.lu.specs.Factoring.{withTossUps}
 use Rattle.adding.specs.declared.Added.the-variants.{Accepted, Refused}
 use Rattle.adding.specs.Adding.{addingAsks, olderIn, addingRefusal, olderFactors, addingSettled, adding, added, recordIn, addingAnswer}
 use Rattle.adding.specs.Inner.{Ready, withReduced, Joined, AddedTo}
-use Rattle.adding.proofs.Slot.{older-flat, slot-lent, slot-part, older-exchanged}
+use Rattle.adding.proofs.Slot.{older, older-flat, slot-lent, slot-part, older-exchanged}
 
 or-same : (t u : Bool) → (t || true) ≡ (t || u || true)
 or-same true u = refl
@@ -65,6 +67,7 @@ module _ (r : Record) (s c : Column) (store : List ℕ) where
       let both = p .lengths in
       let room = isMatrix m (n + 1) s in
       let fits = and-first room (eqb (length c) m) both in
+      let dead : r .dead ≡ deadIn m (columns m n s) = p .dead ∙ ap (deadIn m) (older m n s (sized m (n + 1) s fits .size)) in
       record {
         none = e;
         few-rows = p .rows .at-most;
@@ -74,13 +77,16 @@ module _ (r : Record) (s c : Column) (store : List ℕ) where
         long = eqb-true (length c) m (and-second room (eqb (length c) m) both);
         store-room = p .room;
         list = p .list;
+        dead = dead;
+        few-dead = let rows = p .rows .at-most in omega (arith, dead, dead-most m (columns m n s));
       }
 
   -- The tests of held factors as the code makes them, in one expression: with room for the new column the older ones are a matrix and few, so that half of them
   -- are made already; without it the older ones are not looked at (`unread`).
-  abbrev testedAs : Bool → Bool → Bool → ℕ
-  testedAs room list numbers =
-      cond (outside 1 m || ltb 63 n) 1 (cond (not (room && eqb (length store) 128 && eqb (length c) m)) 3 (cond (not list) 4 (cond (not numbers) 5 0)))
+  abbrev testedAs : Bool → Bool → Bool → ℕ → ℕ
+  testedAs room list numbers dead =
+      cond (outside 1 m || ltb 63 n) 1
+      (cond (not (room && eqb (length store) 128 && eqb (length c) m)) 3 (cond (not list) 4 (cond (not numbers) 5 (cond (not (eqb (r .dead) dead)) 9 0))))
 
   sizes-same : (outside 1 m || ltb 63 n) ≡ (outside 1 m || outside 0 n || not (leb n 63))
   unfolding outside
@@ -90,29 +96,31 @@ module _ (r : Record) (s c : Column) (store : List ℕ) where
       (λ t. let few = ltb-false 63 n t in rw (t, le-leb n 63 few, le-ltb 64 n (omega arith), le-ltb n 0 (omega arith)) (or-none (outside 1 m)))
 
   with-room : isMatrix m (n + 1) s ≡ true
-      → testedAs true (goodList m (min m n) (r .pairs) store) (allFinite (take (n * m) s) && allFinite c) ≡ addingRefusal r s c store
+      → testedAs true (goodList m (min m n) (r .pairs) store) (allFinite (take (n * m) s) && allFinite c) (deadOf m n (take (n * m) s))
+      ≡ addingRefusal r s c store
   unfolding addingRefusal heldRefusal firstOf
   with-room t =
       let w = sized m (n + 1) s t in
       let front = is-matrix m n (take (n * m) s) (w .rows-most) (omega (arith, w .columns-most)) (length-take-le (n * m) s (omega (arith, w .size))) in
       rw (sizes-same, t, front, and-true (goodList m (min m n) (r .pairs) store)) refl
 
-  without-room : isMatrix m (n + 1) s ≡ false → (list numbers : Bool) → testedAs false list numbers ≡ addingRefusal r s c store
+  without-room : isMatrix m (n + 1) s ≡ false → (list numbers : Bool) (dead : ℕ) → testedAs false list numbers dead ≡ addingRefusal r s c store
   unfolding addingRefusal heldRefusal firstOf
-  without-room t list numbers = rw (sizes-same, t, and-none (isMatrix m n (take (n * m) s) && eqb (length store) 128)) refl
+  without-room t list numbers dead = rw (sizes-same, t, and-none (isMatrix m n (take (n * m) s) && eqb (length store) 128)) refl
 
   -- from what the tests gave
   pub refusal-found : (room : Bool) (a number : ℕ) → room ≡ isMatrix m (n + 1) s → a ≡ cond room (n * m) 0
-      → number ≡ testedAs room (goodList m (min m n) (r .pairs) store) (allFinite (take a s) && allFinite c) → number ≡ addingRefusal r s c store
+      → number ≡ testedAs room (goodList m (min m n) (r .pairs) store) (allFinite (take a s) && allFinite c) (deadOf m n (take a s))
+      → number ≡ addingRefusal r s c store
   refusal-found room a number fits is e = e ∙ test-cases (isMatrix m (n + 1) s) yes no
     where
       yes : isMatrix m (n + 1) s ≡ true
-          → testedAs room (goodList m (min m n) (r .pairs) store) (allFinite (take a s) && allFinite c) ≡ addingRefusal r s c store
+          → testedAs room (goodList m (min m n) (r .pairs) store) (allFinite (take a s) && allFinite c) (deadOf m n (take a s)) ≡ addingRefusal r s c store
       yes t = rw (is, fits ∙ t) (with-room t)
 
       no : isMatrix m (n + 1) s ≡ false
-          → testedAs room (goodList m (min m n) (r .pairs) store) (allFinite (take a s) && allFinite c) ≡ addingRefusal r s c store
-      no t = rw (fits ∙ t) (without-room t (goodList m (min m n) (r .pairs) store) (allFinite (take a s) && allFinite c))
+          → testedAs room (goodList m (min m n) (r .pairs) store) (allFinite (take a s) && allFinite c) (deadOf m n (take a s)) ≡ addingRefusal r s c store
+      no t = rw (fits ∙ t) (without-room t (goodList m (min m n) (r .pairs) store) (allFinite (take a s) && allFinite c) (deadOf m n (take a s)))
 
   pub refused-by : (number : ℕ) → number ≡ addingRefusal r s c store → (number ≡ 0 → ⊥) → AddedTo r s c store (Refused number r) s store
   unfolding adding added recordIn addingAnswer withTossUps andThen recordAfter
@@ -153,6 +161,16 @@ module _ (r : Record) (s c : Column) (store : List ℕ) where
         let len = go .store-room in
         omega arith
 
+    -- the exchange of rows reaches no older diagonal, so the new column's own is all that is counted anew
+    added-dead : deadIn m (swapInAll n (ownRow n x) (f .columns) ++ ownColumn n x ∷ []) ≡ r .dead + deadAt n (ownColumn n x)
+    added-dead =
+        let p = ownRow n x in
+        let tall : length (ownColumn n x) ≡ m = length-own n x ∙ length-reduced m f c ∙ go .long in
+        dead-snoc m (swapInAll n p (f .columns)) (ownColumn n x) tall
+        ∙ ap₂ (λ (k j : ℕ). k + deadAt j (ownColumn n x)) (dead-swapped m n p (f .columns) (omega (arith, wide)) (omega (arith, wide, own-from n x)))
+        (length-swapInAll n p (f .columns) ∙ wide)
+        ∙ ap (λ (k : ℕ). k + deadAt n (ownColumn n x)) (sym (go .dead))
+
     -- the new column is not finite: the slot holds zeros
     promise-seven : (y s' : Column) → y ≡ ownColumn n x → allFinite y ≡ false → length s' ≡ length s → columns m (n + 1) s' ≡ columns m n s ++ zeros m ∷ []
         → AddedTo r s c store (Refused 7 r) s' store
@@ -170,11 +188,12 @@ module _ (r : Record) (s c : Column) (store : List ℕ) where
         }
 
     -- it is: the older columns have their two rows exchanged, and the swap is recorded
-    promise-added : (y s' : Column) (p pairs' own : ℕ) (store' : List ℕ) → own ≡ ownTossUp m f c → p ≡ ownRow n x → y ≡ ownColumn n x → allFinite y ≡ true
-        → length s' ≡ length s → columns m (n + 1) s' ≡ swapInAll n p (columns m n s) ++ y ∷ [] → Recorded n p (r .pairs) pairs' store store'
-        → AddedTo r s c store (Accepted (recordOf m (n + 1) pairs') own) s' store'
+    promise-added : (y s' : Column) (p pairs' own dead : ℕ) (store' : List ℕ) → own ≡ ownTossUp m f c → p ≡ ownRow n x → y ≡ ownColumn n x → allFinite y ≡ true
+        → dead ≡ r .dead + deadAt n y → length s' ≡ length s → columns m (n + 1) s' ≡ swapInAll n p (columns m n s) ++ y ∷ []
+        → Recorded n p (r .pairs) pairs' store store'
+        → AddedTo r s c store (Accepted (recordOf m (n + 1) pairs' dead) own) s' store'
     unfolding addingSettled added recordIn addingAnswer withTossUps andThen recordAfter
-    promise-added y s' p pairs' own store' counted row is ok kept made rec =
+    promise-added y s' p pairs' own dead store' counted row is ok died kept made rec =
         let finite-there : allFinite (column (swapInAll n (ownRow n x) (f .columns) ++ ownColumn n x ∷ []) n) ≡ true = ap allFinite (last-is ∙ sym is) ∙ ok in
         let s-is : s' ≡ flat (swapInAll n (ownRow n x) (columns m n s) ++ ownColumn n x ∷ []) =
         sym (flat-columns m (n + 1) s' (kept ∙ size)) ∙ ap flat made ∙ (λ i. flat (swapInAll n (row i) (columns m n s) ++ is i ∷ [])) in
@@ -182,9 +201,10 @@ module _ (r : Record) (s c : Column) (store : List ℕ) where
         rec .count ∙ sym (count-held (r .pairs) n p store next) ∙ ap (λ (k : ℕ). length (recordSwap n k (pairsOf (r .pairs) store))) row in
         let store-is : store' ≡ written (recordSwap n (ownRow n x) (pairsOf (r .pairs) store)) store =
         rec .store ∙ sym (written-record (r .pairs) n p store next) ∙ ap (λ (k : ℕ). written (recordSwap n k (pairsOf (r .pairs) store)) store) row in
+        let dead-is = died ∙ ap (λ (z : Column). r .dead + deadAt n z) is ∙ sym added-dead in
         record {
-          answer = rw (worked, finite-there) (ap₂ (λ (k j : ℕ). done (recordOf m (n + 1) k, j)) count-is counted);
-          told = rw (worked, finite-there) (ap (λ (k : ℕ). recordOf m (n + 1) k) count-is);
+          answer = rw (worked, finite-there) (λ i. done (recordOf m (n + 1) (count-is i) (dead-is i), counted i));
+          told = rw (worked, finite-there) (λ i. recordOf m (n + 1) (count-is i) (dead-is i));
           factors = rw (worked, finite-there) s-is;
           pairs = rw (worked, finite-there) store-is;
         }
@@ -220,12 +240,12 @@ module _ (r : Record) (s c : Column) (store : List ℕ) where
           (same-len-mid (n * m) (n * m + m - n * m) u z kz ∙ long)
           (slot-lent (λ _. zeros m) m n u z (ownColumn n x) (columns m n s) (long ∙ size) wide stepped kz (zeroed ∙ ap zeros m-long))
 
-      pub joins : (v : Column) (new : Record) (own : ℕ) (tossed : Bool) (store' : List ℕ) → tossed ≡ tossUp n (midOf (n * m) (n * m + m - n * m) t)
-          → own ≡ cond tossed 1 0
-          → allFinite (midOf (n * m) (n * m + m - n * m) u) ≡ true → length v ≡ length u → Joined r p u store new v store'
+      pub joins : (v : Column) (new : Record) (own dead : ℕ) (tossed : Bool) (store' : List ℕ) → tossed ≡ tossUp n (midOf (n * m) (n * m + m - n * m) t)
+          → own ≡ cond tossed 1 0 → dead ≡ r .dead + deadAt n (midOf (n * m) (n * m + m - n * m) u)
+          → allFinite (midOf (n * m) (n * m + m - n * m) u) ≡ true → length v ≡ length u → Joined r p dead u store new v store'
           → AddedTo r s c store (Accepted new own) v store'
       unfolding ownTossUp tossAt
-      joins v new own tossed store' toss counted ok kv made =
+      joins v new own dead tossed store' toss counted died ok kv made =
           let fits : isMatrix m (n + 1) u ≡ true = same-matrix m (n + 1) s u long ∙ go .room in
           let swapped : columns m (n + 1) v ≡ swapInAll n p (columns m n s) ++ ownColumn n x ∷ [] =
           older-exchanged m n p u v (columns m n s) (ownColumn n x) wide fits stepped (made .rows) in
@@ -233,8 +253,8 @@ module _ (r : Record) (s c : Column) (store : List ℕ) where
           counted ∙ ap (λ (b : Bool). cond b 1 0) (toss ∙ ap (tossUp n) in-slot) ∙ ap (λ (k : ℕ). cond (tossUp k x) 1 0) (sym wide) in
           let few = go .store-room in
           let rec = recorded n p (r .pairs) _ store store' (omega (arith, next)) few refl (made .pairs) in
-          let it = promise-added (ownColumn n x) v p _ own store' own-is (row ∙ ap (ownRow n) in-slot) refl (ap allFinite (sym its-slot) ∙ ok)
-          (kv ∙ long) swapped rec in
+          let it = promise-added (ownColumn n x) v p _ own dead store' own-is (row ∙ ap (ownRow n) in-slot) refl (ap allFinite (sym its-slot) ∙ ok)
+          (died ∙ ap (λ (z : Column). r .dead + deadAt n z) its-slot) (kv ∙ long) swapped rec in
           rw (made .told) it
 
 -- an outcome that gives no number has no refusal before the work

@@ -20,6 +20,8 @@ use Rattle.store.specs.Columns.{columns, flat, isMatrix}
 use Rattle.store.specs.Steps.{column, swapInAll}
 use Rattle.store.proofs.Columns.{sized, is-matrix, columns-flat, columns-front, columns-snoc, flat-snoc}
 use Rattle.store.proofs.Steps.{length-swapInAll}
+use Rattle.dead_columns.specs.Dead.{deadIn, deadOf}
+use Rattle.dead_columns.proofs.Dead.{held-dead}
 use Rattle.refusals.specs.Outcome.{done, refused, numberOf, firstOf, leaving}
 use Rattle.refusals.specs.Refusals.{outside}
 use Rattle.refusals.proofs.Outcomes.{tested-none, tested-some}
@@ -27,7 +29,7 @@ use Rattle.refusals.proofs.Tests.{not-outside}
 use Rattle.permutation_sequence.specs.SwapList.{goodList}
 use Rattle.permutation_sequence.proofs.Finite.{exchange-finite}
 use Rattle.factors.specs.declared.Record.{Record}
-use Rattle.factors.specs.Factors.{Factors, storeOf, written, recordOf, factorsIn, slices, Factoring}
+use Rattle.factors.specs.Factors.{Factors, storeOf, written, recordFor, factorsIn, slices, Factoring}
 use Rattle.factors.specs.Held.{heldRefusal}
 use Rattle.factors.proofs.Swaps.{length-store, pairs-store, written-store, record-more}
 use Rattle.elimination.specs.Elimination.{eliminate}
@@ -66,7 +68,7 @@ pub record Given (m n : ℕ) (a out : Column) (store : List ℕ) (told : Record)
   pub none : factoringRefusal m n a out store ≡ 0
   pub is : factoring m n a out store ≡ acceptedAs m n (factorsOf m n a)
   pub finite : allFinite (flat (factorsOf m n a .columns)) ≡ true
-  pub told-is : told ≡ recordOf m n (length (factorsOf m n a .swaps))
+  pub told-is : told ≡ recordFor m n (factorsOf m n a)
 
 pub accepted-given : (m n : ℕ) (a out : Column) (store : List ℕ) (told : Record) → factoring m n a out store .answer ≡ done told → Given m n a out store told
 unfolding numberOf
@@ -74,7 +76,7 @@ accepted-given m n a out store told e =
     let zero : numberOf (factoring m n a out store .answer) ≡ 0 = ap numberOf e in
     let none = no-refusal m n a out store zero in
     let acc = accepted-is m n a out store none zero in
-    let same : done told ≡ done (recordOf m n (length (factorsOf m n a .swaps))) = sym e ∙ ap (λ (o : Factoring). o .answer) (acc .0) in
+    let same : done told ≡ done (recordFor m n (factorsOf m n a)) = sym e ∙ ap (λ (o : Factoring). o .answer) (acc .0) in
     record { none = none; is = acc .0; finite = acc .1; told-is = cc }
 
 -- ---- an accepted factoring, and one more column
@@ -108,7 +110,7 @@ module _ (m n : ℕ) (a out : Column) (store : List ℕ) (none : factoringRefusa
   module _ (c z out' : Column) (store' : List ℕ) (lz : length z ≡ m) (lo : length out' ≡ (n + 1) * m) (ls : length store' ≡ 128)
       (fin : allFinite (flat (f .columns)) ≡ true) where
     abbrev r : Record
-    r = recordOf m n (length (f .swaps))
+    r = recordFor m n f
 
     abbrev s : Column
     s = flat (f .columns) ++ z
@@ -143,6 +145,12 @@ module _ (m n : ℕ) (a out : Column) (store : List ℕ) (none : factoringRefusa
     list-good : goodList m (min m n) (length (f .swaps)) w ≡ true
     list-good = let h = its .rows .at-most in rising-good m (min m n) (f .swaps) (omega arith) (rising m n a out store none)
 
+    -- the record's dead columns are those of the factors: "9" is not met
+    dead-good : eqb (r .dead) (deadOf m n (flat (f .columns))) ≡ true
+    dead-good =
+        let cs = ap (λ (k : ℕ). columns m k (flat (f .columns))) (sym wide') ∙ columns-flat m (f .columns) (shape-f m n a out store none) in
+        eq-eqb _ _ (sym (held-dead m n (flat (f .columns)) older-fits ∙ ap (deadIn m) cs))
+
     -- THEOREM. The tests of adding and those of factoring the widened matrix give the same number.
     pub same-refusal : addingRefusal r s c w ≡ refusal
     unfolding addingRefusal heldRefusal factoringRefusal firstOf outside
@@ -169,6 +177,7 @@ module _ (m n : ℕ) (a out : Column) (store : List ℕ) (none : factoringRefusa
           l,
           list-good,
           fin,
+          dead-good,
           cols',
           widened-fits h,
           l,
@@ -205,7 +214,7 @@ module _ (m n : ℕ) (a out : Column) (store : List ℕ) (none : factoringRefusa
       settle-alike true e d =
           rw (e, d) (
             refl,
-            λ _. ap (λ (x : List ℕ). record { answer = done (recordOf m (n + 1) (length (g .swaps))); left = slices (flat (g .columns)) x })
+            λ _. ap (λ (x : List ℕ). record { answer = done (recordFor m (n + 1) g); left = slices (flat (g .columns)) x })
                 store-is,
           )
       settle-alike false e d = rw (e, d) (refl, λ h. absurd (omega (arith, h)))

@@ -17,7 +17,7 @@ use Rattle.numbers.specs.Column.{Column}
 use Rattle.blas.specs.Blas.{swapRows, copied}
 use Rattle.numbers.proofs.Each.{each-snoc, each-same}
 use Rattle.blas.proofs.Rows.{copied-whole}
-use Rattle.store.specs.Columns.{columns, flat, isMatrix, onColumns}
+use Rattle.store.specs.Columns.{columns, flat, HasRows, isMatrix, onColumns}
 use Rattle.store.specs.Steps.{Matrix, column, swapInAll, rowsSwapped}
 use Rattle.store.proofs.Columns.{sized, length-columns, columns-rows, flat-columns, columns-front, columns-snoc, part-column, column-length, column-lent}
 use Rattle.store.proofs.Columns.{on-columns}
@@ -44,8 +44,11 @@ module _ (m n : ℕ) (s : Column) (len : length s ≡ (n + 1) * m) where
   whole : take (n * m) s ++ drop (n * m) s ≡ s
   whole = take-append-drop (n * m) s
 
-  older : columns m n (take (n * m) s) ≡ columns m n s
+  pub older : columns m n (take (n * m) s) ≡ columns m n s
   older = sym (ap (columns m n) (sym whole) ∙ columns-front m n (take (n * m) s) (drop (n * m) s) front)
+
+  pub older-rows : HasRows m (columns m n s)
+  older-rows = rw older at (columns-rows m n (take (n * m) s) front)
 
   -- the older columns, and what stands in the slot
   pub slot-columns : columns m (n + 1) s ≡ columns m n s ++ drop (n * m) s ∷ []

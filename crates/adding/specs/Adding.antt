@@ -12,7 +12,7 @@ use Rattle.store.specs.Steps.{column}
 use Rattle.refusals.specs.Outcome.{Outcome, done, refused, tested, leaving}
 use Rattle.factors.specs.declared.Record.{Record}
 use Rattle.factors.specs.declared.Asks.{Asks}
-use Rattle.factors.specs.Factors.{Factors, written, recordOf, factorsIn, slices, Factoring}
+use Rattle.factors.specs.Factors.{Factors, written, recordFor, factorsIn, slices, Factoring}
 use Rattle.factors.specs.Held.{heldRefusal}
 use Rattle.elimination.specs.Adding.{addColumn}
 use Rattle.elimination.specs.TossUps.{ownTossUp}
@@ -48,7 +48,7 @@ olderFactors r s store = factorsIn (r .rows) (r .columns) (r .pairs) s store
 unfoldable pub addingSettled : Record → Column → List ℕ → Factors → Factoring
 addingSettled r s store g =
     cond (allFinite (column (g .columns) (r .columns)))
-    (record { answer = done (recordOf (r .rows) (r .columns + 1) (length (g .swaps))); left = slices (flat (g .columns)) (written (g .swaps) store) })
+    (record { answer = done (recordFor (r .rows) (r .columns + 1) g); left = slices (flat (g .columns)) (written (g .swaps) store) })
     (leaving (slices (olderIn r s ++ zeros (r .rows)) store) 7)
 
 -- the whole call

@@ -7,6 +7,7 @@ use lib.ListN.{length}
 use Rattle.numbers.specs.Column.{Column}
 use Rattle.store.specs.Columns.{columns, isMatrix, onColumns}
 use Rattle.store.specs.Steps.{Matrix, rowsSwapped}
+use Rattle.dead_columns.specs.Dead.{deadIn}
 use Rattle.permutation_sequence.specs.SwapList.{goodList}
 use Rattle.factors.specs.declared.Record.{Record}
 use Rattle.factors.specs.Factors.{pairsWith, storeWith, recordOf, factorsIn, recordAfter}
@@ -14,7 +15,8 @@ use Rattle.elimination.specs.Adding.{reduced}
 use Rattle.adding.specs.declared.Added.{Added}
 use Rattle.adding.specs.Adding.{addingRefusal, adding, added, recordIn, addingAnswer}
 
--- the call is not refused by its tests; so there is room for the column, which has m entries, its slot lies within the store, and the list is good
+-- the call is not refused by its tests; so there is room for the column, which has m entries, its slot lies within the store, the list is good, and the
+-- record's dead columns are those of the factors
 pub record Ready (r : Record) (s c : Column) (store : List ℕ) : Type 0 where
   pub none : addingRefusal r s c store ≡ 0
   pub few-rows : r .rows ≤ 64
@@ -24,14 +26,16 @@ pub record Ready (r : Record) (s c : Column) (store : List ℕ) : Type 0 where
   pub long : length c ≡ r .rows
   pub store-room : length store ≡ 128
   pub list : goodList (r .rows) (min (r .rows) (r .columns)) (r .pairs) store ≡ true
+  pub dead : r .dead ≡ deadIn (r .rows) (columns (r .rows) (r .columns) s)
+  pub few-dead : r .dead ≤ 64
 
 -- the older columns, and the reduced column behind them
 unfoldable pub withReduced : ℕ → ℕ → ℕ → Column → Column → List ℕ → Matrix
 withReduced m n pairs s c store = columns m n s ++ reduced m (factorsIn m n pairs s store) c ∷ []
 
--- rows n and p exchanged in the older columns, n being their number, and the swap recorded
-pub record Joined (r : Record) (p : ℕ) (s : Column) (store : List ℕ) (new : Record) (s' : Column) (store' : List ℕ) : Type 0 where
-  pub told : new ≡ recordOf (r .rows) (r .columns + 1) (pairsWith (r .columns) p (r .pairs) store)
+-- rows n and p exchanged in the older columns, n being their number, and the swap recorded; `dead` columns are dead then
+pub record Joined (r : Record) (p dead : ℕ) (s : Column) (store : List ℕ) (new : Record) (s' : Column) (store' : List ℕ) : Type 0 where
+  pub told : new ≡ recordOf (r .rows) (r .columns + 1) (pairsWith (r .columns) p (r .pairs) store) dead
   pub rows : s' ≡ onColumns (r .rows) (r .columns + 1) (rowsSwapped (r .columns) p 0 (r .columns)) s
   pub pairs : store' ≡ storeWith (r .columns) p (r .pairs) store
 

@@ -52,8 +52,11 @@ fn adding_refusal(s: &[f64], c: &[f64], swaps: &[usize], told: Record) -> usize
     let lengths = room & (swaps.len() == 128) & (c.len() == m);
     let list = permutation_sequence::is_good_list(swaps, told.pairs, m, store::min(m, n));
     let a = older(s, m, n, room);
-    let numbers = finite::all_finite_long(&s[..a]) & finite::all_finite(c);
-    let from4 = refusals::first(4, !list, refusals::first(5, !numbers, 0));
+    let front = &s[..a];
+    let numbers = finite::all_finite_long(front) & finite::all_finite(c);
+    let dead = dead_columns::dead_of(front, m, n);
+    let from5 = refusals::first(5, !numbers, refusals::first(9, told.dead != dead, 0));
+    let from4 = refusals::first(4, !list, from5);
     refusals::first(1, sizes, refusals::first(3, !lengths, from4))
 }
 
@@ -97,10 +100,11 @@ fn own_step(col: &mut [f64], n: usize) -> FoundPivot
     FoundPivot { row: piv, tossed }
 }
 
-// The column, reduced and stepped in its slot, joined to the older ones: their two rows exchanged, and the swap recorded. Answers the new record.
-fn join(s: &mut [f64], swaps: &mut [usize], told: Record, piv: usize) -> Record
+// The column, reduced and stepped in its slot, joined to the older ones: their two rows exchanged, and the swap recorded. Answers the new record, with so many
+// dead columns.
+fn join(s: &mut [f64], swaps: &mut [usize], told: Record, piv: usize, dead: usize) -> Record
     requires { ⌜ told .columns ≤ 63 ⌝ }
-    ensures { λ r. ⌜ Joined told piv (now (s .entry)) (now (swaps .entry)) r (now (s .exit)) (now (swaps .exit)) ⌝ }
+    ensures { λ r. ⌜ Joined told piv dead (now (s .entry)) (now (swaps .entry)) r (now (s .exit)) (now (swaps .exit)) ⌝ }
 {
     let m = told.rows;
     let n = told.columns;
@@ -111,6 +115,7 @@ fn join(s: &mut [f64], swaps: &mut [usize], told: Record, piv: usize) -> Record
         rows: m,
         columns: all,
         pairs,
+        dead,
     }
 }
 
@@ -130,7 +135,9 @@ fn add_tested(s: &mut [f64], c: &[f64], swaps: &mut [usize], told: Record) -> Ad
         return Added::Refused { number: 7, told };
     }
     let toss_ups = factors::count(found.tossed);
-    let new = join(s, swaps, told, found.row);
+    let own = dead_columns::dead_at(&s[a..e], n);
+    let dead = told.dead + own;
+    let new = join(s, swaps, told, found.row, dead);
     Added::Accepted {
         told: new,
         toss_ups,

@@ -39,6 +39,7 @@ pub struct Case {
     pub x: usize,
     pub swaps: usize,
     pub pairs: usize,
+    pub dead: usize,
     pub diagonal: f64,
     pub first: usize,
     pub second: usize,
@@ -53,14 +54,14 @@ struct Layout(u8, u8, u8, u8, u8);
 const NO: u8 = 0;
 
 // The slices that an op takes: a and b are floats that are read, x floats that are written, s whole numbers that are written,
-// p the number of pairs, d a diagonal, t two whole numbers, f bytes. An unknown op has a slice of no kind.
+// p the number of pairs, r the pairs and the dead columns of a record, d a diagonal, t two whole numbers, f bytes. An unknown op has a slice of no kind.
 fn layout_of(op: u8) -> Layout {
     match op {
         1 | 35 => Layout(b'a', b'x', b's', NO, NO),
-        2 => Layout(b'x', b'b', b's', b'p', NO),
-        3 | 25 => Layout(b'a', b's', b'p', b'b', b'x'),
-        4 | 7 | 8 => Layout(b'a', b's', b'p', b'x', NO),
-        5 | 6 => Layout(b'a', b's', b'p', NO, NO),
+        2 => Layout(b'x', b'b', b's', b'r', NO),
+        3 | 25 => Layout(b'a', b's', b'r', b'b', b'x'),
+        4 | 7 | 8 => Layout(b'a', b's', b'r', b'x', NO),
+        5 | 6 => Layout(b'a', b's', b'r', NO, NO),
         9 | 10 | 12 | 13 => Layout(b'a', b'b', b'x', NO, NO),
         11 | 24 => Layout(b'a', b'd', b'b', b'x', NO),
         14..=17 => Layout(b's', b'p', b'x', NO, NO),
@@ -68,7 +69,7 @@ fn layout_of(op: u8) -> Layout {
         19 => Layout(b'a', b's', NO, NO, NO),
         20 | 26 => Layout(b'f', NO, NO, NO, NO),
         21 => Layout(b'a', b'b', b'f', NO, NO),
-        22 => Layout(b'x', b's', b'p', NO, NO),
+        22 => Layout(b'x', b's', b'r', NO, NO),
         23 => Layout(b'a', NO, NO, NO, NO),
         _ => Layout(b'?', NO, NO, NO, NO),
     }
@@ -84,7 +85,7 @@ fn room(kind: u8) -> usize
         b'b' => B,
         b'x' => X,
         b's' => SWAPS,
-        b'p' => 5,
+        b'p' | b'r' => 5,
         b'd' => 6,
         _ => 7,
     }
@@ -95,7 +96,7 @@ fn may_have(kind: u8, count: usize, k: usize) -> bool {
     match kind {
         b'a' | b'b' | b'x' | b's' => true,
         b'p' | b'd' => count == 1,
-        b't' => count == 2,
+        b'r' | b't' => count == 2,
         b'f' => (k / 8 < count) | ((count == k / 8) & (k % 8 == 0)),
         _ => false,
     }
@@ -109,6 +110,10 @@ fn told(mut case: Case, kind: u8, count: usize, first: u64, second: u64) -> Case
         b'x' => case.x = count,
         b's' => case.swaps = count,
         b'p' => case.pairs = first as usize,
+        b'r' => {
+            case.pairs = first as usize;
+            case.dead = second as usize;
+        }
         b'd' => case.diagonal = float_of(first),
         b't' => {
             case.first = first as usize;
@@ -147,6 +152,7 @@ fn read_head(op: u8) -> Case {
         x: 0,
         swaps: 0,
         pairs: 0,
+        dead: 0,
         diagonal: 0.0,
         first: 0,
         second: 0,

@@ -17,9 +17,10 @@ use Rattle.finite.proofs.Finite.{finite-append}
 use Rattle.store.specs.Columns.{columns, flat, HasRows}
 use Rattle.store.specs.Steps.{Matrix}
 use Rattle.store.proofs.Columns.{sized, is-matrix, columns-rows, columns-split}
+use Rattle.dead_columns.proofs.Dead.{dead-none}
 use Rattle.refusals.specs.Outcome.{done, refused, numberOf, andThen}
 use Rattle.factors.specs.declared.Record.{Record}
-use Rattle.factors.specs.Factors.{numbersOf, storeOf, recordOf, slices, Factoring}
+use Rattle.factors.specs.Factors.{numbersOf, storeOf, recordOf, recordFor, slices, Factoring}
 use Rattle.elimination.specs.Elimination.{unfactored, eliminate}
 use Rattle.elimination.specs.TossUps.{tossUps, ownTossUp}
 use Rattle.elimination.proofs.Tossing.{toss-most, toss-empty}
@@ -127,7 +128,7 @@ module _ (m n : ℕ) (a out : Column) (store : List ℕ) (none : factoringRefusa
   unfolding settled eliminate columns turnsFrom flat allFinite
   start-built = worked m 0 (take (0 * m) a) (zeros (0 * m)) (replicate 128 0) (front-none 0 (omega arith)) ∙ rw (min-zero m)
 
-  pub building-none : (swaps : List ℕ) (told : Record) → swaps ≡ storeOf [] → told ≡ recordOf m 0 0 → Building m n a out swaps out swaps told 0 0
+  pub building-none : (swaps : List ℕ) (told : Record) → swaps ≡ storeOf [] → told ≡ recordOf m 0 0 0 → Building m n a out swaps out swaps told 0 0
   unfolding flat
   building-none swaps told empty is =
       let e = start-built in
@@ -135,7 +136,7 @@ module _ (m n : ℕ) (a out : Column) (store : List ℕ) (none : factoringRefusa
         long = refl;
         room = refl;
         within = omega arith;
-        accepted = ap (λ (o : Factoring). o .answer) e ∙ ap done (sym is);
+        accepted = ap (λ (o : Factoring). o .answer) e ∙ (λ i. done (recordOf m 0 0 (dead-none m i))) ∙ ap done (sym is);
         front-is = ap (λ k. take k out) (zero-mul m) ∙ sym (ap (λ (o : Factoring). o .left .factors) e);
         store-is = empty ∙ sym (ap (λ (o : Factoring). o .left .store) e);
         counted = sym (toss-empty m (take (0 * m) a));
@@ -236,7 +237,7 @@ module _ (m n : ℕ) (a out : Column) (store : List ℕ) (none : factoringRefusa
       let given = accepted-given m n (take (n * m) a) (zeros (n * m)) (replicate 128 0) r good in
       let fin : allFinite (flat (factorsOf m n a .columns)) ≡ true = rw whole-a at (given .finite) in
       let is : outcomeAt m n a ≡ acceptedAs m n (factorsOf m n a) = given .is ∙ ap (λ (b : Column). acceptedAs m n (factorsOf m n b)) whole-a in
-      let told-is = given .told-is ∙ ap (λ (b : Column). recordOf m n (length (factorsOf m n b .swaps))) whole-a in
+      let told-is = given .told-is ∙ ap (λ (b : Column). recordFor m n (factorsOf m n b)) whole-a in
       record {
         answer = rw fin (ap₂ (λ (x : Record) (j : ℕ). done (x, j)) told-is (counted ∙ ap (λ (b : Column). tossUps m (columns m n b)) whole-a));
         held = λ _. (

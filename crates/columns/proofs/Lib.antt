@@ -1,4 +1,5 @@
 pub mod Build
+pub mod Dead
 pub mod Reach
 pub mod Removes
 pub mod Restored

@@ -1,10 +1,10 @@
 -- Removing's outcomes, each from what the code found and left on the way to it. Assumes nothing.
-use mathlib.Core.Path.{_≡_, refl, sym, ap, _∙_}
+use mathlib.Core.Path.{_≡_, refl, sym, ap, ap₂, _∙_}
 use mathlib.Core.Bool.{Bool, true, false, not, _&&_, and-true}
 use mathlib.Core.List.{List, _∷_, [], _++_}
 use Prim.Native.Nat.{ℕ, _+_, _-_, _*_, _≤_, _<_, min}
 use native.Mathlib.Omega.{arith}
-use borrow.Author.Tests.{eqb-true, ltb-true, ltb-false, le-leb, lt-leb, leb-true}
+use borrow.Author.Tests.{not-true, eqb-true, ltb-true, ltb-false, le-leb, lt-leb, leb-true}
 use borrow.Rule.Slice.PartMut.{midOf, putMid, same-len-mid}
 use lib.Dec.{ltb, leb, eqb}
 use lib.ListN.{length, getD, set, take, drop}
@@ -14,6 +14,8 @@ use Rattle.numbers.proofs.Choice.{test-cases, and-second}
 use Rattle.store.specs.Columns.{columns, flat, isMatrix, onColumns}
 use Rattle.store.specs.Steps.{Matrix, swapInAll, rowsSwapped}
 use Rattle.store.proofs.Columns.{sized, column-within, same-matrix, length-columns, column-length, flat-columns, flat-snoc}
+use Rattle.dead_columns.specs.Dead.{deadAt, deadIn}
+use Rattle.dead_columns.proofs.Dead.{dead-snoc, dead-swapped}
 use Rattle.refusals.specs.Outcome.{done, refused, firstOf, leaving}
 use Rattle.refusals.proofs.Outcomes.{tested-none, tested-some}
 use Rattle.permutation_sequence.specs.SwapList.{Swaps, pairsOf, withPair, goodList}
@@ -26,7 +28,7 @@ use Rattle.elimination.specs.Removing.{lastPair, undoes, pairsBefore, removeCol
 use Rattle.columns.specs.declared.Removed.the-variants.{Accepted, Refused}
 use Rattle.columns.specs.Removing.{goodUndoing, removingAsks, removingRefusal, erased, removingMade, removing, removed, recordIn}
 use Rattle.columns.specs.Inner.{RemovableIf, Ready, RemovedFrom}
-use Rattle.adding.proofs.Slot.{slot-columns, slot-lent, older-exchanged}
+use Rattle.adding.proofs.Slot.{slot-columns, slot-lent, slot-part, older-exchanged}
 use Rattle.columns.proofs.Undone.{second-at}
 
 -- ---- what is asked of the list does not matter where the list is not good
@@ -96,6 +98,8 @@ module _ (r : Record) (s : Column) (store : List ℕ) where
         within = column-within m (r .columns) n s (omega arith) (sized m (r .columns) s (p .matrix) .size);
         few-pairs = omega arith;
         room = p .room;
+        undoing = p .list-asked;
+        dead = p .dead;
       }
 
   pub refused-by : (number : ℕ) → number ≡ removingRefusal r s store → (number ≡ 0 → ⊥) → RemovedFrom r s store (Refused number r) s store
@@ -106,24 +110,45 @@ module _ (r : Record) (s : Column) (store : List ℕ) where
       record { answer = rw w (ap refused e); told = rw w refl; factors = rw w refl; pairs = rw w refl }
 
   module _ (go : Ready r s store) where
-    worked : removing r s store ≡ removingMade r store (factorsIn m (r .columns) (r .pairs) s store)
+    pub worked : removing r s store ≡ removingMade r store (factorsIn m (r .columns) (r .pairs) s store)
     unfolding removing
     worked = tested-none _ _ _ (go .none)
 
     one-more : r .columns ≡ n + 1
     one-more = omega (arith, go .some)
 
-    size : length s ≡ (n + 1) * m
+    pub size : length s ≡ (n + 1) * m
     size = rw (← one-more) (sized m (r .columns) s (go .matrix) .size)
 
     wide : length (columns m n s) ≡ n
     wide = length-columns m n s
 
-    older : take n (columns m (r .columns) s) ≡ columns m n s
+    pub older : take n (columns m (r .columns) s) ≡ columns m n s
     older =
         ap (λ (k : ℕ). take n (columns m k s)) one-more
         ∙ ap (take n) (slot-columns m n s size)
         ∙ take-at (columns m n s) (drop (n * m) s ∷ []) n wide
+
+    -- the dead columns before, and the last one where it is dead
+    pub dead-split : r .dead ≡ deadIn m (columns m n s) + deadAt n (midOf (n * m) (n * m + m - n * m) s)
+    dead-split =
+        let last = drop (n * m) s in
+        let slot : midOf (n * m) (n * m + m - n * m) s ≡ last = slot-part m n s last (columns m n s) wide (slot-columns m n s size) in
+        let tall : length last ≡ m = ap length (sym slot) ∙ column-length m (n + 1) n s (omega arith) size in
+        go .dead
+        ∙ ap (λ (k : ℕ). deadIn m (columns m k s)) one-more
+        ∙ ap (deadIn m) (slot-columns m n s size)
+        ∙ dead-snoc m (columns m n s) last tall
+        ∙ ap₂ (λ (k : ℕ) (c : Column). deadIn m (columns m n s) + deadAt k c) wide (sym slot)
+
+    -- the pair that goes exchanges no row above the last column's number
+    below : undoes n swaps ≡ true → n ≤ lastPair swaps .1
+    unfolding goodUndoing undoes
+    below u =
+        let first : lastPair swaps .0 ≡ n = eqb-true (lastPair swaps .0) n (and-second (ltb 0 (length swaps)) (eqb (lastPair swaps .0) n) u) in
+        let both = and-second (leb (length (pairsBefore n swaps)) (min m n)) _ (go .undoing) in
+        let least : ltb (lastPair swaps .1) (lastPair swaps .0) ≡ false = not-true _ (rw u at both) in
+        omega (arith, ltb-false (lastPair swaps .1) (lastPair swaps .0) least)
 
     -- ---- z is the slot as it was zeroed, t the store with it
     module _ (z : Column) (kept : length z ≡ length (midOf (n * m) (n * m + m - n * m) s))
@@ -144,24 +169,27 @@ module _ (r : Record) (s : Column) (store : List ℕ) where
       made-of v cs len is = sym (flat-columns m (n + 1) v (len ∙ size)) ∙ ap flat is ∙ flat-snoc cs (zeros m)
 
       -- no pair goes
-      pub promise-kept : undoes n swaps ≡ false → RemovedFrom r s store (Accepted (recordOf m n (r .pairs))) t store
+      pub promise-kept : (dead : ℕ) → dead ≡ deadIn m (columns m n s) → undoes n swaps ≡ false
+          → RemovedFrom r s store (Accepted (recordOf m n (r .pairs) dead)) t store
       unfolding removingMade removeColumn pairsBefore erased removed recordIn recordAfter
-      promise-kept u =
+      promise-kept dead left u =
           let count = length-pairs (r .pairs) store in
+          let dead-is = left ∙ ap (deadIn m) (sym older) in
           record {
-            answer = rw (worked, u, count) refl;
-            told = rw (worked, u, count) refl;
+            answer = rw (worked, u, count) (ap (λ (k : ℕ). done (recordOf m n (r .pairs) k)) dead-is);
+            told = rw (worked, u, count) (ap (λ (k : ℕ). recordOf m n (r .pairs) k) dead-is);
             factors = rw (worked, u) (made-of t (columns m n s) long behind ∙ ap (λ (cs : Matrix). flat cs ++ zeros m) (sym older));
             pairs = rw (worked, u) refl;
           }
 
       -- the last pair goes, and its two rows are exchanged in the older columns
-      pub promise-undone : (v : Column) (store' : List ℕ) → 0 < r .pairs → undoes n swaps ≡ true → length v ≡ length t
+      pub promise-undone : (dead : ℕ) (v : Column) (store' : List ℕ) → dead ≡ deadIn m (columns m n s) → 0 < r .pairs → undoes n swaps ≡ true
+          → length v ≡ length t
           → v ≡ onColumns m (n + 1) (rowsSwapped n (getD store (2 * r .pairs - 1) 0) 0 n) t
           → store' ≡ set (set store (2 * r .pairs - 2) 0) (2 * r .pairs - 1) 0
-          → RemovedFrom r s store (Accepted (recordOf m n (r .pairs - 1))) v store'
+          → RemovedFrom r s store (Accepted (recordOf m n (r .pairs - 1) dead)) v store'
       unfolding removingMade removeColumn pairsBefore erased removed recordIn recordAfter withPair
-      promise-undone v store' some u kv swapped wrote =
+      promise-undone dead v store' left some u kv swapped wrote =
           let p = getD store (2 * r .pairs - 1) 0 in
           let count : length (take (length swaps - 1) swaps) ≡ r .pairs - 1 =
           length-take-le (length swaps - 1) swaps (omega arith) ∙ ap (λ (k : ℕ). k - 1) (length-pairs (r .pairs) store) in
@@ -172,9 +200,12 @@ module _ (r : Record) (s : Column) (store : List ℕ) where
           let columns-are : columns m (n + 1) v ≡ swapInAll n p (columns m n s) ++ zeros m ∷ [] =
           older-exchanged m n p t v (columns m n s) (zeros m) wide fits behind swapped in
           let whole = made-of v (swapInAll n p (columns m n s)) (kv ∙ long) columns-are ∙ (λ i. flat (swapInAll n (row i) (sym older i)) ++ zeros m) in
+          let dead-is =
+          left ∙ sym (dead-swapped m n (lastPair swaps .1) (columns m n s) (omega (arith, wide)) (omega (arith, wide, below u)))
+          ∙ ap (λ (cs : Matrix). deadIn m (swapInAll n (lastPair swaps .1) cs)) (sym older) in
           record {
-            answer = rw (worked, u) (ap (λ (k : ℕ). done (recordOf m n k)) (sym count));
-            told = rw (worked, u) (ap (λ (k : ℕ). recordOf m n k) (sym count));
+            answer = rw (worked, u) (λ i. done (recordOf m n (sym count i) (dead-is i)));
+            told = rw (worked, u) (λ i. recordOf m n (sym count i) (dead-is i));
             factors = rw (worked, u) whole;
             pairs = rw (worked, u) (wrote ∙ (λ i. set (set store (first i) 0) (second i) 0));
           }

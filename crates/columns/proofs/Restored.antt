@@ -11,18 +11,15 @@ use native.Mathlib.Omega.{arith}
 use borrow.Author.Tests.{le-leb}
 use lib.ListN.{length, take, drop, replicate, length-replicate, length-drop, take-append-drop}
 use lib.Seq.{take-at}
-use Rattle.numbers.specs.Numbers.{isZero}
 use Rattle.numbers.specs.Column.{Column, entry, zeros}
-use Rattle.min_max.specs.Pivot.{pivotRow}
-use Rattle.numbers.proofs.Choice.{cond-cases}
-use Rattle.min_max.proofs.Pivot.{pivot-from}
 use Rattle.store.specs.Columns.{columns, flat}
 use Rattle.store.proofs.Columns.{sized, is-matrix, columns-rows, columns-flat, columns-snoc}
+use Rattle.dead_columns.specs.Dead.{deadIn}
 use Rattle.refusals.specs.Outcome.{done, numberOf}
 use Rattle.refusals.proofs.Outcomes.{tested-none}
 use Rattle.permutation_sequence.specs.SwapList.{Swaps, pairsOf}
 use Rattle.factors.specs.declared.Record.{Record}
-use Rattle.factors.specs.Factors.{Factors, recordSwap, storeOf, recordOf, factorsIn, slices, Factoring}
+use Rattle.factors.specs.Factors.{Factors, recordSwap, storeOf, recordFor, factorsIn, slices, Factoring}
 use Rattle.factors.proofs.Held.{passes}
 use Rattle.elimination.specs.Elimination.{eliminate}
 use Rattle.lu.specs.Factoring.{factoringRefusal, acceptedAs, factoring}
@@ -34,7 +31,7 @@ use Rattle.columns.specs.Removing.{goodUndoing, removingAsks, removingRe
 use Rattle.adding.proofs.Afresh.{Given, accepted-given, adding-afresh}
 use Rattle.columns.proofs.Build.{outcomeAt, front-long, front-none, front-accepted}
 use Rattle.adding.proofs.Front.{same-outcome}
-use Rattle.elimination.proofs.Own.{joined, adding-joins}
+use Rattle.elimination.proofs.Own.{joined, own-from, adding-joins}
 use Rattle.elimination.proofs.Recorded.{rising-few, rising-good}
 use Rattle.lu.proofs.Shape.{factorsOf, no-refusal, ok, size, wide, shape-f, size-f, rising, few, accepted-is}
 use Rattle.factors.proofs.Swaps.{length-store, pairs-store}
@@ -51,11 +48,6 @@ slotOff m n o = record { answer = o .answer; left = slices (take (n * m) (o .lef
 
 slot-off : (m n : ℕ) (o : Factoring) → length (o .left .factors) ≡ n * m → slotOff m n (slotted m o) ≡ o
 slot-off m n o len = λ i. record { answer = o .answer; left = slices (take-at (o .left .factors) (zeros m) (n * m) len i) (o .left .store) }
-
--- a column's own pivot row is not above it
-own-from : (n : ℕ) (x : Column) → n ≤ ownRow n x
-unfolding ownRow
-own-from n x = cond-cases (λ (p : ℕ). n ≤ p) (isZero (entry x (pivotRow n x))) (λ t. omega arith) (λ t. pivot-from n x)
 
 module _ (m n : ℕ) (a out : Column) (store : List ℕ) (told : Record) (good : factoring m (n + 1) a out store .answer ≡ done told) where
   abbrev given : Given m (n + 1) a out store told
@@ -128,7 +120,7 @@ module _ (m n : ℕ) (a out : Column) (store : List ℕ) (told : Record) (good :
 
   -- ---- the call
   abbrev r : Record
-  r = recordOf m (n + 1) (length (g .swaps))
+  r = recordFor m (n + 1) g
 
   abbrev s : Column
   s = flat (g .columns)
@@ -138,6 +130,9 @@ module _ (m n : ℕ) (a out : Column) (store : List ℕ) (told : Record) (good :
 
   less : n + 1 - 1 ≡ n
   less = omega arith
+
+  held-columns : columns m (n + 1) s ≡ g .columns
+  held-columns = ap (λ (k : ℕ). columns m k s) (sym (wide m (n + 1) a out store none)) ∙ columns-flat m (g .columns) (shape-f m (n + 1) a out store none)
 
   passes-tests : removingRefusal r s w ≡ 0
   unfolding removingRefusal
@@ -157,14 +152,12 @@ module _ (m n : ℕ) (a out : Column) (store : List ℕ) (told : Record) (good :
         list-asked = rw (pairs-store (g .swaps), less) undoing;
         finite = given .finite;
         numbers = refl;
+        dead = ap (deadIn m) (sym held-columns);
         solvable = refl;
       })
 
   held : factorsIn m (n + 1) (length (g .swaps)) s w ≡ g
-  held =
-      let cs : columns m (n + 1) s ≡ g .columns =
-      ap (λ (k : ℕ). columns m k s) (sym (wide m (n + 1) a out store none)) ∙ columns-flat m (g .columns) (shape-f m (n + 1) a out store none) in
-      λ i. record { columns = cs i; swaps = pairs-store (g .swaps) i }
+  held = λ i. record { columns = held-columns i; swaps = pairs-store (g .swaps) i }
 
   made : removing r s w ≡ slotted m (acceptedAs m n f)
   unfolding removing removingMade
@@ -172,7 +165,7 @@ module _ (m n : ℕ) (a out : Column) (store : List ℕ) (told : Record) (good :
       tested-none _ _ _ passes-tests
       ∙ rw (held, less, pairs-store (g .swaps))
       (λ i. record {
-        answer = done (recordOf m n (length (removed-is i .swaps)));
+        answer = done (recordFor m n (removed-is i));
         left = slices (flat (removed-is i .columns) ++ zeros m) (store-left i);
       })
 

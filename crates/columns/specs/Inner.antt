@@ -7,6 +7,7 @@ use lib.ListN.{length}
 use Rattle.numbers.specs.Column.{Column}
 use Rattle.finite.specs.Finite.{allFinite}
 use Rattle.store.specs.Columns.{columns, flat, isMatrix}
+use Rattle.dead_columns.specs.Dead.{deadIn}
 use Rattle.permutation_sequence.specs.SwapList.{pairsOf, goodList}
 use Rattle.factors.specs.declared.Record.{Record}
 use Rattle.factors.specs.Factors.{storeOf, recordAfter}
@@ -22,7 +23,8 @@ pub record RemovableIf (r : Record) (store : List ℕ) (is : Bool) : Type 0 wher
   pub good : goodList (r .rows) (min (r .rows) (r .columns)) (r .pairs) store ≡ true
       → is ≡ goodUndoing (r .rows) (r .columns - 1) (pairsOf (r .pairs) store)
 
--- removing is not refused by its tests; so there is a column, its slot lies within the store, and the pairs lie in the swap store
+-- removing is not refused by its tests; so there is a column, its slot lies within the store, the pairs lie in the swap store,
+-- the last one can be undone, and the record's dead columns are those of the factors
 pub record Ready (r : Record) (s : Column) (store : List ℕ) : Type 0 where
   pub none : removingRefusal r s store ≡ 0
   pub some : 1 ≤ r .columns
@@ -31,6 +33,8 @@ pub record Ready (r : Record) (s : Column) (store : List ℕ) : Type 0 where
   pub within : (r .columns - 1) * r .rows + r .rows ≤ length s
   pub few-pairs : r .pairs ≤ 64
   pub room : length store ≡ 128
+  pub undoing : goodUndoing (r .rows) (r .columns - 1) (pairsOf (r .pairs) store) ≡ true
+  pub dead : r .dead ≡ deadIn (r .rows) (columns (r .rows) (r .columns) s)
 
 -- the whole promise of removing
 pub record RemovedFrom (r : Record) (s : Column) (store : List ℕ) (a : Removed) (s' : Column) (store' : List ℕ) : Type 0 where

@@ -10,7 +10,7 @@ use Rattle.refusals.specs.Outcome.{Outcome, done, refused, tested, leaving}
 use Rattle.permutation_sequence.specs.SwapList.{Swaps, pairsOf, withPair}
 use Rattle.factors.specs.declared.Record.{Record}
 use Rattle.factors.specs.declared.Asks.{Asks}
-use Rattle.factors.specs.Factors.{Factors, recordOf, factorsIn, slices, Factoring}
+use Rattle.factors.specs.Factors.{Factors, recordFor, factorsIn, slices, Factoring}
 use Rattle.factors.specs.Held.{heldRefusal}
 use Rattle.elimination.specs.Removing.{lastPair, undoes, pairsBefore, removeColumn}
 use Rattle.columns.specs.declared.Removed.{Removed}
@@ -37,7 +37,7 @@ unfoldable pub removingMade : Record → List ℕ → Factors → Factoring
 removingMade r store f =
     let n = r .columns - 1 in
     let g = removeColumn n f in
-    record { answer = done (recordOf (r .rows) n (length (g .swaps))); left = slices (flat (g .columns) ++ zeros (r .rows)) (erased n (f .swaps) store) }
+    record { answer = done (recordFor (r .rows) n g); left = slices (flat (g .columns) ++ zeros (r .rows)) (erased n (f .swaps) store) }
 
 -- the whole call
 unfoldable pub removing : Record → Column → List ℕ → Factoring

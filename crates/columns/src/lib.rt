@@ -104,6 +104,8 @@ fn remove_tested(s: &mut [f64], swaps: &mut [usize], told: Record) -> Record
     let pairs = told.pairs;
     let a = n * m;
     let e = a + m;
+    let own = dead_columns::dead_at(&s[a..e], n);
+    let dead = told.dead - own;
     blas::fill_zero(&mut s[a..e]);
     if undoes_swap(swaps, pairs, n) {
         undo(s, m, n, swaps, pairs);
@@ -111,12 +113,14 @@ fn remove_tested(s: &mut [f64], swaps: &mut [usize], told: Record) -> Record
             rows: m,
             columns: n,
             pairs: pairs - 1,
+            dead,
         };
     }
     Record {
         rows: m,
         columns: n,
         pairs,
+        dead,
     }
 }
 
@@ -144,6 +148,7 @@ fn add_all(a: &[f64], m: usize, n: usize, out: &mut [f64], swaps: &mut [usize]) 
         rows: m,
         columns: 0,
         pairs: 0,
+        dead: 0,
     };
     let mut tossed = 0;
     let mut k = 0;

@@ -132,7 +132,7 @@ module _ (n : ℕ) (a : Column) where
 -- ---- the solve: done with finite numbers, refused before the work, or refused with 7
 
 abbrev Early : ℕ → Type 0
-Early k = (k ≡ 7 → ⊥) × (k ≤ 8)
+Early k = (k ≡ 7 → ⊥) × (k ≤ 9)
 
 early-first : (k : ℕ) (t : Bool) (ts : List (ℕ × Bool)) → Early k → Early (firstOf ts) → Early (firstOf ((k, t) ∷ ts))
 unfolding firstOf
@@ -149,7 +149,8 @@ held-early f s r asks =
     (early-first 2 _ _ ((λ z. omega (arith, z)), omega arith)
     (early-first 3 _ _ ((λ z. omega (arith, z)), omega arith)
     (early-first 4 _ _ ((λ z. omega (arith, z)), omega arith)
-    (early-first 5 _ _ ((λ z. omega (arith, z)), omega arith) (early-first 6 _ _ ((λ z. omega (arith, z)), omega arith) early-none)))))
+    (early-first 5 _ _ ((λ z. omega (arith, z)), omega arith)
+    (early-first 9 _ _ ((λ z. omega (arith, z)), omega arith) (early-first 6 _ _ ((λ z. omega (arith, z)), omega arith) early-none))))))
 
 module _ (b was : Column) (P : Outcome Column → Call (Unit {0}) Column → Type 0)
     (accepts : (x : Column) → allFinite x ≡ true → P (done x) (record { answer = done tt; left = x }))
@@ -199,9 +200,9 @@ module _ (t : Bool) (p : Packed) (b : Column) where
       solution-cases b (zeros (p .told .rows)) (λ o f. o ≡ done x → allFinite x ≡ true) (λ y h e. ap allFinite (sym (done-same y x e)) ∙ h)
       (λ k _ _ e. never-both x k (sym e)) (λ m e. never-both x 7 (sym e)) t p (length-replicate (p .told .rows) zero64)
 
-  pub solution-few : (k : ℕ) → solutionBy t p b ≡ refused k → k ≤ 8
+  pub solution-few : (k : ℕ) → solutionBy t p b ≡ refused k → k ≤ 9
   solution-few k =
-      solution-cases b (zeros (p .told .rows)) (λ o f. o ≡ refused k → k ≤ 8) (λ y _ e. never-both y k e)
+      solution-cases b (zeros (p .told .rows)) (λ o f. o ≡ refused k → k ≤ 9) (λ y _ e. never-both y k e)
       (λ j _ h e. let s : j ≡ k = refused-same j k e in omega (arith, h .1)) (λ m e. let s : 7 ≡ k = refused-same 7 k e in omega arith)
       t p (length-replicate (p .told .rows) zero64)
 

@@ -227,12 +227,12 @@ module _ (bytes : List ℕ) where
 
   -- ---- a refusal's number has one digit; by 7 the file is one of at most 64 pads
 
-  pub factors-few : (k : ℕ) → factorsIn bytes ≡ refused k → k ≤ 8
+  pub factors-few : (k : ℕ) → factorsIn bytes ≡ refused k → k ≤ 9
   unfolding factorsIn
   factors-few k e =
       tested-refused (fileRefusal bytes) (factorsOf n (matrixOf n bytes)) k e
       (λ z d. let seven = factored-seven n (matrixOf n bytes) (file-good z) k d in omega (arith, seven))
-      (λ _ d. let few = file-among bytes (λ j. j ≤ 8) (omega arith) (omega arith) (omega arith) (omega arith) (omega arith) in omega (arith, few, d))
+      (λ _ d. let few = file-among bytes (λ j. j ≤ 9) (omega arith) (omega arith) (omega arith) (omega arith) (omega arith) in omega (arith, few, d))
 
   pub factors-seven : (k : ℕ) → factorsIn bytes ≡ refused k → k ≡ 7 → n ≤ 64
   unfolding factorsIn

@@ -140,9 +140,9 @@ module _ (bytes : List ℕ) (pad : ℕ) where
       then-done (factorsIn bytes) next x (tested-done (movesRefusal bytes pad) (andThen (factorsIn bytes) next) x e .1)
       (λ p d f. (factors-size bytes p d .1, solution-finite true p (unitColumn n (pad - 1)) x f))
 
-  pub moves-few : (k : ℕ) → movesOf bytes pad ≡ refused k → k ≤ 8
+  pub moves-few : (k : ℕ) → movesOf bytes pad ≡ refused k → k ≤ 9
   unfolding movesOf
   moves-few k e =
       tested-refused (movesRefusal bytes pad) (andThen (factorsIn bytes) next) k e
       (λ _ d. then-refused (factorsIn bytes) next k d (factors-few bytes k) (λ p _ f. solution-few true p (unitColumn n (pad - 1)) k f))
-      (λ _ d. let few = moves-among (λ j. j ≤ 8) (omega arith) (omega arith) (omega arith) (omega arith) (omega arith) in omega (arith, d, few))
+      (λ _ d. let few = moves-among (λ j. j ≤ 9) (omega arith) (omega arith) (omega arith) (omega arith) (omega arith) in omega (arith, d, few))

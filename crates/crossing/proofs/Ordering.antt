@@ -85,7 +85,7 @@ module _ (bytes : List ℕ) where
       then-done (factorsIn bytes) (λ f. solutionBy false f (readingsOf n bytes)) x e
       (λ p d f. let size = factors-size bytes p d in (size .0, size .1, solution-finite false p (readingsOf n bytes) x f))
 
-  pub loads-few : (k : ℕ) → loadsOf bytes ≡ refused k → k ≤ 8
+  pub loads-few : (k : ℕ) → loadsOf bytes ≡ refused k → k ≤ 9
   unfolding loadsOf
   loads-few k e =
       then-refused (factorsIn bytes) (λ f. solutionBy false f (readingsOf n bytes)) k e (factors-few bytes k)

@@ -15,10 +15,11 @@ use Rattle.numbers.specs.Each.{turnsFrom}
 use Rattle.numbers.specs.Numbers.{one64, isZero}
 use Rattle.numbers.specs.Column.{Column, entry}
 use Rattle.min_max.specs.Pivot.{searchFrom, pivotRow}
+use Rattle.min_max.proofs.Pivot.{pivot-from}
 use Rattle.blas.specs.Blas.{swapRows, scaleFrom}
 use Rattle.numbers.proofs.Choice.{cond-cases, test-cases}
 use Rattle.numbers.proofs.Each.{each-id, each-stop}
-use Rattle.blas.proofs.Exchange.{exchanged-self}
+use Rattle.blas.proofs.Exchange.{exchanged-self, length-exchanged}
 use Rattle.store.specs.Steps.{Matrix, column, swapInAll, stepColumns, eliminated}
 use Rattle.store.proofs.Steps.{length-swapInAll, length-stepColumn}
 use Rattle.permutation_sequence.specs.SwapList.{Swaps}
@@ -27,7 +28,7 @@ use Rattle.factors.specs.Factors.{Factors, recordSwap}
 use Rattle.elimination.specs.Elimination.{multipliers, scaled, pivotStep, step}
 use Rattle.elimination.specs.Adding.{widen, update, reduced, addColumn}
 use Rattle.elimination.specs.Own.{ownRow, ownColumn}
-use Rattle.elimination.proofs.Step.{swapped-snoc}
+use Rattle.elimination.proofs.Step.{swapped-snoc, length-multipliers}
 
 -- the factors with rows n and p of the older columns exchanged and recorded, and the column x behind them
 abbrev pub joined : ℕ → ℕ → Factors → Column → Factors
@@ -97,6 +98,18 @@ module _ (n : ℕ) (x : Column) (short : length x ≤ n) where
             ∙ ap (λ (k : ℕ). swapRows n k x) no-pivot
             ∙ exchanged-self nan n x),
       )
+
+-- a column's own pivot row is not above it
+pub own-from : (n : ℕ) (x : Column) → n ≤ ownRow n x
+unfolding ownRow
+own-from n x = cond-cases (λ (p : ℕ). n ≤ p) (isZero (entry x (pivotRow n x))) (λ t. omega arith) (λ t. pivot-from n x)
+
+pub length-own : (n : ℕ) (x : Column) → length (ownColumn n x) ≡ length x
+unfolding ownColumn
+length-own n x =
+    let p = pivotRow n x in
+    cond-cases (λ (c : Column). length c ≡ length x) (isZero (entry x p)) (λ t. refl)
+    (λ t. length-multipliers n (swapRows n p x) ∙ length-exchanged nan n p x)
 
 -- ---- from what the calls give: p is the row that was found, d the number there
 module _ (n p : ℕ) (x : Column) (found : p ≡ pivotRow n x) where

@@ -20,46 +20,53 @@ fn record_of(case: Case) -> Record {
         rows: case.m,
         columns: case.n,
         pairs: case.pairs,
+        dead: case.dead,
     }
 }
 
-// The line of a call that factors: pairs, factors, swaps, toss-ups.
-fn factors_line(number: usize, pairs: usize, toss_ups: usize) -> Line {
+// The line of a call that factors: pairs, factors, swaps, toss-ups, dead columns.
+fn factors_line(number: usize, pairs: usize, toss_ups: usize, dead: usize) -> Line {
     lines::line_of(
         number,
-        Parts(b'1', b'x', b's', b'2', NO),
+        Parts(b'1', b'x', b's', b'2', b'3'),
         pairs,
         toss_ups,
-        0,
+        dead,
     )
 }
 
 // The line of factoring's answer.
 fn factored_line(answer: Factored) -> Line {
     match answer {
-        Factored::Accepted { told, toss_ups } => factors_line(0, told.pairs, toss_ups),
-        Factored::Refused(number) => factors_line(number, 0, 0),
+        Factored::Accepted { told, toss_ups } => factors_line(0, told.pairs, toss_ups, told.dead),
+        Factored::Refused(number) => factors_line(number, 0, 0, 0),
     }
 }
 
 // Op 2.
 fn add_column(case: Case, b: &[f64], x: &mut [f64], swaps: &mut [usize]) -> Line {
     match adding::add_column(x, b, swaps, record_of(case)) {
-        Added::Accepted { told, toss_ups } => factors_line(0, told.pairs, toss_ups),
-        Added::Refused { number, told } => factors_line(number, told.pairs, 0),
+        Added::Accepted { told, toss_ups } => factors_line(0, told.pairs, toss_ups, told.dead),
+        Added::Refused { number, told } => factors_line(number, told.pairs, 0, told.dead),
     }
 }
 
-// The line of op 22: pairs, factors, swaps.
-fn removed_line(number: usize, pairs: usize) -> Line {
-    lines::line_of(number, Parts(b'1', b'x', b's', NO, NO), pairs, 0, 0)
+// The line of op 22: pairs, factors, swaps, dead columns.
+fn removed_line(number: usize, told: Record) -> Line {
+    lines::line_of(
+        number,
+        Parts(b'1', b'x', b's', b'2', NO),
+        told.pairs,
+        told.dead,
+        0,
+    )
 }
 
 // Op 22.
 fn remove_column(case: Case, x: &mut [f64], swaps: &mut [usize]) -> Line {
     match columns::remove_column(x, swaps, record_of(case)) {
-        Removed::Accepted(told) => removed_line(0, told.pairs),
-        Removed::Refused { number, told } => removed_line(number, told.pairs),
+        Removed::Accepted(told) => removed_line(0, told),
+        Removed::Refused { number, told } => removed_line(number, told),
     }
 }
 

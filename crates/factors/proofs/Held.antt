@@ -1,5 +1,5 @@
 -- What a call on factors knows where its tests pass, and that such a call passes them: both by the tests in their order. Assumes nothing.
-use mathlib.Core.Path.{_≡_, refl, ap, _∙_}
+use mathlib.Core.Path.{_≡_, refl, sym, ap, _∙_}
 use mathlib.Core.Bool.{Bool, true, false, not, _&&_, _||_}
 use mathlib.Core.List.{List, []}
 use Prim.Native.Nat.{ℕ, suc, _<_, min}
@@ -10,13 +10,14 @@ use lib.ListN.{length}
 use Rattle.numbers.specs.Column.{Column}
 use Rattle.finite.specs.Finite.{allFinite}
 use Rattle.numbers.proofs.Choice.{test-cases, and-first, and-second}
-use Rattle.store.specs.Columns.{isMatrix}
+use Rattle.store.specs.Columns.{columns, isMatrix}
+use Rattle.dead_columns.specs.Dead.{deadIn}
+use Rattle.dead_columns.proofs.Dead.{held-dead}
 use Rattle.refusals.specs.Outcome.{firstOf}
 use Rattle.refusals.specs.Refusals.{outside}
 use Rattle.refusals.proofs.Outcomes.{Numbered, first-none, none-first}
 use Rattle.refusals.proofs.Tests.{neither, Inside, inside, not-outside}
 use Rattle.permutation_sequence.specs.SwapList.{goodList}
-use Rattle.solve.specs.Calls.{zeroOnDiagonal}
 use Rattle.factors.specs.declared.Record.{Record}
 use Rattle.factors.specs.declared.Asks.{Asks}
 use Rattle.factors.specs.Held.{heldTests, heldRefusal}
@@ -34,10 +35,11 @@ module _ (factors : Column) (store : List ℕ) (r : Record) (asks : Asks) where
     pub list-asked : asks .list ≡ true
     pub finite : allFinite factors ≡ true
     pub numbers : asks .numbers ≡ true
-    pub solvable : (asks .solves && zeroOnDiagonal (r .rows) factors) ≡ false
+    pub dead : r .dead ≡ deadIn (r .rows) (columns (r .rows) (r .columns) factors)
+    pub solvable : (asks .solves && not (eqb (r .dead) 0)) ≡ false
 
   numbered : Numbered (heldTests factors store r asks)
-  numbered = (some 0, (some 1, (some 2, (some 3, (some 4, (some 5, tt))))))
+  numbered = (some 0, (some 1, (some 2, (some 3, (some 4, (some 8, (some 5, tt)))))))
     where
       some : (k : ℕ) → suc k ≡ 0 → ⊥
       some k e = omega (arith, e)
@@ -69,7 +71,8 @@ module _ (factors : Column) (store : List ℕ) (r : Record) (asks : Asks) where
         list-asked = and-second good (asks .list) list;
         finite = and-first (allFinite factors) (asks .numbers) numbers;
         numbers = and-second (allFinite factors) (asks .numbers) numbers;
-        solvable = t .1 .1 .1 .1 .1 .0;
+        dead = eqb-true _ _ (not-false _ (t .1 .1 .1 .1 .1 .0)) ∙ held-dead m n factors (and-first fit room two);
+        solvable = t .1 .1 .1 .1 .1 .1 .0;
       }
 
   pub passes : Passed → heldRefusal factors store r asks ≡ 0
@@ -78,13 +81,14 @@ module _ (factors : Column) (store : List ℕ) (r : Record) (asks : Asks) where
       let sizes = not-outside 1 (r .rows) (p .rows .at-least) (p .rows .at-most) in
       let columns = not-outside 0 (r .columns) (p .cols .at-least) (p .cols .at-most) in
       let room = eq-eqb (length store) 128 (p .room) in
+      let dead = eq-eqb (r .dead) _ (p .dead ∙ sym (held-dead (r .rows) (r .columns) factors (p .matrix))) in
       none-first (heldTests factors store r asks) (
         rw (sizes, columns, p .sizes),
         (
           p .shape,
           (
             rw (p .matrix, room, p .lengths),
-            (rw (p .list, p .list-asked), (rw (p .finite, p .numbers), (p .solvable, tt))),
+            (rw (p .list, p .list-asked), (rw (p .finite, p .numbers), (rw dead, (p .solvable, tt)))),
           ),
         ),
       )

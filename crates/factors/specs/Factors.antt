@@ -7,6 +7,7 @@ use lib.ListN.{length, drop, replicate}
 use Rattle.numbers.specs.Column.{Column}
 use Rattle.store.specs.Columns.{columns}
 use Rattle.store.specs.Steps.{Matrix}
+use Rattle.dead_columns.specs.Dead.{deadIn}
 use Rattle.permutation_sequence.specs.SwapList.{Swaps, pairsOf, withPair}
 use Rattle.refusals.specs.Outcome.{Outcome, done, refused, Call}
 use Rattle.factors.specs.declared.Record.{Record}
@@ -48,9 +49,13 @@ storeWith i p pairs store = cond (takesPair i p pairs store) (withPair pairs i p
 
 -- ---- the record and the slices
 
--- the record of an m by n factoring
-abbrev pub recordOf : ℕ → ℕ → ℕ → Record
-recordOf m n pairs = record { rows = m; columns = n; pairs = pairs }
+-- a record by its numbers
+abbrev pub recordOf : ℕ → ℕ → ℕ → ℕ → Record
+recordOf m n pairs dead = record { rows = m; columns = n; pairs = pairs; dead = dead }
+
+-- the record that goes with the factors of an m by n matrix: the one place where a record is made of factors
+abbrev pub recordFor : ℕ → ℕ → Factors → Record
+recordFor m n f = recordOf m n (length (f .swaps)) (deadIn m (f .columns))
 
 -- the factors that the slices hold: n columns of m entries, and that many pairs
 abbrev pub factorsIn : ℕ → ℕ → ℕ → Column → List ℕ → Factors

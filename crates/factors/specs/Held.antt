@@ -7,15 +7,19 @@ use lib.ListN.{length}
 use Rattle.numbers.specs.Column.{Column}
 use Rattle.finite.specs.Finite.{allFinite}
 use Rattle.store.specs.Columns.{isMatrix}
+use Rattle.dead_columns.specs.Dead.{deadOf}
 use Rattle.refusals.specs.Outcome.{firstOf}
 use Rattle.refusals.specs.Refusals.{outside}
 use Rattle.permutation_sequence.specs.SwapList.{goodList}
-use Rattle.solve.specs.Calls.{zeroOnDiagonal}
 use Rattle.factors.specs.declared.Record.{Record}
 use Rattle.factors.specs.declared.Asks.{Asks}
 
--- The tests 1 to 6 in their order. What a call asks besides: that the matrix is square (2), that it can be solved (6), and that the call's further sizes,
--- lengths and numbers, and what it asks of the list, are good (1, 3, 5 and 4).
+-- document 02, request 7: "new 9, the number doesn't match, after 5 and before 6"; 6 goes by the number, which has been compared by then
+abbrev pub deadTests : Column → Record → Bool → List (ℕ × Bool)
+deadTests factors r solves = (9, not (eqb (r .dead) (deadOf (r .rows) (r .columns) factors))) ∷ (6, solves && not (eqb (r .dead) 0)) ∷ []
+
+-- The tests 1 to 5, 9 and 6 in their order. What a call asks besides: that the matrix is square (2), that it can be solved (6), and that the call's further
+-- sizes, lengths and numbers, and what it asks of the list, are good (1, 3, 5 and 4).
 abbrev pub heldTests : Column → List ℕ → Record → Asks → List (ℕ × Bool)
 heldTests factors store r asks =
     (1, outside 1 (r .rows) || outside 0 (r .columns) || not (asks .sizes))
@@ -23,8 +27,7 @@ heldTests factors store r asks =
     ∷ (3, not (isMatrix (r .rows) (r .columns) factors && eqb (length store) 128 && asks .lengths))
     ∷ (4, not (goodList (r .rows) (min (r .rows) (r .columns)) (r .pairs) store && asks .list))
     ∷ (5, not (allFinite factors && asks .numbers))
-    ∷ (6, asks .solves && zeroOnDiagonal (r .rows) factors)
-    ∷ []
+    ∷ deadTests factors r (asks .solves)
 
 -- the refusal, 0 for none
 unfoldable pub heldRefusal : Column → List ℕ → Record → Asks → ℕ

@@ -1,16 +1,18 @@
 // Factors as slices hold them: the record beside them, what every call on factors tests, and a swap recorded in the store.
 ghost use mathlib.Core.Path.{_≡_};
-ghost use mathlib.Core.Bool.{cond, _&&_};
+ghost use mathlib.Core.Bool.{cond};
 ghost use lib.ListN.{length, replicate};
-ghost use Rattle.solve.specs.Calls.{zeroOnDiagonal};
+ghost use Rattle.refusals.specs.Outcome.{firstOf};
 ghost use Rattle.factors.specs.Factors.{pairsWith, storeWith};
-ghost use Rattle.factors.specs.Held.{heldRefusal};
+ghost use Rattle.factors.specs.Held.{deadTests, heldRefusal};
 
-// What factoring tells beside the lent factors and swap store. Every call on factors takes the three together.
+// What factoring tells beside the lent factors and swap store: the sizes, the recorded pairs and the dead columns. Every call on factors takes the three
+// together.
 pub struct Record {
     pub rows: usize,
     pub columns: usize,
     pub pairs: usize,
+    pub dead: usize,
 }
 
 // What a call on factors asks besides: a square matrix, one that can be solved, and that its further sizes, lengths and numbers, and what it asks of the
@@ -24,14 +26,13 @@ pub struct Asks {
     pub numbers: bool,
 }
 
-// Whether the matrix cannot be solved, where that is asked.
-fn is_singular(factors: &[f64], m: usize, solves: bool) -> bool
-    ensures { λ r. ⌜ r ≡ (solves && zeroOnDiagonal m (now (factors .entry))) ⌝ }
+// The tests 9 and 6 on the number of dead columns, 0 for none.
+fn dead_refusal(factors: &[f64], told: Record, solves: bool) -> usize
+    ensures { λ r. ⌜ r ≡ firstOf (deadTests (now (factors .entry)) told solves) ⌝ }
 {
-    if solves {
-        return solve::zero_on_diagonal(factors, m);
-    }
-    false
+    let dead = dead_columns::dead_of(factors, told.rows, told.columns);
+    let singular = solves & (told.dead != 0);
+    refusals::first(9, told.dead != dead, refusals::first(6, singular, 0))
 }
 
 // The refusal that a call on factors meets, 0 for none: the factors, the swap store and the record tested together.
@@ -46,12 +47,8 @@ pub fn held_refusal(factors: &[f64], swaps: &[usize], told: Record, asks: Asks) 
     let good = permutation_sequence::is_good_list(swaps, told.pairs, m, store::min(m, n));
     let list = good & asks.list;
     let numbers = finite::all_finite_long(factors) & asks.numbers;
-    let singular = is_singular(factors, m, asks.solves);
-    let from4 = refusals::first(
-        4,
-        !list,
-        refusals::first(5, !numbers, refusals::first(6, singular, 0)),
-    );
+    let from9 = dead_refusal(factors, told, asks.solves);
+    let from4 = refusals::first(4, !list, refusals::first(5, !numbers, from9));
     refusals::first(
         1,
         sizes,

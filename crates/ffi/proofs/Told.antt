@@ -10,7 +10,7 @@ use Rattle.factors.specs.declared.Record.{Record}
 use Rattle.factors.specs.Factors.{recordAfter}
 use Rattle.lu.specs.declared.Factored.{Factored}
 use Rattle.lu.specs.declared.Factored.the-variants.{Accepted as Factors, Refused as NotFactored}
-use Rattle.lu.specs.Factoring.{factored, withTossUps, pairsIn, tossedIn}
+use Rattle.lu.specs.Factoring.{factored, withTossUps, pairsIn, deadColumnsIn, tossedIn}
 use Rattle.lu.proofs.Told.{told-refused}
 use Rattle.adding.specs.declared.Added.{Added}
 use Rattle.adding.specs.declared.Added.the-variants.{Accepted, Refused}
@@ -27,30 +27,33 @@ use Rattle.ffi.specs.Exports.{valueAfter, resultAfter, padsIn}
 
 -- ---- factoring, whose outcome with its toss-ups is o
 module _ (made : Factored) (o : Outcome (Record × ℕ)) (e : factored made ≡ o) where
-  pub factored-told : (told : Record) (own : ℕ) → made ≡ Factors told own → (0 ≡ numberOf o) × ((told .pairs ≡ pairsIn o) × (own ≡ tossedIn o))
-  unfolding factored numberOf pairsIn tossedIn
-  factored-told told own is = rw (sym e ∙ ap factored is) (refl, (refl, refl))
+  pub factored-told : (told : Record) (own : ℕ) → made ≡ Factors told own → (0 ≡ numberOf o) × ((told .pairs ≡ pairsIn o) × ((told .dead ≡ deadColumnsIn o) × (own ≡ tossedIn o)))
+  unfolding factored numberOf pairsIn deadColumnsIn tossedIn
+  factored-told told own is = rw (sym e ∙ ap factored is) (refl, (refl, (refl, refl)))
 
-  pub not-factored : (number : ℕ) → made ≡ NotFactored number → (number ≡ numberOf o) × ((0 ≡ pairsIn o) × (0 ≡ tossedIn o))
-  unfolding factored numberOf pairsIn tossedIn
-  not-factored number is = rw (sym e ∙ ap factored is) (refl, (refl, refl))
+  pub not-factored : (number : ℕ) → made ≡ NotFactored number → (number ≡ numberOf o) × ((0 ≡ pairsIn o) × ((0 ≡ deadColumnsIn o) × (0 ≡ tossedIn o)))
+  unfolding factored numberOf pairsIn deadColumnsIn tossedIn
+  not-factored number is = rw (sym e ∙ ap factored is) (refl, (refl, (refl, refl)))
 
 -- ---- adding to factors of the record r: o is its outcome, to which the toss-up comes
 module _ (r : Record) (made : Added) (tossed : ℕ) (o : Outcome Record) (e : added made ≡ withTossUps tossed o) (k : recordIn made ≡ recordAfter r o) where
   pub added-told : (told : Record) (own : ℕ) → made ≡ Accepted told own
-      → (0 ≡ numberOf (withTossUps tossed o)) × ((told .pairs ≡ recordAfter r o .pairs) × (own ≡ tossedIn (withTossUps tossed o)))
+      → (0 ≡ numberOf (withTossUps tossed o))
+      × ((told .pairs ≡ recordAfter r o .pairs) × ((told .dead ≡ recordAfter r o .dead) × (own ≡ tossedIn (withTossUps tossed o))))
   unfolding added recordIn numberOf tossedIn
   added-told told own is =
       let d = sym (ap added is) ∙ e in
-      (ap numberOf d, (ap (λ (x : Record). x .pairs) (sym (ap recordIn is) ∙ k), ap tossedIn d))
+      let same = sym (ap recordIn is) ∙ k in
+      (ap numberOf d, (ap (λ (x : Record). x .pairs) same, (ap (λ (x : Record). x .dead) same, ap tossedIn d)))
 
   pub not-added : (number : ℕ) (told : Record) → made ≡ Refused number told
-      → (number ≡ numberOf (withTossUps tossed o)) × ((r .pairs ≡ recordAfter r o .pairs) × (0 ≡ tossedIn (withTossUps tossed o)))
+      → (number ≡ numberOf (withTossUps tossed o))
+      × ((r .pairs ≡ recordAfter r o .pairs) × ((r .dead ≡ recordAfter r o .dead) × (0 ≡ tossedIn (withTossUps tossed o))))
   unfolding added numberOf tossedIn recordAfter
   not-added number told is =
       let d = sym (ap added is) ∙ e in
-      let refuses = told-refused tossed o number d in
-      (ap numberOf d, (sym (ap (λ (q : Outcome Record). recordAfter r q .pairs) refuses), ap tossedIn d))
+      let same : r ≡ recordAfter r o = sym (ap (recordAfter r) (told-refused tossed o number d)) in
+      (ap numberOf d, (ap (λ (x : Record). x .pairs) same, (ap (λ (x : Record). x .dead) same, ap tossedIn d)))
 
 -- ---- the determinant and the invertible test
 module _ (made : Det) (o : Outcome Float) (e : determined made ≡ o) (was : Float) where

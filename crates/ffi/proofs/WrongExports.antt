@@ -17,7 +17,7 @@ use Rattle.ranking.specs.Ranking.{rankingRefusal, ranking}
 use Rattle.factors.specs.declared.Record.{Record}
 use Rattle.factors.specs.Factors.{recordOf, Slices, recordAfter}
 use Rattle.factors.specs.Held.{heldRefusal}
-use Rattle.lu.specs.Factoring.{factoringRefusal, factoring, withTossUps, factoringAnswer, pairsIn, tossedIn}
+use Rattle.lu.specs.Factoring.{factoringRefusal, factoring, withTossUps, factoringAnswer, pairsIn, deadColumnsIn, tossedIn}
 use Rattle.adding.specs.Adding.{addingRefusal, adding, addingAnswer}
 use Rattle.from_factors.specs.Solving.{solving, inverting}
 use Rattle.from_factors.specs.Determinant.{producing, determining, inverseTest}
@@ -31,89 +31,99 @@ use Rattle.ffi.specs.Exports.{valueAfter, resultAfter, padsIn}
 -- a name for all that has to unfold for a call to be refused
 refuses : Type 0
 unfolding isMatrix numberOf firstOf outside tested andThen rankingRefusal ranking recordAfter heldRefusal factoringRefusal factoring withTossUps factoringAnswer
-    pairsIn tossedIn addingRefusal adding addingAnswer solving inverting producing determining inverseTest littleEndian fieldAt headed fileTests fileRefusal
+    pairsIn deadColumnsIn tossedIn addingRefusal adding addingAnswer solving inverting producing determining inverseTest littleEndian fieldAt headed fileTests fileRefusal
     factorsIn
     settledIn loadsOf ranksLeft ordering valueAfter resultAfter padsIn
 refuses = Unit {0}
 
 -- ---- factoring and adding
 
--- what the two calls give: the number, the two slices, the pairs and the toss-ups
+-- what the two calls give: the number, the two slices, the pairs, the dead columns and the toss-ups
 pub record Given : Type 0 where
   pub number : ℕ
   pub factors : Column
   pub store : List ℕ
   pub pairs : ℕ
+  pub dead : ℕ
   pub tossed : ℕ
 
-abbrev givenOf : Outcome (Record × ℕ) → Slices → ℕ → Given
-givenOf answer left pairs = record { number = numberOf answer; factors = left .factors; store = left .store; pairs = pairs; tossed = tossedIn answer }
+abbrev givenOf : Outcome (Record × ℕ) → Slices → ℕ → ℕ → Given
+givenOf answer left pairs dead =
+    record { number = numberOf answer; factors = left .factors; store = left .store; pairs = pairs; dead = dead; tossed = tossedIn answer }
 
--- sizes, the number of pairs before, two slices and the swap store
+-- sizes, the pairs and the dead columns before, two slices and the swap store
 pub record Lent : Type 0 where
   pub m : ℕ
   pub n : ℕ
   pub pairs : ℕ
+  pub dead : ℕ
   pub first : Column
   pub second : Column
   pub store : List ℕ
 
--- no rows, and one pair; one row, and no store
+-- no rows, one pair and one dead column; one row, and no store
 abbrev noRows : Lent
-noRows = record { m = 0; n = 0; pairs = 1; first = []; second = []; store = [] }
+noRows = record { m = 0; n = 0; pairs = 1; dead = 1; first = []; second = []; store = [] }
 
 abbrev noStore : Lent
-noStore = record { m = 1; n = 0; pairs = 1; first = []; second = []; store = [] }
+noStore = record { m = 1; n = 0; pairs = 1; dead = 1; first = []; second = []; store = [] }
 
 abbrev factors : Lent → Given
 factors x =
     let answer = factoringAnswer (x .m) (x .n) (x .first) (x .second) (x .store) in
-    givenOf answer (factoring (x .m) (x .n) (x .first) (x .second) (x .store) .left) (pairsIn answer)
+    givenOf answer (factoring (x .m) (x .n) (x .first) (x .second) (x .store) .left) (pairsIn answer) (deadColumnsIn answer)
 
--- the pairs as they were, where it is refused
+-- the pairs, or the dead columns, as they were, where it is refused
 abbrev pairs-left : Lent → Given
-pairs-left x = record { number = factors x .number; factors = factors x .factors; store = factors x .store; pairs = x .pairs; tossed = factors x .tossed }
+pairs-left x = let o = factors x in record { number = o .number; factors = o .factors; store = o .store; pairs = x .pairs; dead = o .dead; tossed = o .tossed }
 
-pub wejdarox-factor : TwoShutOut factors pairs-left
+abbrev dead-left : Lent → Given
+dead-left x = let o = factors x in record { number = o .number; factors = o .factors; store = o .store; pairs = o .pairs; dead = x .dead; tossed = o .tossed }
+
+pub wejdarox-factor : TwoShutOut factors pairs-left × ShutsOut factors dead-left
 unfolding refuses
-wejdarox-factor =
-    two factors pairs-left noRows noRows noStore (λ d. omega (arith, ap (λ (o : Given). o .pairs) d)) (λ d. omega (arith, ap (λ (o : Given). o .number) d))
+wejdarox-factor = (
+  two factors pairs-left noRows noRows noStore (λ d. omega (arith, ap (λ (o : Given). o .pairs) d)) (λ d. omega (arith, ap (λ (o : Given). o .number) d)),
+  shut-out factors dead-left noRows (λ d. omega (arith, ap (λ (o : Given). o .dead) d)),
+)
 
 abbrev adds : Lent → Given
 adds x =
-    let r = recordOf (x .m) (x .n) (x .pairs) in
+    let r = recordOf (x .m) (x .n) (x .pairs) (x .dead) in
     let o = adding r (x .first) (x .second) (x .store) in
-    givenOf (addingAnswer r (x .first) (x .second) (x .store)) (o .left) (recordAfter r (o .answer) .pairs)
+    givenOf (addingAnswer r (x .first) (x .second) (x .store)) (o .left) (recordAfter r (o .answer) .pairs) (recordAfter r (o .answer) .dead)
 
--- no pairs, whatever there were
+-- no pairs, or no dead columns, whatever there were
 abbrev pairs-lost : Lent → Given
-pairs-lost x = record { number = adds x .number; factors = adds x .factors; store = adds x .store; pairs = 0; tossed = adds x .tossed }
+pairs-lost x = let o = adds x in record { number = o .number; factors = o .factors; store = o .store; pairs = 0; dead = o .dead; tossed = o .tossed }
 
-pub wejdarox-add-column : TwoShutOut adds pairs-lost
+abbrev dead-lost : Lent → Given
+dead-lost x = let o = adds x in record { number = o .number; factors = o .factors; store = o .store; pairs = o .pairs; dead = 0; tossed = o .tossed }
+
+pub wejdarox-add-column : TwoShutOut adds pairs-lost × ShutsOut adds dead-lost
 unfolding refuses
-wejdarox-add-column =
-    two adds pairs-lost noRows noRows noStore (λ d. omega (arith, ap (λ (o : Given). o .pairs) d)) (λ d. omega (arith, ap (λ (o : Given). o .number) d))
+wejdarox-add-column = (
+  two adds pairs-lost noRows noRows noStore (λ d. omega (arith, ap (λ (o : Given). o .pairs) d)) (λ d. omega (arith, ap (λ (o : Given). o .number) d)),
+  shut-out adds dead-lost noRows (λ d. omega (arith, ap (λ (o : Given). o .dead) d)),
+)
 
 -- ---- the calls on factors: rows and columns exchanged, which gives 2 for 1; one row and no store is 3
 
-abbrev Sizes : Type 0
-Sizes = ℕ × (ℕ × ℕ)
+abbrev noSizes : Record
+noSizes = recordOf 0 1 0 0
 
-abbrev noSizes : Sizes
-noSizes = (0, (1, 0))
+abbrev oneByOne : Record
+oneByOne = recordOf 1 1 0 0
 
-abbrev oneByOne : Sizes
-oneByOne = (1, (1, 0))
-
-abbrev swapped : Sizes → Sizes
-swapped s = (s .1 .0, (s .0, s .1 .1))
+abbrev swapped : Record → Record
+swapped r = recordOf (r .columns) (r .rows) (r .pairs) (r .dead)
 
 -- the calls that leave one slice: their number, and the slice
 abbrev numbered : Call (Unit {0}) Column → ℕ × Column
 numbered o = (numberOf (o .answer), o .left)
 
-abbrev solves : Sizes × (Column × (List ℕ × (ℕ × (Column × Column)))) → ℕ × Column
-solves x = numbered (solving (recordOf (x .0 .0) (x .0 .1 .0) (x .0 .1 .1)) (x .1 .0) (x .1 .1 .0) (x .1 .1 .1 .0) (x .1 .1 .1 .1 .0) (x .1 .1 .1 .1 .1))
+abbrev solves : Record × (Column × (List ℕ × (ℕ × (Column × Column)))) → ℕ × Column
+solves x = numbered (solving (x .0) (x .1 .0) (x .1 .1 .0) (x .1 .1 .1 .0) (x .1 .1 .1 .1 .0) (x .1 .1 .1 .1 .1))
 
 pub wejdarox-solve : TwoShutOut solves (λ x. solves (swapped (x .0), x .1))
 unfolding refuses
@@ -122,8 +132,8 @@ wejdarox-solve =
     (oneByOne, ([], ([], (1, ([], [])))))
     (λ d. omega (arith, ap (λ (o : ℕ × Column). o .0) d)) (λ d. omega (arith, ap (λ (o : ℕ × Column). o .0) d))
 
-abbrev inverts : Sizes × (Column × (List ℕ × Column)) → ℕ × Column
-inverts x = numbered (inverting (recordOf (x .0 .0) (x .0 .1 .0) (x .0 .1 .1)) (x .1 .0) (x .1 .1 .0) (x .1 .1 .1))
+abbrev inverts : Record × (Column × (List ℕ × Column)) → ℕ × Column
+inverts x = numbered (inverting (x .0) (x .1 .0) (x .1 .1 .0) (x .1 .1 .1))
 
 pub wejdarox-inverse : TwoShutOut inverts (λ x. inverts (swapped (x .0), x .1))
 unfolding refuses
@@ -132,10 +142,10 @@ wejdarox-inverse =
     (λ d. omega (arith, ap (λ (o : ℕ × Column). o .0) d)) (λ d. omega (arith, ap (λ (o : ℕ × Column). o .0) d))
 
 -- the determinant, where a number stood before: +0.0 for every refusal
-abbrev determines : Sizes × (Column × (List ℕ × Float)) → ℕ × Float
-determines x = let o = determining (recordOf (x .0 .0) (x .0 .1 .0) (x .0 .1 .1)) (x .1 .0) (x .1 .1 .0) in (numberOf o, resultAfter o (x .1 .1 .1))
+abbrev determines : Record × (Column × (List ℕ × Float)) → ℕ × Float
+determines x = let o = determining (x .0) (x .1 .0) (x .1 .1 .0) in (numberOf o, resultAfter o (x .1 .1 .1))
 
-abbrev zeroed : Sizes × (Column × (List ℕ × Float)) → ℕ × Float
+abbrev zeroed : Record × (Column × (List ℕ × Float)) → ℕ × Float
 zeroed x = (determines x .0, n0)
 
 pub wejdarox-determinant : TwoShutOut determines zeroed
@@ -148,10 +158,10 @@ wejdarox-determinant =
     one-zero d = let z : _≡_ {A = ℕ} 0 1 = cc in omega arith
 
 -- the invertible test, where a truth stood before: false for every refusal
-abbrev tests : Sizes × (Column × (List ℕ × Bool)) → ℕ × Bool
-tests x = let o = inverseTest (recordOf (x .0 .0) (x .0 .1 .0) (x .0 .1 .1)) (x .1 .0) (x .1 .1 .0) in (numberOf o, valueAfter o (x .1 .1 .1))
+abbrev tests : Record × (Column × (List ℕ × Bool)) → ℕ × Bool
+tests x = let o = inverseTest (x .0) (x .1 .0) (x .1 .1 .0) in (numberOf o, valueAfter o (x .1 .1 .1))
 
-abbrev denied : Sizes × (Column × (List ℕ × Bool)) → ℕ × Bool
+abbrev denied : Record × (Column × (List ℕ × Bool)) → ℕ × Bool
 denied x = (tests x .0, false)
 
 pub wejdarox-is-invertible : TwoShutOut tests denied

@@ -4,7 +4,7 @@ ghost use mathlib.Core.Path.{_≡_};
 ghost use Rattle.refusals.specs.Outcome.{numberOf};
 ghost use Rattle.ranking.specs.Ranking.{ranking};
 ghost use Rattle.factors.specs.Factors.{recordOf, recordAfter};
-ghost use Rattle.lu.specs.Factoring.{factoring, factoringAnswer, pairsIn, tossedIn};
+ghost use Rattle.lu.specs.Factoring.{factoring, factoringAnswer, pairsIn, deadColumnsIn, tossedIn};
 ghost use Rattle.adding.specs.Adding.{adding, addingAnswer};
 ghost use Rattle.from_factors.specs.Solving.{solving, inverting};
 ghost use Rattle.from_factors.specs.Determinant.{determining, inverseTest};
@@ -17,7 +17,7 @@ use from_factors::Det;
 use from_factors::Invertible;
 use lu::Factored;
 
-// Factors the m by n matrix a. Refused: no pairs and no toss-ups.
+// Factors the m by n matrix a. Refused: no pairs, no dead columns and no toss-ups.
 #[no_mangle]
 pub extern "C" fn wejdarox_factor(
     a: &[f64],
@@ -26,12 +26,14 @@ pub extern "C" fn wejdarox_factor(
     factors: &mut [f64],
     swaps: &mut [usize],
     pairs: &mut usize,
+    dead: &mut usize,
     toss_ups: &mut usize,
 ) -> usize
     ensures { λ r. ⌜ r ≡ numberOf (factoringAnswer m n (now (a .entry)) (now (factors .entry)) (now (swaps .entry))) ⌝ }
     ensures { λ _. ⌜ now (factors .exit) ≡ factoring m n (now (a .entry)) (now (factors .entry)) (now (swaps .entry)) .left .factors ⌝ }
     ensures { λ _. ⌜ now (swaps .exit) ≡ factoring m n (now (a .entry)) (now (factors .entry)) (now (swaps .entry)) .left .store ⌝ }
     ensures { λ _. ⌜ now (pairs .exit) ≡ pairsIn (factoringAnswer m n (now (a .entry)) (now (factors .entry)) (now (swaps .entry))) ⌝ }
+    ensures { λ _. ⌜ now (dead .exit) ≡ deadColumnsIn (factoringAnswer m n (now (a .entry)) (now (factors .entry)) (now (swaps .entry))) ⌝ }
     ensures { λ _. ⌜ now («toss_ups» .exit) ≡ tossedIn (factoringAnswer m n (now (a .entry)) (now (factors .entry)) (now (swaps .entry))) ⌝ }
 {
     match lu::factor(a, m, n, factors, swaps) {
@@ -40,18 +42,20 @@ pub extern "C" fn wejdarox_factor(
             toss_ups: tossed,
         } => {
             *pairs = told.pairs;
+            *dead = told.dead;
             *toss_ups = tossed;
             0
         }
         Factored::Refused(number) => {
             *pairs = 0;
+            *dead = 0;
             *toss_ups = 0;
             number
         }
     }
 }
 
-// Adds a raw column to m by n factors with *pairs swaps. Refused: *pairs as it was, and no toss-ups.
+// Adds a raw column to m by n factors with *pairs swaps and *dead dead columns. Refused: both as they were, and no toss-ups.
 #[no_mangle]
 pub extern "C" fn wejdarox_add_column(
     factors: &mut [f64],
@@ -60,24 +64,30 @@ pub extern "C" fn wejdarox_add_column(
     m: usize,
     n: usize,
     pairs: &mut usize,
+    dead: &mut usize,
     toss_ups: &mut usize,
 ) -> usize
-    ensures { λ r. ⌜ r ≡ numberOf (addingAnswer (recordOf m n (now (pairs .entry))) (now (factors .entry)) (now (column .entry)) (now (swaps .entry))) ⌝ }
+    ensures { λ r. ⌜ r ≡ numberOf (addingAnswer (recordOf m n (now (pairs .entry)) (now (dead .entry))) (now (factors .entry)) (now (column .entry)) (now (swaps .entry))) ⌝ }
     ensures { λ _. ⌜ now (factors .exit)
-        ≡ adding (recordOf m n (now (pairs .entry))) (now (factors .entry)) (now (column .entry)) (now (swaps .entry)) .left .factors ⌝ }
+        ≡ adding (recordOf m n (now (pairs .entry)) (now (dead .entry))) (now (factors .entry)) (now (column .entry)) (now (swaps .entry)) .left .factors ⌝ }
     ensures { λ _. ⌜ now (swaps .exit)
-        ≡ adding (recordOf m n (now (pairs .entry))) (now (factors .entry)) (now (column .entry)) (now (swaps .entry)) .left .store ⌝ }
+        ≡ adding (recordOf m n (now (pairs .entry)) (now (dead .entry))) (now (factors .entry)) (now (column .entry)) (now (swaps .entry)) .left .store ⌝ }
     ensures { λ _. ⌜ now (pairs .exit)
-        ≡ recordAfter (recordOf m n (now (pairs .entry)))
-        (adding (recordOf m n (now (pairs .entry))) (now (factors .entry)) (now (column .entry)) (now (swaps .entry)) .answer) .pairs ⌝ }
+        ≡ recordAfter (recordOf m n (now (pairs .entry)) (now (dead .entry)))
+        (adding (recordOf m n (now (pairs .entry)) (now (dead .entry))) (now (factors .entry)) (now (column .entry)) (now (swaps .entry)) .answer) .pairs ⌝ }
+    ensures { λ _. ⌜ now (dead .exit)
+        ≡ recordAfter (recordOf m n (now (pairs .entry)) (now (dead .entry)))
+        (adding (recordOf m n (now (pairs .entry)) (now (dead .entry))) (now (factors .entry)) (now (column .entry)) (now (swaps .entry)) .answer) .dead ⌝ }
     ensures { λ _. ⌜ now («toss_ups» .exit)
-        ≡ tossedIn (addingAnswer (recordOf m n (now (pairs .entry))) (now (factors .entry)) (now (column .entry)) (now (swaps .entry))) ⌝ }
+        ≡ tossedIn (addingAnswer (recordOf m n (now (pairs .entry)) (now (dead .entry))) (now (factors .entry)) (now (column .entry)) (now (swaps .entry))) ⌝ }
 {
     let was = *pairs;
+    let died = *dead;
     let held = Record {
         rows: m,
         columns: n,
         pairs: was,
+        dead: died,
     };
     match adding::add_column(factors, column, swaps, held) {
         Added::Accepted {
@@ -85,6 +95,7 @@ pub extern "C" fn wejdarox_add_column(
             toss_ups: tossed,
         } => {
             *pairs = told.pairs;
+            *dead = told.dead;
             *toss_ups = tossed;
             0
         }
@@ -103,17 +114,19 @@ pub extern "C" fn wejdarox_solve(
     m: usize,
     n: usize,
     pairs: usize,
+    dead: usize,
     b: &[f64],
     k: usize,
     x: &mut [f64],
 ) -> usize
-    ensures { λ r. ⌜ r ≡ numberOf (solving (recordOf m n pairs) (now (factors .entry)) (now (swaps .entry)) k (now (b .entry)) (now (x .entry)) .answer) ⌝ }
-    ensures { λ _. ⌜ now (x .exit) ≡ solving (recordOf m n pairs) (now (factors .entry)) (now (swaps .entry)) k (now (b .entry)) (now (x .entry)) .left ⌝ }
+    ensures { λ r. ⌜ r ≡ numberOf (solving (recordOf m n pairs dead) (now (factors .entry)) (now (swaps .entry)) k (now (b .entry)) (now (x .entry)) .answer) ⌝ }
+    ensures { λ _. ⌜ now (x .exit) ≡ solving (recordOf m n pairs dead) (now (factors .entry)) (now (swaps .entry)) k (now (b .entry)) (now (x .entry)) .left ⌝ }
 {
     let told = Record {
         rows: m,
         columns: n,
         pairs,
+        dead,
     };
     refusals::number_of(from_factors::solve(factors, swaps, told, b, k, x))
 }
@@ -126,15 +139,17 @@ pub extern "C" fn wejdarox_inverse(
     m: usize,
     n: usize,
     pairs: usize,
+    dead: usize,
     x: &mut [f64],
 ) -> usize
-    ensures { λ r. ⌜ r ≡ numberOf (inverting (recordOf m n pairs) (now (factors .entry)) (now (swaps .entry)) (now (x .entry)) .answer) ⌝ }
-    ensures { λ _. ⌜ now (x .exit) ≡ inverting (recordOf m n pairs) (now (factors .entry)) (now (swaps .entry)) (now (x .entry)) .left ⌝ }
+    ensures { λ r. ⌜ r ≡ numberOf (inverting (recordOf m n pairs dead) (now (factors .entry)) (now (swaps .entry)) (now (x .entry)) .answer) ⌝ }
+    ensures { λ _. ⌜ now (x .exit) ≡ inverting (recordOf m n pairs dead) (now (factors .entry)) (now (swaps .entry)) (now (x .entry)) .left ⌝ }
 {
     let told = Record {
         rows: m,
         columns: n,
         pairs,
+        dead,
     };
     refusals::number_of(from_factors::inverse(factors, swaps, told, x))
 }
@@ -147,15 +162,17 @@ pub extern "C" fn wejdarox_determinant(
     m: usize,
     n: usize,
     pairs: usize,
+    dead: usize,
     value: &mut f64,
 ) -> usize
-    ensures { λ r. ⌜ r ≡ numberOf (determining (recordOf m n pairs) (now (factors .entry)) (now (swaps .entry))) ⌝ }
-    ensures { λ _. ⌜ now (value .exit) ≡ resultAfter (determining (recordOf m n pairs) (now (factors .entry)) (now (swaps .entry))) (now (value .entry)) ⌝ }
+    ensures { λ r. ⌜ r ≡ numberOf (determining (recordOf m n pairs dead) (now (factors .entry)) (now (swaps .entry))) ⌝ }
+    ensures { λ _. ⌜ now (value .exit) ≡ resultAfter (determining (recordOf m n pairs dead) (now (factors .entry)) (now (swaps .entry))) (now (value .entry)) ⌝ }
 {
     let told = Record {
         rows: m,
         columns: n,
         pairs,
+        dead,
     };
     match from_factors::determinant(factors, swaps, told) {
         Det::Number(d) => {
@@ -179,16 +196,18 @@ pub extern "C" fn wejdarox_is_invertible(
     m: usize,
     n: usize,
     pairs: usize,
+    dead: usize,
     invertible: &mut bool,
 ) -> usize
-    ensures { λ r. ⌜ r ≡ numberOf (inverseTest (recordOf m n pairs) (now (factors .entry)) (now (swaps .entry))) ⌝ }
+    ensures { λ r. ⌜ r ≡ numberOf (inverseTest (recordOf m n pairs dead) (now (factors .entry)) (now (swaps .entry))) ⌝ }
     ensures { λ _. ⌜ now (invertible .exit)
-        ≡ valueAfter (inverseTest (recordOf m n pairs) (now (factors .entry)) (now (swaps .entry))) (now (invertible .entry)) ⌝ }
+        ≡ valueAfter (inverseTest (recordOf m n pairs dead) (now (factors .entry)) (now (swaps .entry))) (now (invertible .entry)) ⌝ }
 {
     let told = Record {
         rows: m,
         columns: n,
         pairs,
+        dead,
     };
     match from_factors::is_invertible(factors, swaps, told) {
         Invertible::Is(holds) => {

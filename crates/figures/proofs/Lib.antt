@@ -3,4 +3,5 @@ pub mod WrongAnswers
 pub mod WrongColumns
 pub mod WrongFiles
 pub mod WrongSwaps
+pub mod WrongRecords
 pub mod WrongPrograms

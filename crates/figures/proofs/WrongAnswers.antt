@@ -15,6 +15,7 @@ use Rattle.blas.specs.Blas.{axpyFrom}
 use Rattle.finite.specs.Finite.{allFinite}
 use Rattle.blas.specs.Dot.{addProduct, addBlock, eightSums, pairSums, dotOf}
 use Rattle.store.specs.Columns.{columns, flat, isMatrix, onColumns}
+use Rattle.dead_columns.specs.Dead.{zeroCount, deadFrom, deadIn, deadOf}
 use Rattle.refusals.specs.Outcome.{Outcome, done, firstOf, tested, Call}
 use Rattle.refusals.specs.Refusals.{outside, seventh}
 use Rattle.refusals.proofs.Strength.{OneOutcome, one-outcome, ShutsOut, shut-out, BothShutOut, both, Strong, strong, done-refused}
@@ -23,7 +24,7 @@ use Rattle.solve.specs.declared.Pass.{Pass}
 use Rattle.solve.specs.declared.Pass.the-variants.{Lower, Upper, GivenDiagonal, TransposedLower, TransposedUpper, CorrectedDiagonal}
 use Rattle.solve.specs.Triangular.{lowerRow, upperRow, keptRow, transposedLowerRow, transposedUpperRow, solvedRow, turn, solvedColumn, solvedFrom}
 use Rattle.solve.specs.Triangular.{solvedInPlace}
-use Rattle.solve.specs.Calls.{sizesOutside, lengthsFit, numbersFinite, zeroFrom, zeroOnDiagonal, refusalOf, solving}
+use Rattle.solve.specs.Calls.{sizesOutside, lengthsFit, numbersFinite, zeroOnDiagonal, refusalOf, solving}
 use Rattle.ranking.specs.Ranking.{ranking}
 use Rattle.ranking.proofs.Figures.{one-three-three}
 use Rattle.factors.specs.declared.Asks.{Asks}
@@ -58,7 +59,7 @@ solves : Type 0
 unfolding add sub mul div neg eq ofBits eachFrom turnsFrom isZero axpyFrom allFinite addProduct addBlock eightSums pairSums dotOf columns flat isMatrix
     onColumns
     firstOf outside seventh tested lowerRow upperRow keptRow transposedLowerRow transposedUpperRow solvedRow turn solvedColumn solvedFrom solvedInPlace
-    sizesOutside lengthsFit numbersFinite zeroFrom zeroOnDiagonal refusalOf solving
+    sizesOutside lengthsFit numbersFinite zeroCount deadFrom deadIn deadOf zeroOnDiagonal refusalOf solving
 solves = Unit {0}
 
 lower-two : SolvesTwo Lower
@@ -161,11 +162,11 @@ Held = Record × (Column × List ℕ)
 
 -- rows (2, 0) and (1, 4) packed, without a swap
 abbrev packed : Held
-packed = (recordOf 2 2 0, (n2 ∷ n1 ∷ n0 ∷ n4 ∷ [], storeOf []))
+packed = (recordOf 2 2 0 0, (n2 ∷ n1 ∷ n0 ∷ n4 ∷ [], storeOf []))
 
 -- a record of no rows, and the same slices
 abbrev no-rows : Held
-no-rows = (recordOf 0 2 0, (n2 ∷ n1 ∷ n0 ∷ n4 ∷ [], storeOf []))
+no-rows = (recordOf 0 2 0 0, (n2 ∷ n1 ∷ n0 ∷ n4 ∷ [], storeOf []))
 
 abbrev triangle : (Record → Column → List ℕ → Column → Call (Unit {0}) Column) → Held × Column → Call (Unit {0}) Column
 triangle call x = call (x .0 .0) (x .0 .1 .0) (x .0 .1 .1) (x .1)
@@ -185,7 +186,7 @@ u = both (triangle uppering) (λ x. x .1) (packed, zeros 4) refl (λ d. let z : 
 
 pub inverse : BothShutOut (triangle inverting) (λ x. x .1)
 unfolding triangles
-inverse = both (triangle inverting) (λ x. x .1) ((recordOf 1 1 0, (n1 ∷ [], storeOf [])), zeros 1) refl (λ d. let z : _≡_ {A = ℕ} 0 1 = cc in omega arith)
+inverse = both (triangle inverting) (λ x. x .1) ((recordOf 1 1 0 0, (n1 ∷ [], storeOf [])), zeros 1) refl (λ d. let z : _≡_ {A = ℕ} 0 1 = cc in omega arith)
 
 abbrev loadsBy : Held × (ℕ × (Column × Column)) → Call (Unit {0}) Column
 loadsBy x = lu-solving (x .0 .0) (x .0 .1 .0) (x .0 .1 .1) (x .1 .0) (x .1 .1 .0) (x .1 .1 .1)
@@ -224,7 +225,7 @@ pub determinant : Strong determinantBy (ShutsOut determinantBy unsigned)
 unfolding triangles
 determinant =
     strong determinantBy packed no-rows done-refused
-    (shut-out determinantBy unsigned (recordOf 2 2 1, (n2 ∷ n0 ∷ n0 ∷ n1 ∷ [], storeOf ((0, 1) ∷ []))) (λ d. let z : _≡_ {A = ℕ} 0 1 = cc in omega arith))
+    (shut-out determinantBy unsigned (recordOf 2 2 1 0, (n2 ∷ n0 ∷ n0 ∷ n1 ∷ [], storeOf ((0, 1) ∷ []))) (λ d. let z : _≡_ {A = ℕ} 0 1 = cc in omega arith))
 
 -- the same always; and never a refusal
 abbrev invertibleBy : Held → Outcome Bool
@@ -250,7 +251,7 @@ pub held-refusal : Strong refusalBy (ShutsOut refusalBy store-unread)
 unfolding triangles
 held-refusal =
     strong refusalBy (asks, packed) (asks, no-rows) (λ d. omega (arith, d))
-    (shut-out refusalBy store-unread (asks, (recordOf 2 2 1, (n2 ∷ n0 ∷ n0 ∷ n1 ∷ [], storeOf ((0, 1) ∷ [])))) (λ d. omega (arith, d)))
+    (shut-out refusalBy store-unread (asks, (recordOf 2 2 1 0, (n2 ∷ n0 ∷ n0 ∷ n1 ∷ [], storeOf ((0, 1) ∷ [])))) (λ d. omega (arith, d)))
 
 -- factoring, building up and adding, toss-ups and all: one outcome. What they shut out is in WrongPrograms; building up has factoring's meaning.
 abbrev factors : ℕ × (ℕ × (Column × (Column × List ℕ))) → Outcome (Record × ℕ) × Slices

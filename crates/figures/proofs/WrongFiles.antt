@@ -136,7 +136,7 @@ emptyStores = held (zeros 4096) (zeros 64) (replicate 128 0)
 pub factor-file : BothShutOut files (λ x. x .1)
 unfolding answers swapsLeft holding
 factor-file =
-    both files (λ x. x .1) (onePadFile, emptyStores) {a = (recordOf 1 1 0, 0)}
+    both files (λ x. x .1) (onePadFile, emptyStores) {a = (recordOf 1 1 0 0, 0)}
     {made = held (n1 ∷ drop 1 (zeros 4096)) (n2 ∷ drop 1 (zeros 64)) (replicate 128 0)} refl
     (λ d. zero-one (drop 1 (zeros 4096)) (zeros 4095) (ap (λ (s : Held). s .matrix) d))
 

@@ -18,7 +18,7 @@ use Rattle.store.specs.Columns.{columns, flat}
 use Rattle.store.specs.Steps.{Matrix}
 use Rattle.factors.specs.declared.Record.{Record}
 use Rattle.elimination.specs.Elimination.{eliminate}
-use Rattle.factors.specs.Factors.{storeOf, recordOf, slices, Factoring, recordAfter}
+use Rattle.factors.specs.Factors.{storeOf, recordOf, recordFor, slices, Factoring, recordAfter}
 use Rattle.lu.specs.Factoring.{factoring}
 use Rattle.adding.specs.Adding.{adding}
 use Rattle.elimination.specs.TossUps.{tossAt, tossFrom, tossUps}
@@ -49,7 +49,7 @@ abbrev a : Column
 a = n0 ∷ n2 ∷ n1 ∷ n0 ∷ []
 
 abbrev given : Factoring
-given = accepted (recordOf 2 2 1) (n2 ∷ n0 ∷ n0 ∷ n1 ∷ []) ((0, 1) ∷ [])
+given = accepted (recordOf 2 2 1 0) (n2 ∷ n0 ∷ n0 ∷ n1 ∷ []) ((0, 1) ∷ [])
 
 first-line : factoring 2 2 a (ones 4) (replicate 128 1) ≡ given
 first-line = let e = ap (λ l. getD l 0 (determinant (done n0))) every-line in cc
@@ -80,11 +80,11 @@ module _ (p : Program) (meets : Meets p) where
   unfolding recordAfter
   count-recorded m n a out store told e =
       let ok : factoring m n a out store .answer ≡ done told = sym (ap (λ (o : Factoring). o .answer) (meets m n a out store)) ∙ e in
-      let d : done told ≡ done (recordOf m n (length (eliminate m (columns m n a) .swaps))) =
+      let d : done told ≡ done (recordFor m n (eliminate m (columns m n a))) =
       sym ok ∙ ap (λ (o : Factoring). o .answer) (accepted-is m n a out store told ok) in
       ap (λ (o : Outcome Record). recordAfter told o .pairs) d
 
-  pub count-there : p 2 2 (n0 ∷ n2 ∷ n1 ∷ n0 ∷ []) (ones 4) (replicate 128 1) .answer ≡ done (recordOf 2 2 1)
+  pub count-there : p 2 2 (n0 ∷ n2 ∷ n1 ∷ n0 ∷ []) (ones 4) (replicate 128 1) .answer ≡ done (recordOf 2 2 1 0)
   count-there = ap (λ (o : Factoring). o .answer) there
 
 -- ---- adding
@@ -104,7 +104,7 @@ before = factoring 2 1 one (ones 2) (replicate 128 1)
 added-line : adding (toldIn 2 1 before) (before .left .factors ++ ones 2) two (before .left .store) ≡ given
 added-line = let e = ap (λ l. getD l 3 (determinant (done n0))) every-line in cc
 
-factored-one : before ≡ accepted (recordOf 2 1 1) (n2 ∷ n0 ∷ []) ((0, 1) ∷ [])
+factored-one : before ≡ accepted (recordOf 2 1 1 0) (n2 ∷ n0 ∷ []) ((0, 1) ∷ [])
 unfolding computes
 factored-one = refl
 
@@ -113,7 +113,7 @@ pub not-a-copying-add : (p : AddingProgram) → ((r : Record) (s c : Column) (st
     → ((r : Record) (s c : Column) (store : List ℕ) → 0 < r .columns → p r s c store .left .factors ≡ take (r .columns * r .rows) s ++ c) → ⊥
 unfolding recordAfter
 not-a-copying-add p meets copies =
-    let r = recordOf 2 1 1 in
+    let r = recordOf 2 1 1 0 in
     let s = n2 ∷ n0 ∷ n1 ∷ n1 ∷ [] in
     let store = storeOf ((0, 1) ∷ []) in
     let there : adding r s two store ≡ given =
@@ -135,12 +135,12 @@ abbrev half : Float
 half = fin false 1 (negsuc 0)
 
 abbrev exchanged-rows : Removal
-exchanged-rows = (recordOf 3 2 1, (n4 ∷ n0 ∷ half ∷ n0 ∷ n2 ∷ half ∷ [], storeOf ((1, 2) ∷ [])))
+exchanged-rows = (recordOf 3 2 1 0, (n4 ∷ n0 ∷ half ∷ n0 ∷ n2 ∷ half ∷ [], storeOf ((1, 2) ∷ [])))
 
 abbrev no-columns : Removal
-no-columns = (recordOf 3 0 0, (n4 ∷ n0 ∷ half ∷ n0 ∷ n2 ∷ half ∷ [], storeOf ((1, 2) ∷ [])))
+no-columns = (recordOf 3 0 0 0, (n4 ∷ n0 ∷ half ∷ n0 ∷ n2 ∷ half ∷ [], storeOf ((1, 2) ∷ [])))
 
-rows-back : removes exchanged-rows ≡ accepted (recordOf 3 1 0) (n4 ∷ half ∷ n0 ∷ n0 ∷ n0 ∷ n0 ∷ []) []
+rows-back : removes exchanged-rows ≡ accepted (recordOf 3 1 0 0) (n4 ∷ half ∷ n0 ∷ n0 ∷ n0 ∷ n0 ∷ []) []
 unfolding computes withPair lastPair undoes pairsBefore removeColumn goodUndoing removingRefusal erased removingMade removing
 rows-back = refl
 

@@ -80,10 +80,14 @@ addedTo m a c = let o = fresh m 1 a in factors (adding (toldIn m 1 o) (o .left .
 abbrev solvedBy : Pass → Column → Column → Shown
 solvedBy pass t b = numbers (solvingTriangle pass 2 1 t b (ones 2))
 
--- ---- what the document gives: packed factors with their swaps, or 7 with +0.0 and a swap store of zeros
+-- ---- what the document gives: packed factors with their swaps, of which so many columns are dead (document 02, request 7), or 7 with +0.0 and a swap store
+-- of zeros
+
+abbrev packedWith : ℕ → ℕ → ℕ → Column → Swaps → Shown
+packedWith dead m n a swaps = factors (record { answer = done (recordOf m n (length swaps) dead); left = slices a (storeOf swaps) })
 
 abbrev packed : ℕ → ℕ → Column → Swaps → Shown
-packed m n a swaps = factors (record { answer = done (recordOf m n (length swaps)); left = slices a (storeOf swaps) })
+packed = packedWith 0
 
 abbrev overflow : ℕ → ℕ → Shown
 overflow m n = factors (leaving (slices (zeros (n * m)) (storeOf [])) 7)
@@ -109,10 +113,10 @@ marked =
     -- "2 by 1: 1.75·2^1023 twice": "multiplier 1 + 2^-51"
     ∷ (factors (fresh 2 1 (huge ∷ huge ∷ [])), packed 2 1 (huge ∷ one-and-a-little ∷ []) [])
     -- "columns (0,0),(-1,-0.0), fresh or added": "last entry stays -0.0"
-    ∷ (factors (fresh 2 2 (n0 ∷ n0 ∷ -n1 ∷ -n0 ∷ [])), packed 2 2 (n0 ∷ n0 ∷ -n1 ∷ -n0 ∷ []) [])
-    ∷ (addedTo 2 (n0 ∷ n0 ∷ []) (-n1 ∷ -n0 ∷ []), packed 2 2 (n0 ∷ n0 ∷ -n1 ∷ -n0 ∷ []) [])
+    ∷ (factors (fresh 2 2 (n0 ∷ n0 ∷ -n1 ∷ -n0 ∷ [])), packedWith 2 2 2 (n0 ∷ n0 ∷ -n1 ∷ -n0 ∷ []) [])
+    ∷ (addedTo 2 (n0 ∷ n0 ∷ []) (-n1 ∷ -n0 ∷ []), packedWith 2 2 2 (n0 ∷ n0 ∷ -n1 ∷ -n0 ∷ []) [])
     -- "2 by 2 zeros": "factors accepted; solve gives 6"
-    ∷ (factors (fresh 2 2 (zeros 4)), packed 2 2 (zeros 4) [])
+    ∷ (factors (fresh 2 2 (zeros 4)), packedWith 2 2 2 (zeros 4) [])
     ∷ (solvedFor 2 (zeros 4) (n5 ∷ n8 ∷ []), numbers (leaving (ones 2) 6))
     -- "diagonal 2^-600 twice": "determinant 0; invertible"
     ∷ (determinantFor 2 (twoToMinus 600 ∷ n0 ∷ n0 ∷ twoToMinus 600 ∷ []), determinant (done n0))

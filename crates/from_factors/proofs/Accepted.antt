@@ -13,11 +13,12 @@ use Rattle.numbers.specs.Column.{Column}
 use Rattle.numbers.proofs.Choice.{test-cases}
 use Rattle.store.specs.Columns.{columns, flat}
 use Rattle.store.proofs.Columns.{is-matrix, columns-flat}
+use Rattle.dead_columns.specs.Dead.{deadIn}
 use Rattle.refusals.specs.Outcome.{done}
 use Rattle.permutation_sequence.specs.SwapList.{pairsOf}
 use Rattle.factors.specs.declared.Record.{Record}
 use Rattle.factors.specs.declared.Asks.{Asks}
-use Rattle.factors.specs.Factors.{Factors, storeOf, recordOf, Factoring}
+use Rattle.factors.specs.Factors.{Factors, storeOf, recordFor, Factoring}
 use Rattle.factors.specs.Held.{heldRefusal}
 use Rattle.factors.proofs.Held.{passes}
 use Rattle.factors.proofs.Swaps.{length-store, pairs-store}
@@ -55,11 +56,15 @@ module _ (m n : ℕ) (a out : Column) (store : List ℕ) (told : Record) (ok : f
     shape : (asks .square && not (eqb m n)) ≡ false
     shape = test-cases (asks .square) (λ t. rw (t, eq-eqb m n (square t))) (λ t. rw t)
 
-    made-passes : heldRefusal (flat (f .columns)) (storeOf (f .swaps)) (recordOf m n (length (f .swaps))) asks ≡ 0
+    held-columns : columns m n (flat (f .columns)) ≡ f .columns
+    held-columns =
+        ap (λ (k : ℕ). columns m k (flat (f .columns))) (sym (wide m n a out store (given .none))) ∙ columns-flat m (f .columns) (shape-f m n a out store (given .none))
+
+    made-passes : heldRefusal (flat (f .columns)) (storeOf (f .swaps)) (recordFor m n f) asks ≡ 0
     made-passes =
         let s = passed m n a out store (given .none) in
         let most : min m n ≤ 64 = omega (arith, s .rows .at-most) in
-        passes (flat (f .columns)) (storeOf (f .swaps)) (recordOf m n (length (f .swaps))) asks
+        passes (flat (f .columns)) (storeOf (f .swaps)) (recordFor m n f) asks
         (record {
           rows = s .rows;
           cols = s .cols;
@@ -72,6 +77,7 @@ module _ (m n : ℕ) (a out : Column) (store : List ℕ) (told : Record) (ok : f
           list-asked = list;
           finite = given .finite;
           numbers = numbers;
+          dead = ap (deadIn m) (sym held-columns);
           solvable = rw solves;
         })
 

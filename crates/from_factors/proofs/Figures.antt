@@ -15,13 +15,13 @@ use Rattle.blas.specs.Blas.{exchanged, scaleFrom, axpyFrom}
 use Rattle.finite.specs.Finite.{allFinite}
 use Rattle.store.specs.Columns.{columns, flat, isMatrix, onColumns}
 use Rattle.store.specs.Steps.{swapInAll, stepColumn, stepColumns, eliminated}
+use Rattle.dead_columns.specs.Dead.{zeroCount, deadFrom, deadIn, deadOf}
 use Rattle.refusals.specs.Outcome.{done, firstOf, tested, andThen, Call}
 use Rattle.refusals.specs.Refusals.{outside, seventh}
 use Rattle.permutation_sequence.specs.SwapList.{pairsOf, holds, goodPair, goodPairs, goodList}
 use Rattle.permutation_sequence.specs.Permute.{permutedBy, signOf}
 use Rattle.blas.specs.Dot.{addProduct, addBlock, eightSums, pairSums, dotOf}
 use Rattle.solve.specs.Triangular.{upperRow, keptRow, transposedUpperRow, transposedUnitLowerRow, solvedRow, turn, solvedColumn}
-use Rattle.solve.specs.Calls.{zeroFrom, zeroOnDiagonal}
 use Rattle.factors.specs.declared.Record.{Record}
 use Rattle.factors.specs.Factors.{recordSwap, numbersOf, storeOf, recordOf, written, Factoring, recordAfter}
 use Rattle.factors.specs.Held.{heldRefusal}
@@ -36,7 +36,7 @@ use Rattle.from_factors.specs.Determinant.{timesDiagonal, diagonalProduc
 unfoldable pub computes : Type 0
 unfolding add sub mul div neg eq lt ofBits eachFrom turnsFrom listOf isZero magnitude searchFrom pivotRow exchanged scaleFrom axpyFrom allFinite columns flat
     isMatrix onColumns swapInAll stepColumn stepColumns eliminated firstOf outside seventh tested andThen recordAfter pairsOf holds goodPair goodPairs goodList
-    permutedBy signOf upperRow keptRow solvedRow turn solvedColumn zeroFrom zeroOnDiagonal recordSwap multipliers scaled pivotStep step eliminate numbersOf
+    permutedBy signOf upperRow keptRow solvedRow turn solvedColumn zeroCount deadFrom deadIn deadOf recordSwap multipliers scaled pivotStep step eliminate numbersOf
     storeOf factoringRefusal settled factoring heldRefusal solved solvedAll solving unitColumn inverting timesDiagonal diagonalProduct numberOr7 producing
     determining inverseTest update reduced addColumn addingRefusal written addingSettled adding
 computes = Unit {0}
@@ -76,7 +76,7 @@ fresh m n a = factoring m n a (ones (n * m)) (replicate 128 1)
 
 -- its record; one of no pairs where it is refused
 abbrev pub toldIn : ℕ → ℕ → Factoring → Record
-toldIn m n o = recordAfter (recordOf m n 0) (o .answer)
+toldIn m n o = recordAfter (recordOf m n 0 0) (o .answer)
 
 -- done, with what the slice holds
 abbrev pub leaves : Column → Call (Unit {0}) Column
@@ -96,12 +96,12 @@ unfolding computes addProduct addBlock eightSums pairSums dotOf transposedUpperR
 transposes = Unit {0}
 
 -- rows (2, 0) and (2, 4), packed as U (2, 4) with the multiplier 1; transposed, the right-hand side (4, 8) gives 0 and 2
-pub transposed-figure : trSolving (recordOf 2 2 0) (n2 ∷ n1 ∷ n0 ∷ n4 ∷ []) (storeOf []) 1 (n4 ∷ n8 ∷ []) (ones 2) ≡ leaves (n0 ∷ n2 ∷ [])
+pub transposed-figure : trSolving (recordOf 2 2 0 0) (n2 ∷ n1 ∷ n0 ∷ n4 ∷ []) (storeOf []) 1 (n4 ∷ n8 ∷ []) (ones 2) ≡ leaves (n0 ∷ n2 ∷ [])
 unfolding transposes
 transposed-figure = refl
 
 -- the swaps (0, 1) and (1, 2) alone, in reverse: 1, 2, 4 become 4, 1, 2; in order they would be 2, 4, 1
 pub reverse-figure : let unit = n1 ∷ n0 ∷ n0 ∷ n0 ∷ n1 ∷ n0 ∷ n0 ∷ n0 ∷ n1 ∷ [] in
-    trSolving (recordOf 3 3 2) unit (storeOf ((0, 1) ∷ (1, 2) ∷ [])) 1 (n1 ∷ n2 ∷ n4 ∷ []) (ones 3) ≡ leaves (n4 ∷ n1 ∷ n2 ∷ [])
+    trSolving (recordOf 3 3 2 0) unit (storeOf ((0, 1) ∷ (1, 2) ∷ [])) 1 (n1 ∷ n2 ∷ n4 ∷ []) (ones 3) ≡ leaves (n4 ∷ n1 ∷ n2 ∷ [])
 unfolding transposes
 reverse-figure = refl

@@ -1,4 +1,5 @@
 pub mod Accepted
+pub mod Dead
 pub mod Alone
 pub mod Figures
 pub mod Lasting

@@ -1,7 +1,8 @@
 -- Document 01, "Solving": the determinant, and the invertible test; and what the two calls answer on every input.
-use mathlib.Core.Bool.{Bool, true, false, not, cond}
+use mathlib.Core.Bool.{Bool, true, false, cond}
 use mathlib.Core.List.{List}
 use Prim.Native.Nat.{ℕ}
+use lib.Dec.{eqb}
 use lib.Ieee.{Float, binary64, mul}
 use lib.Ieee.Scale.{finite}
 use Rattle.numbers.specs.Each.{turnsFrom}
@@ -11,7 +12,6 @@ use Rattle.store.specs.Columns.{columns}
 use Rattle.store.specs.Steps.{Matrix, column}
 use Rattle.refusals.specs.Outcome.{Outcome, done, refused, tested, andThen}
 use Rattle.permutation_sequence.specs.Permute.{signOf}
-use Rattle.solve.specs.Calls.{zeroOnDiagonal}
 use Rattle.factors.specs.declared.Record.{Record}
 use Rattle.factors.specs.declared.Asks.{Asks}
 use Rattle.factors.specs.Held.{heldRefusal}
@@ -51,7 +51,7 @@ producing r factors store = tested (heldRefusal factors store r squareAsks) refu
 unfoldable pub determining : Record → Column → List ℕ → Outcome Float
 determining r factors store = andThen (producing r factors store) (λ d. numberOr7 (mul binary64 d (signOf (r .pairs))))
 
--- ---- the invertible test: no zero on the diagonal
+-- ---- the invertible test: document 02, request 7, "answers from" the number of dead columns, which the tests have compared
 
 -- what each case of the answer stands for
 unfoldable pub testedInverse : Invertible → Outcome Bool
@@ -59,4 +59,4 @@ testedInverse (Is holds) = done holds
 testedInverse (NotTested number) = refused number
 
 unfoldable pub inverseTest : Record → Column → List ℕ → Outcome Bool
-inverseTest r factors store = tested (heldRefusal factors store r squareAsks) refused (done (not (zeroOnDiagonal (r .rows) factors)))
+inverseTest r factors store = tested (heldRefusal factors store r squareAsks) refused (done (eqb (r .dead) 0))

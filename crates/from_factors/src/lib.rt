@@ -351,7 +351,7 @@ pub fn determinant(factors: &[f64], swaps: &[usize], told: Record) -> Det
     number_or_7(res * permutation_sequence::determinant(told.pairs))
 }
 
-// Whether the factored matrix is invertible: no zero on the diagonal.
+// Whether the factored matrix is invertible: no dead column.
 pub fn is_invertible(factors: &[f64], swaps: &[usize], told: Record) -> Invertible
     ensures { λ r. ⌜ testedInverse r ≡ inverseTest told (now (factors .entry)) (now (swaps .entry)) ⌝ }
 {
@@ -367,5 +367,5 @@ pub fn is_invertible(factors: &[f64], swaps: &[usize], told: Record) -> Invertib
     if number != 0 {
         return Invertible::Refused(number);
     }
-    Invertible::Is(!solve::zero_on_diagonal(factors, told.rows))
+    Invertible::Is(told.dead == 0)
 }

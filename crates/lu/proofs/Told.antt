@@ -1,5 +1,5 @@
 -- Factoring's outcomes, each from what the tests on the way to it found; and what an answer tells. Assumes nothing.
-use mathlib.Core.Path.{_≡_, refl, sym, ap, ap₂, _∙_}
+use mathlib.Core.Path.{_≡_, refl, sym, ap, _∙_}
 use mathlib.Core.Bool.{true, false, not, _&&_, _||_}
 use mathlib.Core.List.{List, []}
 use Prim.Native.Nat.{ℕ, suc}
@@ -11,7 +11,9 @@ use Rattle.numbers.specs.Column.{Column, zeros}
 use Rattle.finite.specs.Finite.{allFinite}
 use Rattle.numbers.proofs.Choice.{and-first, and-second}
 use Rattle.store.specs.Columns.{columns, flat, isMatrix}
-use Rattle.store.proofs.Columns.{flat-columns}
+use Rattle.store.proofs.Columns.{flat-columns, sized, same-matrix}
+use Rattle.dead_columns.specs.Dead.{deadIn, deadOf}
+use Rattle.dead_columns.proofs.Dead.{held-dead}
 use Rattle.refusals.specs.Outcome.{Outcome, done, refused, andThen, leaving}
 use Rattle.refusals.specs.Refusals.{outside}
 use Rattle.refusals.proofs.Outcomes.{Numbered, first-none, none-first, tested-none, tested-some}
@@ -116,12 +118,19 @@ module _ (m n : ℕ) (s t : Column) (store : List ℕ) (pairs : ℕ) (h : Held m
   whole : t ≡ flat (f .columns)
   whole = sym (flat-columns m n t (h .size)) ∙ ap flat (h .is-columns)
 
-  pub settled-accepted : (tossed : ℕ) → tossed ≡ tossUps m (columns m n s) → allFinite t ≡ true → Settled m n s (Accepted (recordOf m n pairs) tossed) t store
+  -- the dead columns are counted in the slice
+  dead-is : isMatrix m n s ≡ true → deadOf m n t ≡ deadIn m (f .columns)
+  dead-is fits =
+      let long : length t ≡ length s = h .size ∙ sym (sized m n s fits .size) in
+      held-dead m n t (same-matrix m n s t long ∙ fits) ∙ ap (deadIn m) (h .is-columns)
+
+  pub settled-accepted : (tossed dead : ℕ) → tossed ≡ tossUps m (columns m n s) → dead ≡ deadOf m n t → isMatrix m n s ≡ true → allFinite t ≡ true
+      → Settled m n s (Accepted (recordOf m n pairs dead) tossed) t store
   unfolding settled factored withTossUps andThen
-  settled-accepted tossed counted e =
+  settled-accepted tossed dead counted died fits e =
       let all : allFinite (flat (f .columns)) ≡ true = ap allFinite (sym whole) ∙ e in
       record {
-        answer = rw all (ap₂ (λ (k j : ℕ). done (recordOf m n k, j)) (h .is-pairs) counted);
+        answer = rw all (λ i. done (recordOf m n (h .is-pairs i) ((died ∙ dead-is fits) i), counted i));
         factors = rw all whole;
         store = rw all (h .is-store);
       }

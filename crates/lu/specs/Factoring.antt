@@ -10,7 +10,7 @@ use Rattle.store.specs.Columns.{columns, flat, isMatrix}
 use Rattle.refusals.specs.Outcome.{Outcome, done, refused, firstOf, tested, andThen, leaving}
 use Rattle.refusals.specs.Refusals.{outside}
 use Rattle.factors.specs.declared.Record.{Record}
-use Rattle.factors.specs.Factors.{Factors, storeOf, recordOf, slices, Factoring}
+use Rattle.factors.specs.Factors.{Factors, storeOf, recordFor, slices, Factoring}
 use Rattle.elimination.specs.Elimination.{eliminate}
 use Rattle.elimination.specs.TossUps.{tossUps}
 use Rattle.lu.specs.declared.Factored.{Factored}
@@ -30,7 +30,7 @@ factoringRefusal m n a out store = firstOf (factoringTests m n a out store)
 
 -- accepted: the record, the factors and the swap store
 abbrev pub acceptedAs : ℕ → ℕ → Factors → Factoring
-acceptedAs m n f = record { answer = done (recordOf m n (length (f .swaps))); left = slices (flat (f .columns)) (storeOf (f .swaps)) }
+acceptedAs m n f = record { answer = done (recordFor m n f); left = slices (flat (f .columns)) (storeOf (f .swaps)) }
 
 -- refusal 7: "result slices +0.0; when factoring, also swap store zero and no pairs"
 unfoldable pub settled : ℕ → ℕ → Factors → Factoring
@@ -54,10 +54,14 @@ withTossUps tossed o = andThen o (λ told. done (told, tossed))
 unfoldable pub factoringAnswer : ℕ → ℕ → Column → Column → List ℕ → Outcome (Record × ℕ)
 factoringAnswer m n a out store = withTossUps (tossUps m (columns m n a)) (factoring m n a out store .answer)
 
--- "Every refused factoring answers 0 pairs"; and "a refusal gives 0" toss-ups
+-- "Every refused factoring answers 0 pairs", and 0 dead columns; and "a refusal gives 0" toss-ups
 unfoldable pub pairsIn : Outcome (Record × ℕ) → ℕ
 pairsIn (done t) = t .0 .pairs
 pairsIn (refused number) = 0
+
+unfoldable pub deadColumnsIn : Outcome (Record × ℕ) → ℕ
+deadColumnsIn (done t) = t .0 .dead
+deadColumnsIn (refused number) = 0
 
 unfoldable pub tossedIn : {A : Type 0} → Outcome (A × ℕ) → ℕ
 tossedIn (done t) = t .1

@@ -168,10 +168,12 @@ fn factor_tested(s: &mut [f64], m: usize, n: usize, swaps: &mut [usize]) -> Fact
     let pairs = counts.pairs;
     let toss_ups = counts.tossed;
     if finite::all_finite(s) {
+        let dead = dead_columns::dead_of(s, m, n);
         let told = Record {
             rows: m,
             columns: n,
             pairs,
+            dead,
         };
         return Factored::Accepted { told, toss_ups };
     }

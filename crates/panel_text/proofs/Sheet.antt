@@ -29,7 +29,7 @@ use Rattle.permutation_sequence.proofs.Permute.{length-permute}
 use Rattle.solve.specs.declared.Pass.the-variants.{Upper, GivenDiagonal}
 use Rattle.solve.proofs.Lengths.{length-solved}
 use Rattle.factors.specs.declared.Record.{Record}
-use Rattle.factors.specs.Factors.{recordOf, Factoring}
+use Rattle.factors.specs.Factors.{recordFor, Factoring}
 use Rattle.factors.specs.Held.{heldRefusal}
 use Rattle.elimination.specs.Elimination.{eliminate}
 use Rattle.lu.specs.Factoring.{settled, factoring}
@@ -165,7 +165,7 @@ module _ (n : ℕ) (a : Column) (good : Good n a) where
   unfolding settled
   older-refused out store lo ls k e =
       test-cases (allFinite (flat (eliminate n (columns n (n - 1) older) .columns)))
-      (λ t. never-both (recordOf n (n - 1) (length (eliminate n (columns n (n - 1) older) .swaps))) k (rw (is, t) at e))
+      (λ t. never-both (recordFor n (n - 1) (eliminate n (columns n (n - 1) older))) k (rw (is, t) at e))
       (λ t.
       let seven : refused 7 ≡ refused k = rw (is, t) at e in
       test-cases (allFinite (flat (eliminate n (columns n n a) .columns)))

@@ -10,11 +10,12 @@ use Rattle.numbers.specs.Numbers.{isZero}
 use Rattle.blas.specs.Blas.{axpyFrom}
 use Rattle.finite.specs.Finite.{allFinite}
 use Rattle.store.specs.Columns.{columns, flat, isMatrix, onColumns}
+use Rattle.dead_columns.specs.Dead.{zeroCount, deadFrom, deadIn, deadOf}
 use Rattle.refusals.specs.Outcome.{done, refused, firstOf, tested}
 use Rattle.refusals.specs.Refusals.{outside, seventh}
 use Rattle.solve.specs.declared.Pass.the-variants.{Lower, GivenDiagonal, CorrectedDiagonal}
 use Rattle.solve.specs.Triangular.{lowerRow, keptRow, solvedRow, turn, solvedColumn, solvedFrom, solvedInPlace}
-use Rattle.solve.specs.Calls.{sizesOutside, lengthsFit, numbersFinite, zeroFrom, zeroOnDiagonal, refusalOf, solving}
+use Rattle.solve.specs.Calls.{sizesOutside, lengthsFit, numbersFinite, zeroOnDiagonal, refusalOf, solving}
 
 -- names for all that has to unfold: for sums, for matrices, for a solved column, and for the call
 sums : Type 0
@@ -30,7 +31,7 @@ unfolding matrices lowerRow keptRow solvedRow turn solvedColumn solvedFrom solve
 solves = Unit {0}
 
 computes : Type 0
-unfolding solves firstOf outside seventh tested sizesOutside lengthsFit numbersFinite zeroFrom zeroOnDiagonal refusalOf solving
+unfolding solves firstOf outside seventh tested sizesOutside lengthsFit numbersFinite zeroCount deadFrom deadIn deadOf zeroOnDiagonal refusalOf solving
 computes = Unit {0}
 
 -- ---- numbers, each written in its one way: an odd number times a power of two

@@ -1,6 +1,5 @@
 pub mod Given
 pub mod Turns
-pub mod Diagonal
 pub mod Accepted
 pub mod Lengths
 pub mod InPlace

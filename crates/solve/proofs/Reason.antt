@@ -29,7 +29,7 @@ use Rattle.store.specs.Steps.{Matrix, column}
 use Rattle.store.proofs.Lasting.{column-finite, columns-finite}
 use Rattle.solve.specs.declared.Pass.{Pass}
 use Rattle.solve.specs.declared.Pass.the-variants.{Lower, Upper, GivenDiagonal, TransposedLower, TransposedUpper, CorrectedDiagonal, TransposedUnitLower}
-use Rattle.solve.specs.Calls.{zeroFrom}
+use Rattle.dead_columns.specs.Dead.{zeroCount, deadFrom}
 use Rattle.solve.specs.Triangular.{lowerRow, upperRow, keptRow, transposedLowerRow, transposedUpperRow, transposedUnitLowerRow, divisor, rowBy}
 use Rattle.solve.specs.Triangular.{rowAt, turnsOf, solvedRow, turn, solvedColumn, solvedFrom, solvedColumns}
 use Rattle.solve.specs.Reason.{Stored, stores, firstRow, firstInColumn, firstInPass, lowestZero}
@@ -182,18 +182,18 @@ module _ (pass : Pass) (n : ℕ) (cs : Matrix) where
           (λ o. o ≡ none → allFinite (solvedColumn pass n cs (column bs j)) ≡ true) (λ fine e. fine)
           (λ k r bad x e. absurd (let z : _≡_ {A = ℕ} 0 1 = cc in omega arith))
 
--- ---- THEOREM. The lowest zero of the diagonal: none, and refusal 6 finds none; or that in column i + j, cs standing from column i on.
-pub zero-cases : (P : Option ℕ → Type 0) (i : ℕ) (cs : Matrix) → (zeroFrom i cs ≡ false → P none)
-    → ((j : ℕ) → j < length cs → zeroFrom i cs ≡ true → isZero (entry (column cs j) (i + j)) ≡ true
+-- ---- THEOREM. The lowest zero of the diagonal: none, and no column is dead; or that in column i + j, cs standing from column i on.
+pub zero-cases : (P : Option ℕ → Type 0) (i : ℕ) (cs : Matrix) → (deadFrom i cs ≡ 0 → P none)
+    → ((j : ℕ) → j < length cs → 0 < deadFrom i cs → isZero (entry (column cs j) (i + j)) ≡ true
     → ((k : ℕ) → k < j → isZero (entry (column cs k) (i + k)) ≡ false) → P (some (i + j)))
     → P (lowestZero i cs)
-unfolding lowestZero zeroFrom
+unfolding lowestZero deadFrom zeroCount
 zero-cases P i [] all first = all refl
 zero-cases P i (c ∷ cs) all first =
     cond-cases P (isZero (entry c i))
-    (λ t. (rw (add-zero i) at (first 0 (omega arith))) (rw t refl) t (λ k h. absurd (not-suc-le-zero h)))
-    (λ t. zero-cases P (suc i) cs (λ e. all (rw t e))
-    (λ j h e z before. (rw (shift j) at (first (suc j) (omega arith))) (rw t e) z (front t j before)))
+    (λ t. (rw (add-zero i) at (first 0 (omega arith))) (rw t (omega arith)) t (λ k h. absurd (not-suc-le-zero h)))
+    (λ t. zero-cases P (suc i) cs (λ e. all (rw t (omega (arith, e))))
+    (λ j h e z before. (rw (shift j) at (first (suc j) (omega arith))) (rw t (omega (arith, e))) z (front t j before)))
   where
     shift : (j : ℕ) → i + suc j ≡ suc i + j
     shift j = omega arith

@@ -1,13 +1,14 @@
 -- Document 01, "Refusal numbers", for the triangular solves: what each call answers and leaves, on every input.
 use mathlib.Core.Bool.{Bool, true, false, not, _&&_, _||_}
 use mathlib.Core.List.{[], _∷_}
-use Prim.Native.Nat.{ℕ, suc}
+use Prim.Native.Nat.{ℕ}
+use lib.Dec.{eqb}
 use lib.Ieee.Scale.{finite}
 use Rattle.numbers.specs.Numbers.{isZero}
-use Rattle.numbers.specs.Column.{Column, entry}
+use Rattle.numbers.specs.Column.{Column}
 use Rattle.finite.specs.Finite.{allFinite}
-use Rattle.store.specs.Columns.{columns, isMatrix}
-use Rattle.store.specs.Steps.{Matrix}
+use Rattle.store.specs.Columns.{isMatrix}
+use Rattle.dead_columns.specs.Dead.{deadOf}
 use Rattle.refusals.specs.Outcome.{firstOf, tested, Call, leaving}
 use Rattle.refusals.specs.Refusals.{outside, seventh}
 use Rattle.solve.specs.declared.Pass.{Pass}
@@ -30,14 +31,9 @@ givenFinite pass = given pass finite true
 unfoldable pub numbersFinite : Pass → Column → Column → Bool
 numbersFinite pass t b = allFinite t && allFinite b && givenFinite pass
 
--- some diagonal entry from row i on is a zero of either sign, cs being the columns from column i on
-unfoldable pub zeroFrom : ℕ → Matrix → Bool
-zeroFrom i [] = false
-zeroFrom i (c ∷ cs) = isZero (entry c i) || zeroFrom (suc i) cs
-
--- refusal 6: a zero on the diagonal of the n by n matrix that t holds
+-- refusal 6: a zero of either sign on the diagonal of the n by n matrix that t holds, that is, a dead column
 unfoldable pub zeroOnDiagonal : ℕ → Column → Bool
-zeroOnDiagonal n t = isMatrix n n t && zeroFrom 0 (columns n n t)
+zeroOnDiagonal n t = not (eqb (deadOf n n t) 0)
 
 -- "where a diagonal is given, that one alone counts"
 abbrev pub zeroDivisor : Pass → ℕ → Column → Bool

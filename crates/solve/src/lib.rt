@@ -186,19 +186,7 @@ pub fn solve_in_place(pass: Pass, t: &[f64], n: usize, b: &mut [f64], k: usize)
 pub fn zero_on_diagonal(t: &[f64], n: usize) -> bool
     ensures { λ r. ⌜ r ≡ zeroOnDiagonal n (now (t .entry)) ⌝ }
 {
-    if !store::is_matrix(t, n, n) {
-        return false;
-    }
-    let mut i = 0;
-    while i < n {
-        let a = i * n;
-        let p = a + i;
-        if numbers::is_zero(t[p]) {
-            return true;
-        }
-        i += 1;
-    }
-    false
+    dead_columns::dead_of(t, n, n) != 0
 }
 
 // Whether the given diagonal is finite, where there is one.

@@ -9,7 +9,7 @@ use Rattle.adding.proofs.adding_refusal.Tie as tie
 older-requires : tie.Need-older-requires
 older-requires c κs = let at-list = c in let at-min = at-list .before in at-min .before .has-room .ensures
 
-slice-aggregate : tie.Need-slice-aggregate-all-finite-long
+slice-aggregate : tie.Need-slice-aggregate-front
 slice-aggregate c = sym (length-take-le _ _ (c .before .older .ensures .1))
 
 returns : tie.Need-returns
@@ -17,7 +17,9 @@ returns c =
     let at-three = c .before in
     let at-four = at-three .before in
     let at-five = at-four .before in
-    let at-finite = at-five .before in
+    let at-nine = at-five .before in
+    let at-dead = at-nine .before .before in
+    let at-finite = at-dead .before in
     let at-long = at-finite .before in
     let at-older = at-long .before .before in
     let at-list = at-older .before in
@@ -25,15 +27,17 @@ returns c =
     let at-room = at-min .before in
     refusal-found _ _ _ _ _ _ _ (at-room .has-room .ensures) (at-older .older .ensures .0)
     (rw (
-      at-three .first3 .ensures,
-      at-four .first2 .ensures,
-      at-five .first .ensures,
+      at-three .first4 .ensures,
+      at-four .first3 .ensures,
+      at-five .first2 .ensures,
+      at-nine .first .ensures,
+      at-dead .dead-of .ensures,
       at-finite .all-finite .ensures,
       at-long .all-finite-long .ensures,
       at-list .is-good-list .ensures,
       at-min .min .ensures,
       at-room .before .outside .ensures,
-    ) at (c .first4 .ensures))
+    ) at (c .first5 .ensures))
 
 pub adding-refusal-spec : {M : Type 1} → statement M
 adding-refusal-spec =
@@ -45,6 +49,8 @@ adding-refusal-spec =
     (λ c κs. search needs)
     older-requires
     slice-aggregate
+    (λ c κs. search needs)
+    (λ c κs. search needs)
     (λ c κs. search needs)
     (λ c κs. search needs)
     (λ c κs. search needs)

@@ -1,6 +1,6 @@
 -- What the two calls leave. Assumes nothing.
 use mathlib.Core.Path.{ap}
-use Prim.Native.Nat.{_+_}
+use Prim.Native.Nat.{ℕ, _+_}
 use borrow.Author.Needs.{needs}
 use Rattle.factors.specs.Factors.{recordOf}
 use Rattle.adding.proofs.join.Statement.{statement}
@@ -12,7 +12,7 @@ returns c =
     let at-swap = at-record .before .before .before .before in
     let g = at-swap .before .before .before .before .args in
     record {
-      told = ap (recordOf (g .told .rows) (g .told .columns + 1)) (at-record .record-swap .ensures .0);
+      told = ap (λ (k : ℕ). recordOf (g .told .rows) (g .told .columns + 1) k (g .dead)) (at-record .record-swap .ensures .0);
       rows = at-swap .swap-rows .ensures;
       pairs = at-record .record-swap .ensures .1;
     }

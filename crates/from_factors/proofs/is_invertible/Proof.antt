@@ -1,4 +1,4 @@
--- Refused by the tests, or the test of the diagonal. Assumes nothing.
+-- Refused by the tests, or the test of the number. Assumes nothing.
 use borrow.Author.Needs.{needs}
 use borrow.Author.Tests.{eq-eqb, ne-eqb}
 use Rattle.refusals.specs.Outcome.{tested}
@@ -12,7 +12,7 @@ returns c = rw (← (c .before .held-refusal .ensures), ne-eqb _ _ (c .if1 .take
 
 returns-2 : tie.Need-returns-2
 unfolding testedInverse inverseTest tested
-returns-2 c = rw (← (c .before .before .held-refusal .ensures), eq-eqb _ _ (c .before .if1 .left), (c .zero-on-diagonal .ensures))
+returns-2 c = rw (← (c .before .before .held-refusal .ensures), eq-eqb _ _ (c .before .if1 .left))
 
 pub is-invertible-spec : {M : Type 1} → statement M
 is-invertible-spec =
@@ -20,5 +20,4 @@ is-invertible-spec =
     (tie.spec
     (λ c κs. search needs)
     returns
-    (λ c κs. search needs)
     returns-2)

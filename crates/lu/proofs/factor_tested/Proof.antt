@@ -16,9 +16,13 @@ factor-in-place-requires c κs =
 
 returns : tie.Need-returns
 returns c =
-    let at-all-finite = c .before in
-    let made = at-all-finite .before .before .before .before .before .before .factor-in-place .ensures in
-    settled-accepted _ _ _ _ _ _ (made .0) _ (made .1) (sym (at-all-finite .all-finite .ensures) ∙ c .if1 .taken)
+    let past = c .before .before in
+    let at-all-finite = past .before in
+    let at-work = at-all-finite .before .before .before .before .before .before in
+    let at-clear = at-work .before .before .before .before .before in
+    let pre = at-clear .before .before .before .before .pre in
+    let made = at-work .factor-in-place .ensures in
+    settled-accepted _ _ _ _ _ _ (made .0) _ _ (made .1) (c .dead-of .ensures) (pre .0) (sym (at-all-finite .all-finite .ensures) ∙ past .if1 .taken)
 
 returns-2 : tie.Need-returns-2
 returns-2 c =
@@ -38,6 +42,7 @@ factor-tested-spec =
     (tie.spec
     (λ c κs. search needs)
     factor-in-place-requires
+    (λ c κs. search needs)
     (λ c κs. search needs)
     (λ c. search needs)
     (λ c. search needs)
