@@ -26,7 +26,7 @@ __asm__(".globl _start\n_start: and $-16,%rsp\n call start\n");
 enum { DEEP = 262144, FULL = 4096, HEAD = 6 };
 static double a[FULL], factors[FULL], result[FULL], column[64], x[64], loads[64], value;
 static bool invertible;
-static size_t swaps[128], ranks[64], pairs, dead, toss_ups, pads, answer;
+static size_t swaps[128], ranks[64], pairs, dead, toss_ups, pads, listed, answer;
 static byte file[HEAD + FULL * 8 + 64 * 8];
 
 #define APART __attribute__((noinline)) static
@@ -39,7 +39,7 @@ APART void solve(void) { answer = wejdarox_solve(factors, FULL, swaps, 128, 64, 
 APART void inverse(void) { answer = wejdarox_inverse(factors, FULL, swaps, 128, 64, 64, pairs, dead, result, FULL); __asm__ volatile(""); }
 APART void determinant(void) { answer = wejdarox_determinant(factors, FULL, swaps, 128, 64, 64, pairs, dead, &value); __asm__ volatile(""); }
 APART void is_invertible(void) { answer = wejdarox_is_invertible(factors, FULL, swaps, 128, 64, 64, pairs, dead, &invertible); __asm__ volatile(""); }
-APART void rank(void) { answer = wejdarox_rank(x, 64, 64, ranks, 64); __asm__ volatile(""); }
+APART void rank(void) { answer = wejdarox_rank(x, 64, 64, ranks, 64, &listed); __asm__ volatile(""); }
 APART void order(void) { answer = wejdarox_pad_order(file, sizeof file, ranks, loads, &pads, &toss_ups); __asm__ volatile(""); }
 
 static size_t taken(void (*call)(void)) {

@@ -296,7 +296,8 @@ size_t wejdarox_is_invertible(const double *factors, size_t factors_len, const s
  *
  *  Purpose
  *  =======
- *  The pads in the order to lift them: greatest magnitude of load first, equal magnitudes by the lower number.
+ *  The pads that carry a load, in the order to lift them: greatest magnitude of load first, equal magnitudes by the lower number. Pads whose load is a
+ *  zero of either sign are left off.
  *
  *  Arguments
  *  =========
@@ -305,8 +306,9 @@ size_t wejdarox_is_invertible(const double *factors, size_t factors_len, const s
  *  loads_len (input) the length of loads: n.
  *  n         (input) the number of pads, 1 to 64.
  *  ranks     (output) array of numbers, dimension (n)
- *            The pads' numbers, counted from 1. It may hold anything before.
+ *            The numbers of the listed pads, counted from 1, and 0 in the slots behind them. It may hold anything before.
  *  ranks_len (input) the length of ranks: n.
+ *  count     (output) the number of listed pads. Refused: 0.
  *
  *  Answer
  *  ======
@@ -316,14 +318,27 @@ size_t wejdarox_is_invertible(const double *factors, size_t factors_len, const s
  *  5  a load is not finite                               ranks as it was
  *  loads is never changed.
  */
-size_t wejdarox_rank(const double *loads, size_t loads_len, size_t n, size_t *ranks, size_t ranks_len);
+size_t wejdarox_rank(const double *loads, size_t loads_len, size_t n, size_t *ranks, size_t ranks_len, size_t *count);
+
+/*
+ * wejdarox_rank_all
+ *
+ *  Purpose
+ *  =======
+ *  The same with every pad listed, those without a load too: without them its list is that of wejdarox_rank.
+ *
+ *  Arguments and answer
+ *  ====================
+ *  As those of wejdarox_rank; where it is done, count is n.
+ */
+size_t wejdarox_rank_all(const double *loads, size_t loads_len, size_t n, size_t *ranks, size_t ranks_len, size_t *count);
 
 /*
  * wejdarox_pad_order
  *
  *  Purpose
  *  =======
- *  The whole answer for a panel file: its matrix factored, its readings solved for, the pads ranked by their loads.
+ *  The whole answer for a panel file: its matrix factored, its readings solved for, all its pads ranked by their loads.
  *
  *  Arguments
  *  =========

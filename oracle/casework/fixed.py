@@ -88,7 +88,8 @@ def table():
         ('the same, corrected',
          Case(24, 0, 2, 1, [doubles(5.0, 1.0, 5.0, 5.0), doubles(2.0), doubles(4.0, 6.0), spare(2)]),
          line(0, [hexes(doubles(2.0, 2.0))])),
-        ('loads 1, -3, 3', Case(19, 0, 3, 0, [doubles(1.0, -3.0, 3.0), array('Q', [9, 9, 9])]), line(0, ['2 3 1'])),
+        ('loads 1, -3, 3', Case(19, 0, 3, 0, [doubles(1.0, -3.0, 3.0), array('Q', [9, 9, 9])]), line(0, ['3', '2 3 1'])),
+        ('the same, all pads', Case(19, 1, 3, 0, [doubles(1.0, -3.0, 3.0), array('Q', [9, 9, 9])]), line(0, ['3', '2 3 1'])),
         ('0 rows', factoring(0, 1), size_refused(0)),
         ('0 rows, 0 columns', factoring(0, 0), size_refused(0)),
         ('65 rows', factoring(65, 1, *[1.0] * 65), size_refused(65)),
@@ -448,6 +449,14 @@ def written():
         yield writing(64, matrix, readings, room)
 
 
+def idle():
+    """Loads with zeros of either sign among them, with none and with nothing else; the least loads; with and without all pads."""
+    least = 2.0 ** -1074
+    for all_pads in (0, 1, 2, 2 ** 32, 2 ** 63, 2 ** 64 - 1):
+        for loads in ((0.0, 1.0, -0.0), (0.0,), (-0.0,), (least,), (-least, 0.0), (-0.0, 0.0, 0.0, -0.0), (0.0, least, -0.0, -least), (2.0, 0.0, -2.0, -0.0, 2.0)):
+            yield Case(19, all_pads, len(loads), 0, [doubles(*loads), array('Q', range(7, 7 + len(loads)))])
+
+
 def files():
     """Panel files, whole and damaged one way at a time."""
     whole = panel(2, doubles(4.0, 1.0, 2.0, 8.0, 5.0, -8.0))
@@ -467,6 +476,7 @@ def files():
     yield panel(3, doubles(0.0, 0.0, 0.0, 0.0, 2.0 ** -1024, 0.0, 0.0, 0.0, 1.0, 5.0, 8.0, 1.0))     # factoring's 7 before the solve's 6
     yield panel(1, doubles(2.0 ** -1000, 2.0 ** 100))                                 # the solve's 7
     yield panel(1, doubles(2.0 ** -1024, 0.0))
+    yield panel(3, doubles(1.0, 0.0, 0.0, 0.0, 1.0, 0.0, 0.0, 0.0, 1.0, 0.0, 5.0, -0.0))    # idle pads, each with its line
     r = random.Random('63 pads')
     yield panel(63, floats.unit(r, 63 * 64))
     whole = panel(64, floats.unit(r, 64 * 65))                                        # 33,286 bytes, the longest good file
@@ -549,7 +559,7 @@ def fixed():
             yield done(good(op))
             for bad in faults_of(good(op)):
                 yield done(bad)
-    for case in written():
+    for case in (*idle(), *written()):
         yield done(case)
     yield from largest()
 

@@ -10,7 +10,7 @@ from .wire import Case, FLOATS, HELD, LONGEST, OPS, hexes, unhex
 
 # how often each op comes in a round
 TURNS = {1: 4, 2: 4, 3: 3, 4: 2, 5: 2, 6: 2, 7: 4, 8: 4, 9: 2, 10: 2, 11: 2, 12: 3, 13: 3,
-         14: 4, 15: 4, 16: 4, 17: 4, 18: 2, 19: 1, 20: 2, 21: 2, 22: 4, 23: 2, 24: 2, 25: 3, 26: 2, 35: 4}
+         14: 4, 15: 4, 16: 4, 17: 4, 18: 2, 19: 2, 20: 2, 21: 2, 22: 4, 23: 2, 24: 2, 25: 3, 26: 2, 35: 4}
 ROUND = [(op, turn) for turn in range(max(TURNS.values())) for op in TURNS if turn < TURNS[op]]
 
 JUNK = [0, 1, 63, 64, 65, 255, 2 ** 32, 2 ** 63, 2 ** 64 - 1]
@@ -152,8 +152,15 @@ def make_append(r, op, m, n):
 
 def make_rank(r, op, n, k):
     n = r.choice((n, r.randint(1, MOST)))
-    return Case(op, 0, n, 0, [floats.numbers(r, n), array('Q', r.choices(JUNK, k=n))])
+    return Case(op, r.choice((0, 0, 1, r.choice(JUNK))), n, 0, [with_idle(r, floats.numbers(r, n)), array('Q', r.choices(JUNK, k=n))])
     yield
+
+
+def with_idle(r, loads):
+    """Half of the time some loads become zeros of either sign, now and then all."""
+    for pad in r.sample(range(len(loads)), r.choice((0, 0, 0, 1, r.randint(0, len(loads)), len(loads)))):
+        loads[pad] = r.choice((0.0, -0.0))
+    return loads
 
 
 def panel(n, numbers):

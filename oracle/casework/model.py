@@ -438,9 +438,9 @@ def append(m, n, k, swaps, count, two):
     return [p + 1], swaps[:2 * p] + [i, j] + swaps[2 * p + 2:]
 
 
-def order(loads):
-    """Picks the greatest magnitude that is left, the lowest number first."""
-    left = list(range(len(loads)))
+def order(loads, pads):
+    """Of these pads, counted from 0, picks the greatest magnitude that is left, the lowest number first."""
+    left = list(pads)
     out = []
     while left:
         best = left[0]
@@ -456,7 +456,9 @@ def rank(m, n, k, loads, out0):
     size(n, 1)
     length(loads, n), length(out0, n)
     numbers(loads)
-    return order(loads),
+    listed = order(loads, [pad for pad in range(n) if m or loads[pad] != 0.0])
+    out = listed + [0] * (n - len(listed))
+    return [len(listed)], out
 
 
 def read_panel(k, items):
@@ -485,7 +487,7 @@ def panel_file(m, n, k, items):
     loads = values[pads * pads:]
     solved(pads, t, pairs, [loads])
     overflow(loads)
-    return f'pads {pads}\n' + ''.join(f'{pad} {text([loads[pad - 1]])}\n' for pad in order(loads)),
+    return f'pads {pads}\n' + ''.join(f'{pad} {text([loads[pad - 1]])}\n' for pad in order(loads, range(pads))),
 
 
 def write_file(m, n, k, matrix, readings, items):
@@ -555,7 +557,7 @@ CALLS = {
     12: (triangular(transposed_lower), last_left), 13: (triangular(transposed_upper), last_left),
     14: (permute(False, False), last_left), 15: (permute(False, True), last_left),
     16: (permute(True, False), last_left), 17: (permute(True, True), last_left),
-    18: (append, lambda number, m, n, k, swaps, count, two: (count, swaps)), 19: (rank, last_left),
+    18: (append, lambda number, m, n, k, swaps, count, two: (count, swaps)), 19: (rank, lambda number, *case: ('-', case[-1])),
     20: (panel_file, lambda number, *case: (f'refused {number}\n',)), 21: (write_file, write_left),
     22: (remove, lambda number, m, n, k, store, swaps, told: (told[:1], store, swaps, told[1:])),
     23: (search, None), 24: (given_diagonal(corrected), last_left), 25: (solving(transposed_solved), last_left),

@@ -331,11 +331,14 @@ def rank_tests(c):
 
 
 def rank_left(c):
-    return [words(c.slices[1])]
+    return ['-', words(c.slices[1])]
 
 
 def rank_made(c):
-    return 0, [words(ranks(c.slices[0]))]
+    """All pads, or for m = 0 those whose load is not zero (document 02, request 9); the slots after them are 0."""
+    loads, _ = c.slices
+    listed = [pad for pad in ranks(loads) if c.m != 0 or loads[pad - 1] != 0.0]
+    return 0, [str(len(listed)), words(listed + [0] * (c.n - len(listed)))]
     yield       # a generator that asks nothing
 
 

@@ -42,7 +42,7 @@ OPS = {
     16: Op('permute columns', 'mn', 'swaps', 'pairs', 'matrix'),
     17: Op('permute columns in reverse', 'mn', 'swaps', 'pairs', 'matrix'),
     18: Op('append to a swap list', 'm', 'swaps', 'pairs', 'two numbers'),
-    19: Op('rank', 'n', 'loads', 'ranks0'),
+    19: Op('rank', 'mn', 'loads', 'ranks0'),
     20: Op('panel file', 'k', 'file'),
     21: Op('write a panel file', 'nk', 'matrix', 'readings', 'lent bytes'),
     22: Op('remove the last column', 'mn', 'store', 'swaps', 'pairs'),

@@ -79,7 +79,8 @@ mod c {
             dead: usize,
             invertible: *mut bool,
         ) -> usize;
-        pub fn wejdarox_rank(loads: *const f64, loads_len: usize, n: usize, ranks: *mut usize, ranks_len: usize) -> usize;
+        pub fn wejdarox_rank(loads: *const f64, loads_len: usize, n: usize, ranks: *mut usize, ranks_len: usize, count: *mut usize) -> usize;
+        pub fn wejdarox_rank_all(loads: *const f64, loads_len: usize, n: usize, ranks: *mut usize, ranks_len: usize, count: *mut usize) -> usize;
         pub fn wejdarox_pad_order(file: *const u8, file_len: usize, ranks: *mut usize, loads: *mut f64, pads: *mut usize, toss_ups: *mut usize) -> usize;
     }
 }
@@ -137,8 +138,12 @@ pub(crate) fn is_invertible(held: Held, invertible: &mut bool) -> usize {
     unsafe { c::wejdarox_is_invertible(f.as_ptr(), f.len(), s.as_ptr(), s.len(), m, n, pairs, dead, invertible) }
 }
 
-pub(crate) fn rank(loads: &[f64], n: usize, ranks: &mut [usize]) -> usize {
-    unsafe { c::wejdarox_rank(loads.as_ptr(), loads.len(), n, ranks.as_mut_ptr(), ranks.len()) }
+pub(crate) fn rank(loads: &[f64], n: usize, ranks: &mut [usize], count: &mut usize) -> usize {
+    unsafe { c::wejdarox_rank(loads.as_ptr(), loads.len(), n, ranks.as_mut_ptr(), ranks.len(), count) }
+}
+
+pub(crate) fn rank_all(loads: &[f64], n: usize, ranks: &mut [usize], count: &mut usize) -> usize {
+    unsafe { c::wejdarox_rank_all(loads.as_ptr(), loads.len(), n, ranks.as_mut_ptr(), ranks.len(), count) }
 }
 
 pub(crate) fn pad_order(file: &[u8], ranks: &mut [usize; 64], loads: &mut [f64; 64], pads: &mut usize, toss_ups: &mut usize) -> usize {

@@ -194,10 +194,22 @@ impl Lu {
     }
 }
 
-/// The pads' numbers, counted from 1, in the order to lift them: greatest magnitude of load first, equal magnitudes by the lower number. Refusals: 1, 5.
+/// The numbers of the pads that carry a load, counted from 1, in the order to lift them: greatest magnitude of load first, equal magnitudes by the lower
+/// number. A pad whose load is a zero of either sign is left off. Refusals: 1, 5.
 pub fn rank(loads: &[f64]) -> Result<Vec<usize>, Refusal> {
-    let mut ranks = vec![0; loads.len().min(MOST)];
-    Refusal::told(calls::rank(loads, loads.len(), &mut ranks))?;
+    listed(calls::rank, loads)
+}
+
+/// The numbers of all pads, in the same order. Refusals: 1, 5.
+pub fn rank_all(loads: &[f64]) -> Result<Vec<usize>, Refusal> {
+    listed(calls::rank_all, loads)
+}
+
+/// The pads that one of the two calls lists, without the slots behind them.
+fn listed(call: fn(&[f64], usize, &mut [usize], &mut usize) -> usize, loads: &[f64]) -> Result<Vec<usize>, Refusal> {
+    let (mut ranks, mut count) = (vec![0; loads.len().min(MOST)], 0);
+    Refusal::told(call(loads, loads.len(), &mut ranks, &mut count))?;
+    ranks.truncate(count);
     Ok(ranks)
 }
 

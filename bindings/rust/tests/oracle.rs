@@ -3,7 +3,7 @@ use std::fs;
 use std::io::Write;
 use std::path::{Path, PathBuf};
 use std::process::{Command, Stdio};
-use wejdarox::{pad_order, rank, Lu, Pad, PadOrder, Refusal};
+use wejdarox::{pad_order, rank, rank_all, Lu, Pad, PadOrder, Refusal};
 
 // ---- random inputs, the same in every run
 
@@ -238,10 +238,18 @@ fn ranking() {
     for _ in 0..2000 {
         let n = 1 + random.below(64);
         let kind = random.below(6);
-        let loads = random.numbers(n, kind);
+        let mut loads = random.numbers(n, kind);
+        for load in loads.iter_mut() {
+            // some pads are idle
+            if random.below(4) == 0 {
+                *load = [0.0, -0.0][random.below(2)];
+            }
+        }
         let mut pads: Vec<usize> = (1..=n).collect();
         // a stable sort: equal magnitudes stay by number
         pads.sort_by(|p, q| loads[q - 1].abs().total_cmp(&loads[p - 1].abs()));
+        assert_eq!(rank_all(&loads), Ok(pads.clone()));
+        pads.retain(|pad| loads[pad - 1] != 0.0);
         assert_eq!(rank(&loads), Ok(pads));
     }
 }
@@ -261,7 +269,7 @@ fn panel_files() {
         let parts = || -> Result<PadOrder, Refusal> {
             let lu = Lu::factor(&a, n, n)?;
             let loads = lu.solve(&b, 1)?;
-            let pads = rank(&loads)?.into_iter().map(|number| Pad { number, load: loads[number - 1] }).collect();
+            let pads = rank_all(&loads)?.into_iter().map(|number| Pad { number, load: loads[number - 1] }).collect();
             Ok(PadOrder { pads, toss_ups: lu.toss_ups() })
         };
         let whole = file(n, &a, &b);

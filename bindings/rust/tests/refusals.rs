@@ -1,5 +1,5 @@
 //! Every refusal, with sizes and lengths that are anything; and a refused call leaves the type as it was.
-use wejdarox::{pad_order, rank, Lu, Refusal};
+use wejdarox::{pad_order, rank, rank_all, Lu, Refusal};
 
 /// All that can be seen of factors.
 fn seen(lu: &Lu) -> ([usize; 4], Vec<u64>, Vec<(usize, usize)>) {
@@ -42,8 +42,10 @@ fn sizes_and_lengths() {
             assert_eq!(refused(lu.solve(&large[..length], k)), wanted, "{k} right-hand columns of {length}");
         }
     }
-    assert_eq!(refused(rank(&[])), 1);
-    assert_eq!(refused(rank(&large)), 1);
+    for ranks in [rank, rank_all] {
+        assert_eq!(refused(ranks(&[])), 1);
+        assert_eq!(refused(ranks(&large)), 1);
+    }
 }
 
 #[test]
@@ -64,6 +66,7 @@ fn not_finite() {
         assert_eq!(refused(Lu::factor(&[1.0, x], 2, 1)), 5);
         assert_eq!(refused(lu.solve(&[x], 1)), 5);
         assert_eq!(refused(rank(&[0.0, x])), 5);
+        assert_eq!(refused(rank_all(&[0.0, x])), 5);
         assert_eq!(refused(Lu::factor(&[1.0, 1.0], 2, 1).expect("finite").add_column(&[x, 1.0])), 5);
     }
 }

@@ -185,7 +185,7 @@ fn rank_loads(
             pads: n,
             toss_ups: tossed,
         } => {
-            ranking::rank(&loads[..n], n, &mut ranks[..n]);
+            ranking::rank_all(&loads[..n], n, &mut ranks[..n]);
             Order::Pads {
                 pads: n,
                 toss_ups: tossed,

@@ -1,11 +1,12 @@
 -- What a call's answer tells, case by case: the refusal's number and each number that is written through a pointer. Assumes nothing.
 use mathlib.Core.Path.{_≡_, refl, sym, ap, _∙_}
 use mathlib.Core.Bool.{Bool}
+use mathlib.Core.List.{List}
 use Prim.Native.Nat.{ℕ}
 use borrow.Author.Tests.{eq-eqb, ne-eqb}
 use lib.Ieee.{Float}
 use Rattle.numbers.specs.Numbers.{zero64}
-use Rattle.refusals.specs.Outcome.{Outcome, numberOf}
+use Rattle.refusals.specs.Outcome.{Outcome, numberOf, Call}
 use Rattle.factors.specs.declared.Record.{Record}
 use Rattle.factors.specs.Factors.{recordAfter}
 use Rattle.lu.specs.declared.Factored.{Factored}
@@ -20,10 +21,12 @@ use Rattle.from_factors.specs.declared.Det.the-variants.{Number, Refused as NoN
 use Rattle.from_factors.specs.declared.Invertible.{Invertible}
 use Rattle.from_factors.specs.declared.Invertible.the-variants.{Is, Refused as NotTested}
 use Rattle.from_factors.specs.Determinant.{determined, testedInverse}
+use Rattle.ranking.specs.declared.Listed.{Listed}
+use Rattle.ranking.specs.Ranking.{padsListed}
 use Rattle.crossing.specs.declared.Order.{Order}
 use Rattle.crossing.specs.declared.Order.the-variants.{Pads, Refused as NoPads}
 use Rattle.crossing.specs.Ordering.{padsOrdered}
-use Rattle.ffi.specs.Exports.{valueAfter, resultAfter, padsIn}
+use Rattle.ffi.specs.Exports.{valueAfter, resultAfter, padsIn, countIn}
 
 -- ---- factoring, whose outcome with its toss-ups is o
 module _ (made : Factored) (o : Outcome (Record × ℕ)) (e : factored made ≡ o) where
@@ -87,3 +90,9 @@ module _ (made : Order) (o : Outcome (ℕ × ℕ)) (e : padsOrdered made ≡ o) 
   pub no-pads-told : (number : ℕ) → made ≡ NoPads number → (number ≡ numberOf o) × ((0 ≡ padsIn o) × (0 ≡ tossedIn o))
   unfolding padsOrdered numberOf padsIn tossedIn
   no-pads-told number is = rw (sym e ∙ ap padsOrdered is) (refl, (refl, refl))
+
+-- ---- a ranking's answer, told by its number and its count
+pub ranks-told : (o : Call ℕ (List ℕ)) (answer : Listed) (s : List ℕ) → (padsListed answer ≡ o .answer) × (s ≡ o .left) → (number count : ℕ)
+    → (number ≡ numberOf (padsListed answer)) × (count ≡ countIn (padsListed answer))
+    → (number ≡ numberOf (o .answer)) × ((s ≡ o .left) × (count ≡ countIn (o .answer)))
+ranks-told o answer s call number count told = (told .0 ∙ ap numberOf (call .0), (call .1, told .1 ∙ ap countIn (call .0)))

@@ -1,7 +1,7 @@
 -- Two wrong programs for each call of `ffi`: all that always give the same, and one that makes an error of this layer, named at each call. Shown at refused
 -- inputs, where nothing has to be computed, and for a panel file at one of no numbers; what the meanings shut out besides is in the theorems of the calls that
 -- are handed on to. Assumes nothing.
-use mathlib.Core.Path.{_≡_, sym, ap, _∙_}
+use mathlib.Core.Path.{_≡_, sym, ap}
 use mathlib.Core.Bool.{Bool, true, false, false≢true}
 use mathlib.Core.List.{List, [], _∷_}
 use Prim.Native.Nat.{ℕ}
@@ -10,10 +10,10 @@ use lib.ListN.{replicate}
 use lib.Ieee.{Float}
 use Rattle.numbers.specs.Column.{Column, zeros}
 use Rattle.store.specs.Columns.{isMatrix}
-use Rattle.refusals.specs.Outcome.{Outcome, refused, numberOf, firstOf, tested, andThen, Call}
+use Rattle.refusals.specs.Outcome.{Outcome, numberOf, firstOf, tested, andThen, Call}
 use Rattle.refusals.specs.Refusals.{outside}
-use Rattle.refusals.proofs.Strength.{ShutsOut, shut-out, Strong, strong, TwoShutOut, two}
-use Rattle.ranking.specs.Ranking.{rankingRefusal, ranking}
+use Rattle.refusals.proofs.Strength.{ShutsOut, shut-out, TwoShutOut, two}
+use Rattle.ranking.specs.Ranking.{Choice, loaded, everyPad, rankingRefusal, ranking}
 use Rattle.factors.specs.declared.Record.{Record}
 use Rattle.factors.specs.Factors.{recordOf, Slices, recordAfter}
 use Rattle.factors.specs.Held.{heldRefusal}
@@ -26,14 +26,14 @@ use Rattle.panel_file.specs.File.{littleEndian, fieldAt, headed, padsOf}
 use Rattle.panel_file.specs.Reading.{fileTests, fileRefusal}
 use Rattle.crossing.specs.Factors.{factorsIn, settledIn}
 use Rattle.crossing.specs.Ordering.{loadsOf, ranksLeft, Ranks, ordering}
-use Rattle.ffi.specs.Exports.{valueAfter, resultAfter, padsIn}
+use Rattle.ffi.specs.Exports.{valueAfter, resultAfter, padsIn, countIn}
 
 -- a name for all that has to unfold for a call to be refused
 refuses : Type 0
 unfolding isMatrix numberOf firstOf outside tested andThen rankingRefusal ranking recordAfter heldRefusal factoringRefusal factoring withTossUps factoringAnswer
     pairsIn deadColumnsIn tossedIn addingRefusal adding addingAnswer solving inverting producing determining inverseTest littleEndian fieldAt headed fileTests fileRefusal
     factorsIn
-    settledIn loadsOf ranksLeft ordering valueAfter resultAfter padsIn
+    settledIn loadsOf ranksLeft ordering valueAfter resultAfter padsIn countIn
 refuses = Unit {0}
 
 -- ---- factoring and adding
@@ -170,15 +170,31 @@ wejdarox-is-invertible =
     two tests denied (noSizes, ([], ([], true))) (noSizes, ([], ([], true))) (oneByOne, ([], ([], true)))
     (λ d. false≢true (sym (ap (λ (o : ℕ × Bool). o .1) d))) (λ d. omega (arith, ap (λ (o : ℕ × Bool). o .0) d))
 
--- ---- the ranking: never a refusal
-abbrev ranks : ℕ × (Column × List ℕ) → ℕ × List ℕ
-ranks x = let o = ranking (x .0) (x .1 .0) (x .1 .1) in (numberOf (o .answer), o .left)
+-- ---- the ranking, of any choice of pads: the size told as their number, also where it is refused
+pub record Counted : Type 0 where
+  pub number : ℕ
+  pub count : ℕ
+  pub left : List ℕ
 
-pub wejdarox-rank : Strong ranks ((made : ℕ × (Column × List ℕ) → List ℕ) → ShutsOut ranks (λ x. (0, made x)))
-unfolding refuses
-wejdarox-rank =
-    strong ranks (0, ([], [])) (1, ([], [])) (λ d. omega (arith, ap (λ (o : ℕ × List ℕ). o .0) d))
-    (λ made. shut-out ranks (λ x. (0, made x)) (0, ([], [])) (λ d. omega (arith, ap (λ (o : ℕ × List ℕ). o .0) d)))
+module _ (choice : Column → Choice) where
+  abbrev ranks : ℕ × (Column × List ℕ) → Counted
+  ranks x =
+      let o = ranking (choice (x .1 .0)) (x .0) (x .1 .0) (x .1 .1) in record { number = numberOf (o .answer); count = countIn (o .answer); left = o .left }
+
+  abbrev sizeTold : ℕ × (Column × List ℕ) → Counted
+  sizeTold x = record { number = ranks x .number; count = x .0; left = ranks x .left }
+
+  ranks-strong : TwoShutOut ranks sizeTold
+  unfolding refuses
+  ranks-strong =
+      two ranks sizeTold (1, ([], [])) (0, ([], [])) (1, ([], [])) (λ d. omega (arith, ap (λ (o : Counted). o .count) d))
+      (λ d. omega (arith, ap (λ (o : Counted). o .number) d))
+
+pub wejdarox-rank : TwoShutOut (ranks loaded) (sizeTold loaded)
+wejdarox-rank = ranks-strong loaded
+
+pub wejdarox-rank-all : TwoShutOut (ranks (λ _. everyPad)) (sizeTold (λ _. everyPad))
+wejdarox-rank-all = ranks-strong (λ _. everyPad)
 
 -- ---- a panel file, with slices of 64: the number of pads in its head, also where it is refused; `LXP`, version 1, one pad and no numbers is 3
 pub record Ordered : Type 0 where

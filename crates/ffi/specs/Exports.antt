@@ -20,3 +20,8 @@ resultAfter (refused number) was = cond (eqb number 7) zero64 was
 unfoldable pub padsIn : Outcome (ℕ × ℕ) → ℕ
 padsIn (done t) = t .0
 padsIn (refused number) = 0
+
+-- the number of listed pads; refused, there are none
+unfoldable pub countIn : Outcome ℕ → ℕ
+countIn (done count) = count
+countIn (refused number) = 0

@@ -2,20 +2,21 @@
 // written through a pointer. Each hands its arguments on and adds nothing of its own; include/wejdarox.h is the caller's side.
 ghost use mathlib.Core.Path.{_≡_};
 ghost use Rattle.refusals.specs.Outcome.{numberOf};
-ghost use Rattle.ranking.specs.Ranking.{ranking};
+ghost use Rattle.ranking.specs.Ranking.{loaded, everyPad, ranking, padsListed};
 ghost use Rattle.factors.specs.Factors.{recordOf, recordAfter};
 ghost use Rattle.lu.specs.Factoring.{factoring, factoringAnswer, pairsIn, deadColumnsIn, tossedIn};
 ghost use Rattle.adding.specs.Adding.{adding, addingAnswer};
 ghost use Rattle.from_factors.specs.Solving.{solving, inverting};
 ghost use Rattle.from_factors.specs.Determinant.{determining, inverseTest};
 ghost use Rattle.crossing.specs.Ordering.{ordering};
-ghost use Rattle.ffi.specs.Exports.{valueAfter, resultAfter, padsIn};
+ghost use Rattle.ffi.specs.Exports.{valueAfter, resultAfter, padsIn, countIn};
 use adding::Added;
 use crossing::Order;
 use factors::Record;
 use from_factors::Det;
 use from_factors::Invertible;
 use lu::Factored;
+use ranking::Listed;
 
 // Factors the m by n matrix a. Refused: no pairs, no dead columns and no toss-ups.
 #[no_mangle]
@@ -218,13 +219,51 @@ pub extern "C" fn wejdarox_is_invertible(
     }
 }
 
-// Ranks the n loads.
-#[no_mangle]
-pub extern "C" fn wejdarox_rank(loads: &[f64], n: usize, ranks: &mut [usize]) -> usize
-    ensures { λ r. ⌜ r ≡ numberOf (ranking n (now (loads .entry)) (now (ranks .entry)) .answer) ⌝ }
-    ensures { λ _. ⌜ now (ranks .exit) ≡ ranking n (now (loads .entry)) (now (ranks .entry)) .left ⌝ }
+// The number of listed pads through count, 0 where the ranking was refused. Answers the refusal's number.
+fn tell_count(answer: Listed, count: &mut usize) -> usize
+    ensures { λ r. ⌜ r ≡ numberOf (padsListed answer) ⌝ }
+    ensures { λ _. ⌜ now (count .exit) ≡ countIn (padsListed answer) ⌝ }
 {
-    refusals::number_of(ranking::rank(loads, n, ranks))
+    match answer {
+        Listed::Pads(listed) => {
+            *count = listed;
+            0
+        }
+        Listed::Refused(number) => {
+            *count = 0;
+            number
+        }
+    }
+}
+
+// Ranks those of the n loads that are not zero, their number through count. Refused: none.
+#[no_mangle]
+pub extern "C" fn wejdarox_rank(
+    loads: &[f64],
+    n: usize,
+    ranks: &mut [usize],
+    count: &mut usize,
+) -> usize
+    ensures { λ r. ⌜ r ≡ numberOf (ranking (loaded (now (loads .entry))) n (now (loads .entry)) (now (ranks .entry)) .answer) ⌝ }
+    ensures { λ _. ⌜ now (ranks .exit) ≡ ranking (loaded (now (loads .entry))) n (now (loads .entry)) (now (ranks .entry)) .left ⌝ }
+    ensures { λ _. ⌜ now (count .exit) ≡ countIn (ranking (loaded (now (loads .entry))) n (now (loads .entry)) (now (ranks .entry)) .answer) ⌝ }
+{
+    tell_count(ranking::rank(loads, n, ranks), count)
+}
+
+// Ranks all of the n loads. Refused: none.
+#[no_mangle]
+pub extern "C" fn wejdarox_rank_all(
+    loads: &[f64],
+    n: usize,
+    ranks: &mut [usize],
+    count: &mut usize,
+) -> usize
+    ensures { λ r. ⌜ r ≡ numberOf (ranking everyPad n (now (loads .entry)) (now (ranks .entry)) .answer) ⌝ }
+    ensures { λ _. ⌜ now (ranks .exit) ≡ ranking everyPad n (now (loads .entry)) (now (ranks .entry)) .left ⌝ }
+    ensures { λ _. ⌜ now (count .exit) ≡ countIn (ranking everyPad n (now (loads .entry)) (now (ranks .entry)) .answer) ⌝ }
+{
+    tell_count(ranking::rank_all(loads, n, ranks), count)
 }
 
 // The whole answer for a panel file, its number of pads through pads and of toss-ups through toss_ups. Refused: no pads and no toss-ups.

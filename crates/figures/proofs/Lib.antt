@@ -1,5 +1,6 @@
 pub mod Table
 pub mod WrongAnswers
+pub mod WrongRankings
 pub mod WrongColumns
 pub mod WrongFiles
 pub mod WrongSwaps

@@ -1,13 +1,12 @@
--- Two wrong programs for each call on factors beside factoring, adding and removing, for the triangular solves and for the ranking: one that always refuses,
--- one that leaves its slice as it was (for an answer of one number or truth: one that always gives the same). No program that meets the contract does what
--- they do, shown at a concrete input. Assumes nothing.
+-- Two wrong programs for each call on factors beside factoring, adding and removing, and for the triangular solves: one that always refuses, one that leaves
+-- its slice as it was (for an answer of one number or truth: one that always gives the same). No program that meets the contract does what they do, shown at a
+-- concrete input. Assumes nothing.
 use mathlib.Core.Path.{_≡_, refl, sym, ap, _∙_}
 use mathlib.Core.Bool.{Bool, true, false}
 use mathlib.Core.List.{List, [], _∷_}
 use Prim.Native.Nat.{ℕ}
 use native.Mathlib.Omega.{arith}
-use lib.IntN.{pos}
-use lib.Ieee.{Float, fin, add, sub, mul, div, neg, eq, ofBits}
+use lib.Ieee.{Float, add, sub, mul, div, neg, eq, ofBits}
 use Rattle.numbers.specs.Each.{eachFrom, turnsFrom}
 use Rattle.numbers.specs.Numbers.{isZero}
 use Rattle.numbers.specs.Column.{Column, entry, zeros}
@@ -25,8 +24,6 @@ use Rattle.solve.specs.declared.Pass.the-variants.{Lower, Upper, GivenDiagonal,
 use Rattle.solve.specs.Triangular.{lowerRow, upperRow, keptRow, transposedLowerRow, transposedUpperRow, solvedRow, turn, solvedColumn, solvedFrom}
 use Rattle.solve.specs.Triangular.{solvedInPlace}
 use Rattle.solve.specs.Calls.{sizesOutside, lengthsFit, numbersFinite, zeroOnDiagonal, refusalOf, solving}
-use Rattle.ranking.specs.Ranking.{ranking}
-use Rattle.ranking.proofs.Figures.{one-three-three}
 use Rattle.factors.specs.declared.Asks.{Asks}
 use Rattle.factors.specs.declared.Record.{Record}
 use Rattle.lu.specs.Factoring.{factoringAnswer, factoring}
@@ -268,15 +265,3 @@ adds x = (addingAnswer (x .0) (x .1 .0) (x .1 .1 .0) (x .1 .1 .1), adding (x .0)
 
 pub add-column : OneOutcome adds
 add-column = one-outcome adds
-
--- ---- the ranking: the same always; and the slice left as it was
-
-abbrev ranksBy : ℕ × (Column × List ℕ) → Call (Unit {0}) (List ℕ)
-ranksBy x = ranking (x .0) (x .1 .0) (x .1 .1)
-
--- loads 1, -3, 3
-abbrev three : ℕ × (Column × List ℕ)
-three = (3, (n1 ∷ fin true 3 (pos 0) ∷ fin false 3 (pos 0) ∷ [], 0 ∷ 0 ∷ 0 ∷ []))
-
-pub rank : BothShutOut ranksBy (λ x. x .1 .1)
-rank = both ranksBy (λ x. x .1 .1) three one-three-three (λ d. let z : _≡_ {A = ℕ} 0 2 = cc in omega arith)

@@ -14,18 +14,18 @@ use Rattle.solve.specs.declared.Pass.the-variants.{GivenDiagonal, TransposedLow
 use Rattle.solve.specs.Calls.{solving as solvingTriangle}
 use Rattle.factors.specs.Factors.{storeOf, recordOf, slices, Factoring}
 use Rattle.adding.specs.Adding.{adding}
-use Rattle.ranking.specs.Ranking.{ranking}
+use Rattle.ranking.specs.Ranking.{loaded, ranking}
 use Rattle.from_factors.specs.Solving.{solving}
 use Rattle.from_factors.specs.Determinant.{determining, inverseTest}
 use Rattle.from_factors.proofs.Figures.{ones, fresh, toldIn, leaves, n0, n1, n2, n4, n5, n8}
 
--- what a call gives: factors, a slice of numbers, the determinant, the truth, the ranks
+-- what a call gives: factors, a slice of numbers, the determinant, the truth, the listed pads
 pub data Shown : Type 0 where
   factors : Factoring → Shown
   numbers : Call (Unit {0}) Column → Shown
   determinant : Outcome Float → Shown
   invertible : Outcome Bool → Shown
-  ranks : Call (Unit {0}) (List ℕ) → Shown
+  ranks : Call ℕ (List ℕ) → Shown
 
 -- ---- numbers, each written in its one way: an odd number times a power of two
 
@@ -80,6 +80,10 @@ addedTo m a c = let o = fresh m 1 a in factors (adding (toldIn m 1 o) (o .left .
 abbrev solvedBy : Pass → Column → Column → Shown
 solvedBy pass t b = numbers (solvingTriangle pass 2 1 t b (ones 2))
 
+-- the pads of these loads, in slots of ones
+abbrev ranked : Column → Shown
+ranked loads = let n = length loads in ranks (ranking (loaded loads) n loads (replicate n 1))
+
 -- ---- what the document gives: packed factors with their swaps, of which so many columns are dead (document 02, request 7), or 7 with +0.0 and a swap store
 -- of zeros
 
@@ -129,5 +133,5 @@ marked =
     ∷ (solvedBy (GivenDiagonal n2) (n0 ∷ n1 ∷ n0 ∷ n0 ∷ []) (n4 ∷ n6 ∷ []), numbers (leaves (n4 ∷ n4 ∷ [])))
     ∷ (solvedBy (CorrectedDiagonal n2) (n0 ∷ n1 ∷ n0 ∷ n0 ∷ []) (n4 ∷ n6 ∷ []), numbers (leaves (n2 ∷ n2 ∷ [])))
     -- "loads 1, -3, 3": "pads 2, 3, 1"
-    ∷ (ranks (ranking 3 (n1 ∷ -n3 ∷ n3 ∷ []) (replicate 3 1)), ranks (record { answer = done tt; left = 2 ∷ 3 ∷ 1 ∷ [] }))
+    ∷ (ranked (n1 ∷ -n3 ∷ n3 ∷ []), ranks (record { answer = done 3; left = 2 ∷ 3 ∷ 1 ∷ [] }))
     ∷ []

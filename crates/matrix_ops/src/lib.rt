@@ -5,6 +5,7 @@ use lines::Line;
 use lines::NO;
 use lines::Parts;
 use permutation_sequence::Appended;
+use ranking::Listed;
 use refusals::Answer;
 
 // The line of a call whose result is x.
@@ -61,16 +62,21 @@ fn append(case: Case, swaps: &mut [usize]) -> Line {
     }
 }
 
-// Op 19.
-fn rank(case: Case, a: &[f64], swaps: &mut [usize]) -> Line {
-    let answer = ranking::rank(a, case.n, swaps);
-    lines::line_of(
-        refusals::number_of(answer),
-        Parts(b's', NO, NO, NO, NO),
-        0,
-        0,
-        0,
-    )
+// Op 19: all pads, or for m = 0 those whose load is not zero.
+fn rank(case: Case, a: &[f64], swaps: &mut [usize]) -> Listed {
+    if case.m == 0 {
+        ranking::rank(a, case.n, swaps)
+    } else {
+        ranking::rank_all(a, case.n, swaps)
+    }
+}
+
+// The line of op 19: the number of listed pads, ranks.
+fn ranked_line(answer: Listed) -> Line {
+    match answer {
+        Listed::Pads(count) => lines::line_of(0, Parts(b'1', b's', NO, NO, NO), count, 0, 0),
+        Listed::Refused(number) => lines::line_of(number, Parts(b'-', b's', NO, NO, NO), 0, 0, 0),
+    }
 }
 
 // Op 23.
@@ -92,7 +98,7 @@ pub fn run(case: Case, a: &[f64], b: &[f64], x: &mut [f64], swaps: &mut [usize])
         9..=13 | 24 => result_line(of_triangle(case, a, b, x)),
         14..=17 => result_line(permuted(case, swaps, x)),
         18 => append(case, swaps),
-        19 => rank(case, a, swaps),
+        19 => ranked_line(rank(case, a, swaps)),
         _ => find_pivot(case, a),
     }
 }

@@ -13,7 +13,8 @@ use Rattle.numbers.specs.Column.{Column, zeros}
 use Rattle.finite.specs.Finite.{allFinite}
 use Rattle.refusals.specs.Outcome.{Outcome, done, Call}
 use Rattle.ranking.specs.Ranking.{IsPad, ranked, padsTo}
-use Rattle.ranking.proofs.Inserting.{length-ranked, pads-held}
+use Rattle.ranking.proofs.Inserting.{every-in-front, length-ranked, ranked-every}
+use Rattle.ranking.proofs.Listing.{length-pads, pads-every}
 use Rattle.panel_file.specs.File.{padsOf}
 use Rattle.refusals.proofs.Cases.{then-done}
 use Rattle.crossing.specs.declared.Order.{Order}
@@ -64,12 +65,16 @@ module _ (bytes : List ℕ) (made : Order) (m : padsOrdered made ≡ ordering by
       ∙ ap (λ (k : ℕ). ranked (s .x) (padsTo k) ++ drop k (replicate 64 0)) (sym (s .pads)) in
       let lengths : length ranks ≡ length (ranked (s .x) (padsTo n)) + length (drop n (replicate {A = ℕ} 64 0)) =
       ap length is ∙ length-append (ranked (s .x) (padsTo n)) (drop n (replicate 64 0)) in
+      let long : length (ranked (s .x) (padsTo n)) ≡ n = length-ranked (s .x) (padsTo n) ∙ length-pads n in
       record {
         few = most;
-        ranks-count = omega (arith, lengths, length-ranked (s .x) n, length-drop {A = ℕ} n (replicate 64 0), length-replicate {A = ℕ} 64 0);
+        ranks-count = omega (arith, lengths, length-drop {A = ℕ} n (replicate 64 0), length-replicate {A = ℕ} 64 0);
         finite = rw (s .front) (loads-known bytes (s .x) (s .is) .2);
-        pads = pads-held (s .x) n n ranks (replicate 64 0) (omega arith) is;
-        text = (λ i. padsText n (s .front i) ((ap (take n) is ∙ take-at (ranked (s .x) (padsTo n)) (drop n (replicate 64 0)) n (length-ranked (s .x) n)) i))
+        pads = λ i h.
+            rw is
+            (every-in-front (IsPad n) (ranked (s .x) (padsTo n)) (drop n (replicate 64 0)) i
+            (ranked-every (s .x) (IsPad n) (padsTo n) (pads-every n n (omega arith))) (omega arith));
+        text = (λ i. padsText n (s .front i) ((ap (take n) is ∙ take-at (ranked (s .x) (padsTo n)) (drop n (replicate 64 0)) n long) i))
             ∙ ap (λ (k : ℕ). padsText k (s .x) (ranked (s .x) (padsTo k))) (s .pads) ∙ ap (orderText (padsOf bytes)) (sym (s .is));
       }
 

@@ -38,8 +38,8 @@ use Rattle.adding.specs.Adding.{adding}
 use Rattle.adding.proofs.Front.{finite-front}
 use Rattle.columns.proofs.Reach.{Reached, fresh, reached, adding-reached}
 use Rattle.from_factors.specs.Solving.{Way, solved, trSolved, solvedAll, unitColumn, solveAsks, solvedBy, solvingBy, solving, trSolving}
-use Rattle.ranking.specs.Ranking.{ranking, rankingRefusal}
-use Rattle.ranking.proofs.Calls.{not-refused}
+use Rattle.ranking.specs.Ranking.{everyPad, ranking}
+use Rattle.ranking.proofs.Calls.{not-refused, listing-all, ranking-all}
 use Rattle.panel_file.specs.File.{padsOf, matrixOf, readingsOf}
 use Rattle.panel_file.specs.Reading.{fileTests, fileRefusal}
 use Rattle.refusals.proofs.Cases.{first-behind, done-same, never-both, tested-done, then-done}
@@ -82,8 +82,8 @@ solvedIn x = andThen (x .answer) (λ _. done (x .left))
 abbrev pub loadsBy : List ℕ → Packed → Column → Outcome Column
 loadsBy bytes f out = solvedIn (solving (f .told) (f .factors) (f .swaps) 1 (readingsOf (padsOf bytes) bytes) out)
 
--- a ranking of n loads: the text of the pads in that order, or the refusal
-abbrev pub linedUp : ℕ → Column → Call (Unit {0}) (List ℕ) → Outcome (List ℕ)
+-- a ranking of n loads, all pads listed: the text of the pads in that order, or the refusal
+abbrev pub linedUp : ℕ → Column → Call ℕ (List ℕ) → Outcome (List ℕ)
 linedUp n loads r = andThen (r .answer) (λ _. done (padsText n loads (r .left)))
 
 -- a text, or `refused K`
@@ -96,7 +96,7 @@ printed (refused number) = refusedText number
 abbrev pub sheetBy : List ℕ → Outcome Packed → Column → List ℕ → List ℕ
 sheetBy bytes held out ranks =
     let n = padsOf bytes in
-    printed (andThen held (λ f. andThen (loadsBy bytes f out) (λ loads. linedUp n loads (ranking n loads ranks))))
+    printed (andThen held (λ f. andThen (loadsBy bytes f out) (λ loads. linedUp n loads (ranking everyPad n loads ranks))))
 
 -- the same of how a pad's load moves with each reading: the transposed solve of its unit column
 abbrev pub movesBy : List ℕ → Outcome Packed → ℕ → Column → List ℕ
@@ -261,14 +261,14 @@ module _ (bytes : List ℕ) (out : Column) (fits : length out ≡ padsOf bytes) 
       (λ p d f. let rows = file-rows p d in solution-long b p (length-list (padsOf bytes) _ ∙ sym fits ∙ rows) x f ∙ sym rows ∙ fits)
 
   loads-ranked : (ranks : List ℕ) → length ranks ≡ padsOf bytes → (o : Outcome Column) → loadsOf bytes ≡ o
-      → printed (andThen o (λ x. linedUp (padsOf bytes) x (ranking (padsOf bytes) x ranks))) ≡ orderText (padsOf bytes) o
-  unfolding andThen orderText ranking
+      → printed (andThen o (λ x. linedUp (padsOf bytes) x (ranking everyPad (padsOf bytes) x ranks))) ≡ orderText (padsOf bytes) o
+  unfolding andThen orderText
   loads-ranked ranks lr (done x) e =
       let n = padsOf bytes in
       let known = loads-known bytes x e in
       let none = not-refused n x ranks
       (record { size = record { at-least = known .0; at-most = known .1 }; loads-length = loads-long x e; ranks-length = lr; finite = known .2 }) in
-      ap (λ (r : Call (Unit {0}) (List ℕ)). printed (linedUp n x r)) (tested-none (rankingRefusal n x ranks) (leaving ranks) _ none)
+      ap (λ (r : Call ℕ (List ℕ)). printed (linedUp n x r)) (ranking-all n x ranks none) ∙ ap (padsText n x) (listing-all n x)
   loads-ranked ranks lr (refused k) e = refl
 
   -- the file's factors, however they were made, print its sheet
@@ -276,7 +276,7 @@ module _ (bytes : List ℕ) (out : Column) (fits : length out ≡ padsOf bytes) 
   unfolding textOf loadsOf
   sheet-by ranks lr held e =
       let n = padsOf bytes in
-      let line : Column → Outcome (List ℕ) = λ x. linedUp n x (ranking n x ranks) in
+      let line : Column → Outcome (List ℕ) = λ x. linedUp n x (ranking everyPad n x ranks) in
       ap (λ (h : Outcome Packed). sheetBy bytes h out ranks) e
       ∙ ap printed (sym (then-then (factorsIn bytes) _ line) ∙ ap (λ (o : Outcome Column). andThen o line) (solves false (readingsOf n bytes)))
       ∙ loads-ranked ranks lr (loadsOf bytes) refl

@@ -1,23 +1,24 @@
 -- The call as its tests go: what loads that are not refused are known by, and the outcome. By the tests in their order. Assumes nothing.
-use mathlib.Core.Path.{_≡_, refl, sym, ap, _∙_}
+use mathlib.Core.Path.{_≡_, refl, ap, _∙_}
 use mathlib.Core.Bool.{true, _&&_}
-use mathlib.Core.List.{List, [], _++_, append-nil}
-use Prim.Native.Nat.{ℕ, _≤_}
+use mathlib.Core.List.{List, [], _∷_, _++_, append-nil}
+use Prim.Native.Nat.{ℕ, _-_}
 use native.Mathlib.Omega.{arith}
 use borrow.Author.Needs.{needs}
 use borrow.Author.Tests.{eqb-true, eq-eqb, not-false}
 use lib.Dec.{eqb}
-use lib.ListN.{length, drop, drop-of-length-le}
+use lib.ListN.{length, replicate}
 use Rattle.numbers.specs.Column.{Column}
 use Rattle.finite.specs.Finite.{allFinite}
 use Rattle.numbers.proofs.Choice.{and-first, and-second}
-use Rattle.refusals.specs.Outcome.{done, refused, firstOf, tested, leaving}
-use Rattle.refusals.specs.Refusals.{answered}
-use Rattle.refusals.specs.declared.Answer.{Answer}
-use Rattle.refusals.specs.declared.Answer.the-variants.{Done}
-use Rattle.refusals.proofs.Outcomes.{first-none, tested-none, Promise, promise-refused, promise-made}
+use Rattle.refusals.specs.Outcome.{done, refused, firstOf, leaving}
+use Rattle.refusals.proofs.Outcomes.{first-none, tested-none, tested-some}
 use Rattle.refusals.proofs.Tests.{Inside, inside, not-outside}
-use Rattle.ranking.specs.Ranking.{ranked, padsTo, rankingRefusal, ranking}
+use Rattle.ranking.specs.declared.Listed.{Listed}
+use Rattle.ranking.specs.declared.Listed.the-variants.{Pads, Refused}
+use Rattle.ranking.specs.Ranking.{Choice, everyPad, ranked, padsTo, chosen, listing, rankingRefusal, padded, ranking, padsListed}
+use Rattle.ranking.proofs.Inserting.{length-ranked}
+use Rattle.ranking.proofs.Listing.{length-pads}
 
 module _ (n : ℕ) (loads : Column) (was : List ℕ) where
   -- what holds of n loads and a slice for their ranks that are not refused
@@ -45,25 +46,46 @@ module _ (n : ℕ) (loads : Column) (was : List ℕ) where
   not-refused a =
       rw (not-outside 1 n (a .size .at-least) (a .size .at-most), eq-eqb (length loads) n (a .loads-length), eq-eqb (length was) n (a .ranks-length), a .finite)
 
-  pub outcome-refused : (number : ℕ) (r : Answer) → number ≡ rankingRefusal n loads was → (number ≡ 0 → ⊥) → answered r ≡ tested number refused (done tt)
-      → Promise (ranking n loads was) r was
-  unfolding ranking
-  outcome-refused number r e h d = promise-refused (rankingRefusal n loads was) number was _ r e h d
+module _ (choice : Choice) (n : ℕ) (loads : Column) (was : List ℕ) where
+  -- the promise on the answer and on the slice
+  abbrev pub Answers : Listed → List ℕ → Type 0
+  Answers r s = (padsListed r ≡ ranking choice n loads was .answer) × (s ≡ ranking choice n loads was .left)
 
-  pub outcome-ranked : (s : List ℕ) (k number : ℕ) → number ≡ rankingRefusal n loads was → number ≡ 0 → n ≤ k → k ≤ n
-      → s ≡ ranked loads (padsTo k) ++ drop k was → Promise (ranking n loads was) Done s
-  unfolding ranking answered
-  outcome-ranked s k number e none l m d =
-      let same : k ≡ n = omega arith in
-      let short : length was ≤ n = omega (arith, accepted (sym e ∙ none) .ranks-length) in
-      let rest : drop n was ≡ [] = drop-of-length-le was short in
-      promise-made (rankingRefusal n loads was) number was _ Done s e none refl
-      (d
-      ∙ ap (λ (j : ℕ). ranked loads (padsTo j) ++ drop j was) same
-      ∙ ap (λ (t : List ℕ). ranked loads (padsTo n) ++ t) rest
-      ∙ append-nil (ranked loads (padsTo n)))
+  pub outcome-refused : (number : ℕ) → number ≡ rankingRefusal n loads was → (number ≡ 0 → ⊥) → Answers (Refused number) was
+  unfolding ranking padsListed
+  outcome-refused number e h = rw (tested-some (rankingRefusal n loads was) (leaving was) _ (λ z. h (e ∙ z))) (ap refused e, refl)
 
-  -- and what they leave is their ranking
-  pub ranking-accepted : rankingRefusal n loads was ≡ 0 → ranking n loads was .left ≡ ranked loads (padsTo n)
+  -- the call where it is not refused
+  pub ranking-accepted : rankingRefusal n loads was ≡ 0
+      → ranking choice n loads was ≡ record { answer = done (length (listing choice n loads)); left = padded n (listing choice n loads) }
   unfolding ranking
-  ranking-accepted e = rw (tested-none (rankingRefusal n loads was) (leaving was) _ e)
+  ranking-accepted e = tested-none (rankingRefusal n loads was) (leaving was) _ e
+
+  pub outcome-ranked : (s : List ℕ) (count : ℕ) → rankingRefusal n loads was ≡ 0
+      → (count ≡ length (listing choice n loads)) × (s ≡ padded n (listing choice n loads)) → Answers (Pads count) s
+  unfolding padsListed
+  outcome-ranked s count e made = rw (ranking-accepted e) (ap done (made .0), made .1)
+
+-- ---- all pads: n of them, and no slot behind
+chosen-all : (s : List ℕ) → chosen everyPad s ≡ s
+unfolding chosen
+chosen-all [] = refl
+chosen-all (p ∷ s) = ap (λ (t : List ℕ). p ∷ t) (chosen-all s)
+
+pub listing-all : (n : ℕ) (loads : Column) → listing everyPad n loads ≡ ranked loads (padsTo n)
+unfolding listing
+listing-all n loads = ap (ranked loads) (chosen-all (padsTo n))
+
+pub length-all : (n : ℕ) (loads : Column) → length (listing everyPad n loads) ≡ n
+length-all n loads = ap length (listing-all n loads) ∙ length-ranked loads (padsTo n) ∙ length-pads n
+
+padded-whole : (n : ℕ) (s : List ℕ) → length s ≡ n → padded n s ≡ s
+padded-whole n s e =
+    let none : n - length s ≡ 0 = omega arith in
+    ap (λ (k : ℕ). s ++ replicate k 0) none ∙ append-nil s
+
+pub ranking-all : (n : ℕ) (loads : Column) (was : List ℕ) → rankingRefusal n loads was ≡ 0
+    → ranking everyPad n loads was ≡ record { answer = done n; left = listing everyPad n loads }
+ranking-all n loads was e =
+    let long = length-all n loads in
+    ranking-accepted everyPad n loads was e ∙ (λ i. record { answer = done (long i); left = padded-whole n (listing everyPad n loads) long i })

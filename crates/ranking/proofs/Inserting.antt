@@ -1,6 +1,6 @@
--- The code of `insert` as the meaning has it: what is left to do at place j, one turn, and the end; and that only pads stand in a ranking.
+-- The code of `insert` as the meaning has it: what is left to do at place j, one turn, and the end; and what holds of pads holds of them ranked.
 -- By induction on the list. Assumes nothing.
-use mathlib.Core.Path.{_≡_, refl, sym, ap, ap₂, _∙_}
+use mathlib.Core.Path.{_≡_, refl, ap, _∙_}
 use mathlib.Core.Bool.{true, false, cond}
 use mathlib.Core.List.{List, [], _∷_, _++_}
 use Prim.Native.Nat.{ℕ, zero, suc, _+_, _≤_, _<_}
@@ -10,10 +10,10 @@ use native.Mathlib.Omega.{arith}
 use borrow.Author.Tests.{eqb-true, eqb-false}
 use lib.Dec.{eqb}
 use lib.ListN.{length, getD, set, take, drop, length-set, List·getD-append}
-use lib.Seq.{getD-set-same, getD-set-other, take-at, drop-at, drop-drop}
+use lib.Seq.{getD-set-same, getD-set-other}
 use Rattle.numbers.specs.Column.{Column}
 use Rattle.numbers.proofs.Choice.{test-cases, cond-cases}
-use Rattle.ranking.specs.Ranking.{IsPad, ahead, insertPad, ranked, padsTo}
+use Rattle.ranking.specs.Ranking.{IsPad, ahead, insertPad, ranked}
 
 -- P holds of each number of the list
 abbrev pub Every : (ℕ → Type 0) → List ℕ → Type 0
@@ -25,16 +25,16 @@ every-at P [] i f h = absurd (not-suc-le-zero h)
 every-at P (p ∷ ps) zero f h = f .0
 every-at P (p ∷ ps) (suc i) f h = every-at P ps i (f .1) (le-of-suc-le-suc h)
 
+-- also where more stands behind the list
+pub every-in-front : (P : ℕ → Type 0) (s behind : List ℕ) (i : ℕ) → Every P s → i < length s → P (getD (s ++ behind) i 0)
+every-in-front P s behind i f h = rw (List·getD-append s behind 0 i h) (every-at P s i f h)
+
 -- a place that is written takes what holds of the others
 pub set-every : (P : ℕ → Type 0) (s : List ℕ) (j p k : ℕ) → k ≤ length s → P p → ((i : ℕ) → i < k → P (getD s i 0)) → (i : ℕ) → i < k → P (getD (set s j p) i 0)
 set-every P s j p k l h f i hi =
     test-cases (eqb i j)
     (λ e. let d = eqb-true i j e in rw (← d, getD-set-same s i p 0 (omega arith)) h)
     (λ e. rw (getD-set-other s j i p 0 (eqb-false i j e)) (f i hi))
-
-step : (loads : Column) (k : ℕ) → insertPad loads (suc k) (ranked loads (padsTo k)) ≡ ranked loads (padsTo (suc k))
-unfolding ranked padsTo
-step loads k = refl
 
 module _ (loads : Column) where
   -- the pad in hand is put among the places j to k - 1, and what is carried on at last goes to place k
@@ -90,16 +90,16 @@ module _ (loads : Column) where
   push-whole pad k s l = rw add-one (push-suc pad k s l)
 
   -- the loop of `insert` at place j: what is left to do gives the whole, and the pad in hand and those before k are pads
-  pub record Pushing (was : List ℕ) (k : ℕ) (s : List ℕ) (pad j : ℕ) : Type 0 where
+  pub record Pushing (new : ℕ) (was : List ℕ) (k : ℕ) (s : List ℕ) (pad j : ℕ) : Type 0 where
     pub size : length s ≡ length was
     pub place : j ≤ k
-    pub left : pushFrom pad j k s ≡ pushFrom (k + 1) 0 k was
+    pub left : pushFrom pad j k s ≡ pushFrom new 0 k was
     pub in-hand : IsPad (length loads) pad
     pub held : (i : ℕ) → i < k → IsPad (length loads) (getD s i 0)
 
-  pub turn-moves : (was : List ℕ) (k : ℕ) (s : List ℕ) (pad j : ℕ) → Pushing was k s pad j → k < length was → j < k → ahead loads pad (getD s j 0) ≡ true
-      → Pushing was k (set s j pad) (getD s j 0) (j + 1)
-  turn-moves was k s pad j p l h e =
+  pub turn-moves : (new : ℕ) (was : List ℕ) (k : ℕ) (s : List ℕ) (pad j : ℕ) → Pushing new was k s pad j → k < length was → j < k
+      → ahead loads pad (getD s j 0) ≡ true → Pushing new was k (set s j pad) (getD s j 0) (j + 1)
+  turn-moves new was k s pad j p l h e =
       let ls : k < length s = rw (p .size) l in
       record {
         size = simp length-set (p .size);
@@ -109,17 +109,17 @@ module _ (loads : Column) where
         held = set-every (IsPad (length loads)) s j pad k (omega arith) (p .in-hand) (p .held);
       }
 
-  pub turn-stays : (was : List ℕ) (k : ℕ) (s : List ℕ) (pad j : ℕ) → Pushing was k s pad j → k < length was → j < k → ahead loads pad (getD s j 0) ≡ false
-      → Pushing was k s pad (j + 1)
-  turn-stays was k s pad j p l h e =
+  pub turn-stays : (new : ℕ) (was : List ℕ) (k : ℕ) (s : List ℕ) (pad j : ℕ) → Pushing new was k s pad j → k < length was → j < k
+      → ahead loads pad (getD s j 0) ≡ false → Pushing new was k s pad (j + 1)
+  turn-stays new was k s pad j p l h e =
       let ls : k < length s = rw (p .size) l in
       record { size = p .size; place = omega arith; left = push-stays pad j k s h ls e ∙ p .left; in-hand = p .in-hand; held = p .held }
 
-  pub turns-end : (was : List ℕ) (k : ℕ) (s : List ℕ) (pad j : ℕ) → Pushing was k s pad j → k < length was → k ≤ j
-      → set s k pad ≡ insertPad loads (k + 1) (take k was) ++ drop (k + 1) was
-  turns-end was k s pad j p l h =
+  pub turns-end : (new : ℕ) (was : List ℕ) (k : ℕ) (s : List ℕ) (pad j : ℕ) → Pushing new was k s pad j → k < length was → k ≤ j
+      → set s k pad ≡ insertPad loads new (take k was) ++ drop (k + 1) was
+  turns-end new was k s pad j p l h =
       let d : j ≡ k = omega (arith, p .place) in
-      push-end pad j k s d (rw (p .size) l) ∙ p .left ∙ push-whole (k + 1) k was l
+      push-end pad j k s d (rw (p .size) l) ∙ p .left ∙ push-whole new k was l
 
   -- what holds of the pads and of the new one holds of them together
   pub insert-every : (P : ℕ → Type 0) (p : ℕ) (s : List ℕ) → P p → Every P s → Every P (insertPad loads p s)
@@ -134,33 +134,13 @@ module _ (loads : Column) where
   length-insert p (q ∷ qs) =
       cond-cases (λ (t : List ℕ). length t ≡ suc (suc (length qs))) (ahead loads p q) (λ e. ap suc (length-insert q qs)) (λ e. ap suc (length-insert p qs))
 
-  pub length-ranked : (n : ℕ) → length (ranked loads (padsTo n)) ≡ n
-  unfolding ranked padsTo
-  length-ranked zero = refl
-  length-ranked (suc n) = length-insert (suc n) (ranked loads (padsTo n)) ∙ ap suc (length-ranked n)
+  pub length-ranked : (s : List ℕ) → length (ranked loads s) ≡ length s
+  unfolding ranked
+  length-ranked [] = refl
+  length-ranked (p ∷ s) = length-insert p (ranked loads s) ∙ ap suc (length-ranked s)
 
-  -- only pads are ranked
-  pub ranked-pads : (m n : ℕ) → n ≤ m → Every (IsPad m) (ranked loads (padsTo n))
-  unfolding ranked padsTo
-  ranked-pads m zero h = tt
-  ranked-pads m (suc n) h = insert-every (IsPad m) (suc n) (ranked loads (padsTo n)) (omega arith, h) (ranked-pads m n (omega arith))
-
-  -- ---- the loop of `rank`: the first k places hold the ranking of the first k pads, the others what they held
-  pub pads-held : (n k : ℕ) (s was : List ℕ) → k ≤ n → s ≡ ranked loads (padsTo k) ++ drop k was → (i : ℕ) → i < k → IsPad n (getD s i 0)
-  pads-held n k s was h e i l =
-      rw (e, List·getD-append (ranked loads (padsTo k)) (drop k was) 0 i (rw length-ranked l))
-      (every-at (IsPad n) (ranked loads (padsTo k)) i (ranked-pads n k h) (rw length-ranked l))
-
-  pub one-more : (k : ℕ) (s was new : List ℕ) → s ≡ ranked loads (padsTo k) ++ drop k was → new ≡ insertPad loads (k + 1) (take k s) ++ drop (k + 1) s
-      → new ≡ ranked loads (padsTo (k + 1)) ++ drop (k + 1) was
-  one-more k s was new e d =
-      let front : take k s ≡ ranked loads (padsTo k) = ap (take k) e ∙ take-at _ (drop k was) k (length-ranked k) in
-      let back : drop (k + 1) s ≡ drop (k + 1) was =
-      sym (drop-drop 1 k s)
-      ∙ ap (λ (t : List ℕ). drop 1 (drop k t)) e
-      ∙ ap (drop 1) (drop-at (ranked loads (padsTo k)) (drop k was) k (length-ranked k))
-      ∙ drop-drop 1 k was in
-      d ∙ ap₂ (λ (a b : List ℕ). insertPad loads (k + 1) a ++ b) front back ∙ ap (λ (a : List ℕ). a ++ drop (k + 1) was) (next k)
-    where
-      next : (k : ℕ) → insertPad loads (k + 1) (ranked loads (padsTo k)) ≡ ranked loads (padsTo (k + 1))
-      next k = rw add-one (step loads k)
+  -- what holds of each pad of a list holds of each where they are ranked
+  pub ranked-every : (P : ℕ → Type 0) (s : List ℕ) → Every P s → Every P (ranked loads s)
+  unfolding ranked
+  ranked-every P [] f = tt
+  ranked-every P (p ∷ s) f = insert-every P p (ranked loads s) (f .0) (ranked-every P s (f .1))

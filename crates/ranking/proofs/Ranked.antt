@@ -1,20 +1,23 @@
--- The call's answer is the one list that document 01 asks for: each of the pads 1 to n once, any two of them in order (`ranking-ranked`), and no other
--- list is so (`only-ranking`). A pad put among pads in order leaves all in order; of two lists in order with the same pads, the first pads are one,
--- since each would be ahead of the other. Assumes nothing.
+-- Of any choice of pads the call gives the one list that document 01 and request 9 ask for: each chosen one of the pads 1 to n once, any two of them in order
+-- (`ranking-ranked`), and no other list is so (`only-ranking`). A pad put among pads in order leaves all in order; of two lists in order with the same pads,
+-- the first pads are one, since each would be ahead of the other. Assumes nothing.
 use mathlib.Core.Path.{_≡_, refl, sym, ap, ap₂, _∙_}
-use mathlib.Core.Bool.{true, cond, _&&_}
+use mathlib.Core.Bool.{Bool, true, false, cond, _&&_, true≢false}
 use mathlib.Core.List.{List, [], _∷_}
-use Prim.Native.Nat.{ℕ, zero, suc, _+_, _≤_, _<_}
+use Prim.Native.Nat.{ℕ, zero, suc, _+_, _-_, _≤_, _<_}
 use native.Mathlib.Nat.{le-of-suc-le-suc, not-suc-le-zero, zero-add}
 use native.Mathlib.Omega.{arith}
 use borrow.Author.Tests.{eqb-true, eqb-false, eq-eqb, ne-eqb, leb-true, le-leb, lt-leb}
 use lib.Dec.{eqb, leb}
-use lib.ListN.{length, getD}
+use lib.ListN.{length, getD, take, drop, replicate}
+use lib.Seq.{take-append-seam, drop-append-seam}
 use Rattle.numbers.specs.Column.{Column}
 use Rattle.finite.specs.Finite.{allFinite}
 use Rattle.numbers.proofs.Choice.{test-cases, cond-cases, same-test}
-use Rattle.ranking.specs.Ranking.{IsPad, ahead, occurrences, Ranked, insertPad, ranked, padsTo, rankingRefusal, ranking}
-use Rattle.ranking.proofs.Inserting.{Every, every-at, insert-every, ranked-pads}
+use Rattle.refusals.specs.Outcome.{done, Call}
+use Rattle.ranking.specs.Ranking.{IsPad, ahead, Choice, occurrences, Ranked, insertPad, ranked, padsTo, chosen, listing, rankingRefusal, ranking}
+use Rattle.ranking.proofs.Inserting.{Every, every-at, insert-every, ranked-every}
+use Rattle.ranking.proofs.Listing.{chosen-every, pads-every}
 use Rattle.ranking.proofs.Order.{ahead-asym, ahead-total, ahead-trans}
 use Rattle.ranking.proofs.Calls.{accepted, ranking-accepted}
 
@@ -25,6 +28,10 @@ every-map (q ∷ s) f e = (f q (e .0), every-map s f (e .1))
 every-both : (P Q : ℕ → Type 0) (s : List ℕ) → Every P s → Every Q s → Every (λ q. P q × Q q) s
 every-both P Q [] e d = tt
 every-both P Q (q ∷ s) e d = ((e .0, d .0), every-both P Q s (e .1) (d .1))
+
+every-of : (P : ℕ → Type 0) (s : List ℕ) → ((i : ℕ) → i < length s → P (getD s i 0)) → Every P s
+every-of P [] f = tt
+every-of P (q ∷ s) f = (f 0 (omega arith), every-of P s (λ i h. f (suc i) (omega arith)))
 
 -- ---- how often a pad stands there
 module _ (loads : Column) (p : ℕ) where
@@ -55,6 +62,35 @@ pads-occurrences p (suc n) =
     let same : leb p n ≡ leb p (suc n) = same-test _ _ up down in
     rw (e, pads-occurrences p n, same) (zero-add _))
 
+pub both-tests : (t u : Bool) → cond u (cond t 1 0) 0 ≡ cond {A = ℕ} (t && u) 1 0
+both-tests true true = refl
+both-tests true false = refl
+both-tests false true = refl
+both-tests false false = refl
+
+module _ (choice : Choice) (p : ℕ) where
+  -- of those that are chosen, p stands there as often as before, or not at all
+  pub chosen-occurrences : (s : List ℕ) → occurrences p (chosen choice s) ≡ cond (choice p) (occurrences p s) 0
+  unfolding chosen occurrences
+  chosen-occurrences [] = test-cases (choice p) (λ e. rw e) (λ e. rw e)
+  chosen-occurrences (q ∷ s) =
+      let before = chosen-occurrences s in
+      test-cases (choice p)
+      (λ t. rw t
+      (cond-cases (λ (l : List ℕ). occurrences p l ≡ cond (eqb p q) 1 0 + occurrences p s) (choice q)
+      (λ _. ap (λ (k : ℕ). cond (eqb p q) 1 0 + k) (rw t at before))
+      (λ f. rw (ne-eqb p q (λ d. true≢false (sym t ∙ ap choice d ∙ f))) ((rw t at before) ∙ sym (zero-add _)))))
+      (λ t. rw t
+      (cond-cases (λ (l : List ℕ). occurrences p l ≡ 0) (choice q)
+      (λ f. rw (ne-eqb p q (λ d. true≢false (sym f ∙ ap choice (sym d) ∙ t))) (zero-add _ ∙ (rw t at before)))
+      (λ _. rw t at before)))
+
+  listing-occurrences : (n : ℕ) (loads : Column) → occurrences p (listing choice n loads) ≡ cond (leb 1 p && leb p n && choice p) 1 0
+  unfolding listing
+  listing-occurrences n loads =
+      ranked-occurrences loads p (chosen choice (padsTo n)) ∙ chosen-occurrences (padsTo n)
+      ∙ ap (λ (k : ℕ). cond (choice p) k 0) (pads-occurrences p n) ∙ both-tests (leb 1 p && leb p n) (choice p)
+
 -- a pad that stands in a list has a place there
 found : {Q : Type 0} (p : ℕ) (s : List ℕ) → 1 ≤ occurrences p s → ((i : ℕ) → i < length s → getD s i 0 ≡ p → Q) → Q
 unfolding occurrences
@@ -63,22 +99,46 @@ found p (q ∷ s) h f =
     test-cases (eqb p q) (λ e. f 0 (omega arith) (sym (eqb-true p q e)))
     (λ e. found p s (let k : 1 ≤ 0 + occurrences p s = rw e at h in omega arith) (λ i l d. f (suc i) (omega arith) d))
 
+-- ---- lists in which no two pads are one
+abbrev Distinct : List ℕ → Type 0
+Distinct [] = Unit {0}
+Distinct (p ∷ s) = Every (λ q. p ≡ q → ⊥) s × Distinct s
+
+pads-distinct : (n : ℕ) → Distinct (padsTo n)
+unfolding padsTo
+pads-distinct zero = tt
+pads-distinct (suc n) = (every-map (padsTo n) (λ q w d. omega arith) (pads-every n n (omega arith)), pads-distinct n)
+
+chosen-distinct : (choice : Choice) (s : List ℕ) → Distinct s → Distinct (chosen choice s)
+unfolding chosen
+chosen-distinct choice [] d = tt
+chosen-distinct choice (p ∷ s) d =
+    let rest = chosen-distinct choice s (d .1) in
+    cond-cases Distinct (choice p) (λ _. (chosen-every choice (λ q. p ≡ q → ⊥) s (d .0), rest)) (λ _. rest)
+
 -- ---- any two in order
 module _ (loads : Column) where
   abbrev InOrder : List ℕ → Type 0
   InOrder s = (i j : ℕ) → i < j → j < length s → ahead loads (getD s i 0) (getD s j 0) ≡ true
 
   -- the first ahead of all others, and so on
-  abbrev Chain : List ℕ → Type 0
+  abbrev pub Chain : List ℕ → Type 0
   Chain [] = Unit {0}
   Chain (p ∷ s) = Every (λ q. ahead loads p q ≡ true) s × Chain s
 
-  chain-order : (s : List ℕ) → Chain s → InOrder s
+  pub chain-order : (s : List ℕ) → Chain s → InOrder s
   chain-order [] c i j h l = absurd (not-suc-le-zero l)
   chain-order (p ∷ s) c zero zero h l = absurd (not-suc-le-zero h)
   chain-order (p ∷ s) c zero (suc j) h l = every-at (λ q. ahead loads p q ≡ true) s j (c .0) (le-of-suc-le-suc l)
   chain-order (p ∷ s) c (suc i) zero h l = absurd (not-suc-le-zero h)
   chain-order (p ∷ s) c (suc i) (suc j) h l = chain-order s (c .1) i j (le-of-suc-le-suc h) (le-of-suc-le-suc l)
+
+  pub order-chain : (s : List ℕ) → InOrder s → Chain s
+  order-chain [] f = tt
+  order-chain (p ∷ s) f = (
+    every-of (λ q. ahead loads p q ≡ true) s (λ j l. f 0 (suc j) (omega arith) (omega arith)),
+    order-chain s (λ i j h l. f (suc i) (suc j) (omega arith) (omega arith)),
+  )
 
   -- of two lists in order with the same pads
   same-list : (a b : List ℕ) → ((p : ℕ) → occurrences p a ≡ occurrences p b) → InOrder a → InOrder b → a ≡ b
@@ -114,27 +174,45 @@ module _ (loads : Column) where
         ))
         (λ e. (insert-every loads (λ r. ahead loads q r ≡ true) p s (ahead-total loads p q (n .0) e) (c .0), insert-chain p s hp (hs .1) (n .1) (c .1)))
 
-    ranked-chain : (n : ℕ) → n ≤ length loads → Chain (ranked loads (padsTo n))
-    unfolding ranked padsTo
-    ranked-chain zero h = tt
-    ranked-chain (suc n) h =
-        insert-chain (suc n) (ranked loads (padsTo n)) (omega arith, h) (ranked-pads loads (length loads) n (omega arith))
-        (every-map (ranked loads (padsTo n)) (λ q w d. omega arith) (ranked-pads loads n n (omega arith))) (ranked-chain n (omega arith))
+    -- any pads of a list in which no two are one
+    ranked-chain : (s : List ℕ) → Every (IsPad (length loads)) s → Distinct s → Chain (ranked loads s)
+    unfolding ranked
+    ranked-chain [] h d = tt
+    ranked-chain (p ∷ s) h d =
+        insert-chain p (ranked loads s) (h .0) (ranked-every loads (IsPad (length loads)) s (h .1)) (ranked-every loads (λ q. p ≡ q → ⊥) s (d .0))
+        (ranked-chain s (h .1) (d .1))
 
-    -- the pads of n finite loads in their ranking
-    pub ranked-is : (n : ℕ) → n ≤ length loads → Ranked loads n (ranked loads (padsTo n))
-    ranked-is n h =
+    -- the chosen pads of n finite loads in their order
+    pub listing-is : (choice : Choice) (n : ℕ) → n ≤ length loads → Ranked choice n loads (listing choice n loads)
+    unfolding listing
+    listing-is choice n h =
         record {
-          each-once = λ p. ranked-occurrences loads p (padsTo n) ∙ pads-occurrences p n;
-          in-order = chain-order (ranked loads (padsTo n)) (ranked-chain n h);
+          each-once = λ p. listing-occurrences choice p n loads;
+          in-order = chain-order (listing choice n loads)
+              (ranked-chain (chosen choice (padsTo n)) (chosen-every choice (IsPad (length loads)) (padsTo n) (pads-every (length loads) n h))
+              (chosen-distinct choice (padsTo n) (pads-distinct n)));
         }
 
   -- no two lists are a ranking
-  pub only-ranking : (n : ℕ) (a b : List ℕ) → Ranked loads n a → Ranked loads n b → a ≡ b
-  only-ranking n a b r s = same-list a b (λ p. r .each-once p ∙ sym (s .each-once p)) (r .in-order) (s .in-order)
+  pub only-ranking : (choice : Choice) (n : ℕ) (a b : List ℕ) → Ranked choice n loads a → Ranked choice n loads b → a ≡ b
+  only-ranking choice n a b r s = same-list a b (λ p. r .each-once p ∙ sym (s .each-once p)) (r .in-order) (s .in-order)
 
--- ---- what an accepted call leaves
-pub ranking-ranked : (n : ℕ) (loads : Column) (was : List ℕ) → rankingRefusal n loads was ≡ 0 → Ranked loads n (ranking n loads was .left)
-ranking-ranked n loads was e =
+-- ---- what an accepted call answers and leaves
+pub record Lists (choice : Choice) (n : ℕ) (loads : Column) (o : Call ℕ (List ℕ)) : Type 0 where
+  pub count : ℕ
+  pub answered : o .answer ≡ done count
+  pub pads : Ranked choice n loads (take count (o .left))
+  pub behind : drop count (o .left) ≡ replicate (n - count) 0
+
+pub ranking-ranked : (choice : Choice) (n : ℕ) (loads : Column) (was : List ℕ) → rankingRefusal n loads was ≡ 0
+    → Lists choice n loads (ranking choice n loads was)
+ranking-ranked choice n loads was e =
     let a = accepted n loads was e in
-    rw (ranking-accepted n loads was e) (ranked-is loads (a .finite) n (omega (arith, a .loads-length)))
+    let ranks = listing choice n loads in
+    rw (ranking-accepted choice n loads was e)
+    (record {
+      count = length ranks;
+      answered = refl;
+      pads = rw (take-append-seam ranks (replicate (n - length ranks) 0)) (listing-is loads (a .finite) choice n (omega (arith, a .loads-length)));
+      behind = drop-append-seam ranks (replicate (n - length ranks) 0);
+    })

@@ -26,23 +26,23 @@ solved-at c =
     solved (g .args .told .rows) _ _ (at-solve .solve-front .result) (e .0) _ _ (g .args .loads .now) _ (c .n .given .1) (e .1)
     (omega (arith, g .pre .0, g .pre .1)) (search needs)
 
-slice-reshare-prefix-rank : tie.Need-slice-reshare-prefix-rank
-slice-reshare-prefix-rank c =
+slice-reshare-prefix-rank-all : tie.Need-slice-reshare-prefix-rank-all
+slice-reshare-prefix-rank-all c =
     let at-solve = c .before .before .before .before .before in
     let g = asked at-solve in
     omega (arith, solved-at (c .before) .pads, g .pre .0, g .pre .1, at-solve .solve-front .kept .1 .1 .1 .1 .1 .1 .0)
 
-slice-aggregate-rank : tie.Need-slice-aggregate-rank
-slice-aggregate-rank c = let s = solved-at (c .before .before) in sym (ap length (s .front) ∙ s .size)
+slice-aggregate-rank-all : tie.Need-slice-aggregate-rank-all
+slice-aggregate-rank-all c = let s = solved-at (c .before .before) in sym (ap length (s .front) ∙ s .size)
 
-slice-relend-prefix-rank : tie.Need-slice-relend-prefix-rank
-slice-relend-prefix-rank c =
+slice-relend-prefix-rank-all : tie.Need-slice-relend-prefix-rank-all
+slice-relend-prefix-rank-all c =
     let at-n = c .before .before in
     let g = asked (at-n .before .before .before .before) in
     omega (arith, solved-at at-n .pads, g .pre .0, g .pre .1)
 
-slice-aggregate-rank-2 : tie.Need-slice-aggregate-rank-2
-slice-aggregate-rank-2 c =
+slice-aggregate-rank-all-2 : tie.Need-slice-aggregate-rank-all-2
+slice-aggregate-rank-all-2 c =
     let at-n = c .before .before .before in
     let g = asked (at-n .before .before .before .before) in
     taken-count _ (g .args .ranks .now) (omega (arith, solved-at at-n .pads, g .pre .0, g .pre .1))
@@ -55,9 +55,10 @@ returns c =
     let g = asked at-solve in
     let e = at-solve .solve-front .ensures in
     let p = packedIn (g .args .told) (g .args .matrix .now) (g .args .swaps .now) in
+    let ranks = at-rank .rank-all .ensures .1 in
     let finite = solution-finite false p (take (g .args .told .rows) (g .args .readings .now)) in (
       ap padsOrdered (sym (at-n .n .given .1)) ∙ e .0,
-      (ranked-left _ _ _ _ _ (solved-at at-n) finite (g .pre .0 .0) (g .pre .0 .1) (g .args .ranks .now) _ (g .pre .1 .0) (at-rank .rank .ensures .1), e .1),
+      (ranked-left _ _ _ _ _ (solved-at at-n) finite (g .pre .0 .0) (g .pre .0 .1) (g .args .ranks .now) _ (g .pre .1 .0) ranks, e .1),
     )
 
 returns-2 : tie.Need-returns-2
@@ -73,10 +74,10 @@ rank-loads-spec =
     (tie.spec
     (λ c κs. search needs)
     (λ c. search needs)
-    slice-reshare-prefix-rank
-    slice-aggregate-rank
-    slice-relend-prefix-rank
-    slice-aggregate-rank-2
+    slice-reshare-prefix-rank-all
+    slice-aggregate-rank-all
+    slice-relend-prefix-rank-all
+    slice-aggregate-rank-all-2
     (λ c κs. search needs)
     (λ c. search needs)
     (λ c. search needs)

@@ -9,10 +9,10 @@ use Rattle.ranking.proofs.insert.Statement.{statement}
 use Rattle.ranking.proofs.insert.Tie as tie
 
 abbrev Inv-loop : tie.InvT-loop
-Inv-loop loads ranks₀ k pad₀ j₀ ranks pad j = Pushing loads ranks₀ k ranks pad j
+Inv-loop loads ranks₀ count pad carried₀ j₀ ranks carried j = Pushing loads pad ranks₀ count ranks carried j
 
 abbrev μ-loop : tie.MeasureT-loop
-μ-loop loads ranks₀ k pad₀ j₀ ranks pad j = k - j
+μ-loop loads ranks₀ count pad carried₀ j₀ ranks carried j = count - j
 
 loop-holds : tie.Need-loop-holds Inv-loop μ-loop
 loop-holds c = record { size = refl; place = omega arith; left = refl; in-hand = (omega arith, omega arith); held = (c .before .before .pre .1) }
@@ -28,9 +28,9 @@ loop-again c =
     let at-loop = at-loop-test .before in
     let at-start = at-loop .before .before .before in
     ⊎-elim
-    (λ w. rw (w .1, w .2) (turn-moves _ _ _ (at-loop .loop .ranks) (at-loop .loop .pad) (at-loop .loop .j) (at-loop .loop .inv) (at-start .pre .0 .1)
+    (λ w. rw (w .1, w .2) (turn-moves _ _ _ _ (at-loop .loop .ranks) (at-loop .loop .carried) (at-loop .loop .j) (at-loop .loop .inv) (at-start .pre .0 .1)
     (at-loop-test .loop-test .taken) (sym (at-is-ahead .is-ahead .ensures) ∙ w .0 .taken)))
-    (λ w. rw (w .1, w .2) (turn-stays _ _ _ (at-loop .loop .ranks) (at-loop .loop .pad) (at-loop .loop .j) (at-loop .loop .inv) (at-start .pre .0 .1)
+    (λ w. rw (w .1, w .2) (turn-stays _ _ _ _ (at-loop .loop .ranks) (at-loop .loop .carried) (at-loop .loop .j) (at-loop .loop .inv) (at-start .pre .0 .1)
     (at-loop-test .loop-test .taken) (sym (at-is-ahead .is-ahead .ensures) ∙ w .0 .left)))
     (c .if1 .came)
 
@@ -38,7 +38,7 @@ returns : tie.Need-returns Inv-loop μ-loop
 returns c =
     let at-loop = c .before in
     let at-start = at-loop .before .before .before in
-    turns-end _ _ _ _ _ _ (at-loop .loop .inv) (at-start .pre .0 .1) (c .loop-test .left)
+    turns-end _ _ _ _ _ _ _ (at-loop .loop .inv) (at-start .pre .0 .1) (c .loop-test .left)
 
 pub insert-spec : {M : Type 1} → statement M
 insert-spec =
@@ -46,7 +46,6 @@ insert-spec =
     (tie.spec
     Inv-loop
     μ-loop
-    (λ c. omega arith)
     loop-holds
     (λ c. omega arith)
     (λ c. omega arith)
