@@ -55,7 +55,7 @@ module _ (factors : Column) (store : List ℕ) (r : Record) where
         dead-zero asks square p ∙ (rw solves at (p .solvable))
 
     -- the same call without the last test
-    abbrev before : Asks
+    abbrev pub before : Asks
     before =
         record {
           square = asks .square;
@@ -93,10 +93,14 @@ module _ (factors : Column) (store : List ℕ) (r : Record) where
         none : firstOf ((6, false) ∷ []) ≡ 0
         none = none-first ((6, false) ∷ []) (refl, tt)
 
+    -- so it passes them
+    pub six-passed : heldRefusal factors store r asks ≡ 6 → Passed factors store r before
+    six-passed e = passed factors store r before (earlier e)
+
     -- THEOREM. Where 6 is given, one does.
     pub six-zero : heldRefusal factors store r asks ≡ 6 → zeroOnDiagonal (r .rows) factors ≡ true
     six-zero e =
-        let p = passed factors store r before (earlier e) in
+        let p = six-passed e in
         test-cases (eqb (r .dead) 0)
         (λ t. absurd (omega (arith, e, passes factors store r asks (solvable p t))))
         (λ t. dead-zero before square p ∙ ap not t)

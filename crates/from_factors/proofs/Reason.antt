@@ -47,12 +47,12 @@ module _ (n : ℕ) (cs : Matrix) (swaps : Swaps) (bs : Matrix) where
   finished = solvedAll solved n cs swaps bs
 
   -- pass by pass is column by column
-  passes-are : solvedColumns Upper n cs lower ≡ finished
+  pub passes-are : solvedColumns Upper n cs lower ≡ finished
   unfolding solvedFrom solvedAll solved
   passes-are = ap (eachFrom _ 0) (each-each _ _ 0 bs) ∙ each-each _ _ 0 bs
 
   -- the upper pass makes nothing finite again
-  lower-finite : allFinite (flat finished) ≡ true → allFinite (flat lower) ≡ true
+  pub lower-finite : allFinite (flat finished) ≡ true → allFinite (flat lower) ≡ true
   unfolding solvedFrom
   lower-finite e = each-columns-finite _ (λ j b. solved-finite Upper n cs b) 0 lower (ap (λ (xs : Matrix). allFinite (flat xs)) passes-are ∙ e)
 
@@ -61,10 +61,10 @@ module _ (n : ℕ) (cs : Matrix) (swaps : Swaps) (bs : Matrix) where
   Explained p = FirstInPass (GivenDiagonal one64) n cs start p ⊎ ((allFinite (flat lower) ≡ true) × FirstInPass Upper n cs lower p)
 
   module _ (rows : HasRows n bs) (ok : allFinite (flat bs) ≡ true) where
-    start-rows : HasRows n start
+    pub start-rows : HasRows n start
     start-rows = each-rows n _ 0 bs (λ j b e. length-permute swaps b ∙ e) rows
 
-    start-finite : allFinite (flat start) ≡ true
+    pub start-finite : allFinite (flat start) ≡ true
     start-finite = columns-finite start λ j h.
         let hj : j < length bs = rw (length-each (λ j b. permute swaps b) 0 bs) at h in
         rw (each-at (λ j b. permute swaps b) 0 bs j [] (omega arith) hj) (finite-permute swaps (column bs j) ∙ column-finite bs ok j)
@@ -99,16 +99,16 @@ module _ (r : Record) (factors : Column) (store : List ℕ) (k : ℕ) (b x : Col
   abbrev swaps : Swaps
   swaps = pairsOf (r .pairs) store
 
-  sides : isMatrix n k b ≡ true
+  pub sides : isMatrix n k b ≡ true
   sides = and-first (isMatrix n k b) (isMatrix n k x) (passed factors store r (solveAsks n k b x) none-before .lengths)
 
-  sides-size : length b ≡ k * n
+  pub sides-size : length b ≡ k * n
   sides-size = sized n k b sides .size
 
-  sides-finite : allFinite (flat (columns n k b)) ≡ true
+  pub sides-finite : allFinite (flat (columns n k b)) ≡ true
   sides-finite = ap allFinite (flat-columns n k b sides-size) ∙ passed factors store r (solveAsks n k b x) none-before .numbers
 
-  seven : numberOf (solving r factors store k b x .answer) ≡ cond (allFinite (flat (solvedAll solved n cs swaps (columns n k b)))) 0 7
+  pub seven : numberOf (solving r factors store k b x .answer) ≡ cond (allFinite (flat (solvedAll solved n cs swaps (columns n k b)))) 0 7
   unfolding solving
   seven = ap (λ (o : Call (Unit {0}) Column). numberOf (o .answer)) (tested-none _ (leaving x) _ none-before) ∙ seventh-number _
 

@@ -69,7 +69,7 @@ module _ (i : ℕ) where
         above-eliminated (scaled i swapped) j r (rw length-set hs) hr ∙ above-scaled swapped j r hs hr
 
     -- after a step on finite columns, what is not finite was stored by it
-    stored : (m j r : ℕ) → HasRows m (f .columns) → finiteIn f ≡ true → i < length (f .columns) → FirstIn (pivotStep i p f .columns) j r → (i ≤ j) × (i < r)
+    pub stored : (m j r : ℕ) → HasRows m (f .columns) → finiteIn f ≡ true → i < length (f .columns) → FirstIn (pivotStep i p f .columns) j r → (i ≤ j) × (i < r)
     stored m j r rows ok hi first =
         let g = pivotStep i p f in
         let hj : j < length (f .columns) = rw length-pivotStep at (first .wide) in

@@ -5,7 +5,8 @@ use mathlib.Core.List.{List, []}
 use Prim.Native.Nat.{ℕ, _+_, _-_, _*_, _≤_, _<_, min}
 use native.Mathlib.Omega.{arith}
 use borrow.Rule.Slice.PartMut.{midOf, putMid, same-len-mid}
-use lib.Dec.{eqb}
+use borrow.Author.Tests.{lt-ltb, le-ltb}
+use lib.Dec.{eqb, ltb}
 use lib.ListN.{length, getD, set}
 use lib.Ieee.{Float, nan, binary64, div}
 use Rattle.numbers.specs.Each.{turnsFrom}
@@ -13,14 +14,17 @@ use Rattle.numbers.specs.Numbers.{one64, isZero}
 use Rattle.numbers.specs.Column.{Column, entry}
 use Rattle.min_max.specs.Pivot.{pivotRow}
 use Rattle.blas.specs.Blas.{scaleFrom}
+use Rattle.numbers.proofs.Choice.{cond-cases}
 use Rattle.min_max.proofs.Pivot.{pivot-from, pivot-to}
 use Rattle.store.specs.Columns.{columns, isMatrix, onColumns}
-use Rattle.store.specs.Steps.{column, swapInAll, rowsSwapped, eliminated}
+use Rattle.store.specs.Steps.{Matrix, column, swapInAll, rowsSwapped, eliminated}
 use Rattle.store.proofs.Columns.{sized, same-matrix, length-columns, columns-rows, part-column, column-length, entry-at, column-lent, on-columns}
+use Rattle.store.proofs.Columns.{on-none, on-done}
 use Rattle.store.proofs.Steps.{range-all, length-rowsSwapped, rows-rowsSwapped, length-eliminated, rows-eliminated}
 use Rattle.permutation_sequence.specs.SwapList.{withPair}
 use Rattle.factors.specs.Factors.{Factors, storeOf}
 use Rattle.elimination.specs.Elimination.{multipliers, scaled, pivotStep, step, unfactored, eliminate}
+use Rattle.lu.specs.PlainStep.{stepOn, plainStep}
 use Rattle.lu.specs.Inner.{Held}
 use Rattle.elimination.proofs.Step.{pivotAt, skipped}
 use Rattle.factors.proofs.Swaps.{Recorded, store-record, count-record}
@@ -78,6 +82,35 @@ module _ (m n i p : ℕ) (s : Column) (fits : isMatrix m n s ≡ true) (hm : i <
     pub pivot-zero-there : (d : Float) → d ≡ getD s (i * m + p) nan → isZero d ≡ true
         → isZero (entry (column (columns m n s) i) (pivotRow i (column (columns m n s) i))) ≡ true
     pivot-zero-there d is z = ap isZero (sym (is ∙ pivot-number ∙ ap (entry (column (columns m n s) i)) found)) ∙ z
+
+-- ---- one step by itself, on the columns alone
+module _ (m n i : ℕ) (s : Column) where
+  pub plain-none : isMatrix m n s ≡ false → s ≡ plainStep m n i s
+  unfolding plainStep
+  plain-none e = cond-cases (λ (t : Column). s ≡ t) (ltb i (min m n)) (λ _. on-none m n (stepOn i) s e) (λ _. refl)
+
+  pub plain-past : min m n ≤ i → s ≡ plainStep m n i s
+  unfolding plainStep
+  plain-past h = rw (le-ltb i (min m n) h)
+
+  module _ (fits : isMatrix m n s ≡ true) (hm : i < m) (hn : i < n) (p : ℕ) (row : p ≡ pivotRow i (midOf (i * m) (i * m + m - i * m) s)) where
+    abbrev cs : Matrix
+    cs = columns m n s
+
+    zero-is : isZero (getD s (i * m + p) nan) ≡ isZero (entry (column cs i) (pivotRow i (column cs i)))
+    zero-is = ap isZero (pivot-number m n i p s fits hm hn row) ∙ ap (λ (k : ℕ). isZero (entry (column cs i) k)) (found m n i p s fits hm hn row)
+
+    pub plain-skipped : isZero (getD s (i * m + p) nan) ≡ true → s ≡ plainStep m n i s
+    unfolding plainStep step
+    plain-skipped z = rw (lt-ltb i (min m n) (omega arith)) (on-done m n (stepOn i) s s fits refl (rw (sym zero-is ∙ z, stepOn)))
+
+    pub plain-done : (u : Column) → isZero (getD s (i * m + p) nan) ≡ false → length u ≡ length s
+        → columns m n u ≡ eliminated i (scaled i (swapInAll i p cs)) → u ≡ plainStep m n i s
+    unfolding plainStep step pivotStep
+    plain-done u z len made =
+        rw (lt-ltb i (min m n) (omega arith))
+        (on-done m n (stepOn i) s u fits len
+        (rw (sym zero-is ∙ z, stepOn) (made ∙ ap (λ (k : ℕ). eliminated i (scaled i (swapInAll i k cs))) (found m n i p s fits hm hn row))))
 
 -- ---- one step on the slices
 module _ (m n i : ℕ) (f : Factors) (s : Column) (store : List ℕ) (pairs p : ℕ) (d : Float) (h : Held m n f s store pairs)

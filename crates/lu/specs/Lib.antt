@@ -1,2 +1,3 @@
 pub mod Factoring
+pub mod PlainStep
 pub mod Inner

@@ -11,6 +11,7 @@ ghost use Rattle.factors.specs.Factors.{Factors, storeOf};
 ghost use Rattle.elimination.specs.Elimination.{scaled, step, eliminate};
 ghost use Rattle.elimination.specs.TossUps.{tossAt, tossUps};
 ghost use Rattle.lu.specs.Factoring.{factoringRefusal, factoring, factored, factoringAnswer};
+ghost use Rattle.lu.specs.PlainStep.{plainStep};
 ghost use Rattle.lu.specs.Inner.{Held, Stepped, Settled};
 use factors::Record;
 
@@ -52,6 +53,27 @@ fn gauss_step(s: &mut [f64], m: usize, n: usize, i: usize, piv: usize)
     let inv_diag = 1.0 / s[q];
     blas::scale(&mut s[a..e], i + 1, inv_diag);
     store::eliminate(s, m, n, i);
+}
+
+// Step i by itself on an m by n matrix, its swap not recorded; nothing where s is none such or has no row or no column i.
+pub fn plain_step(s: &mut [f64], m: usize, n: usize, i: usize)
+    ensures { λ _. ⌜ now (s .exit) ≡ plainStep m n i (now (s .entry)) ⌝ }
+{
+    if !store::is_matrix(s, m, n) {
+        return;
+    }
+    if store::min(m, n) <= i {
+        return;
+    }
+    let a = i * m;
+    let e = a + m;
+    let found = min_max::icamax(&s[a..e], i);
+    let piv = found.row;
+    let q = a + piv;
+    if numbers::is_zero(s[q]) {
+        return;
+    }
+    gauss_step(s, m, n, i, piv);
 }
 
 // Step i. Answers the counts with it.

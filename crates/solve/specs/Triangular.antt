@@ -1,9 +1,10 @@
 -- Document 01, "Solving": the five triangular solves, row by row and column by column, beside the given diagonal the corrected one (document
 -- 02, request 4), and beside transposed lower the one whose diagonal counts as one (request 5). Each right-hand column is solved by itself.
-use mathlib.Core.Bool.{cond}
+use mathlib.Core.Bool.{cond, _&&_}
 use mathlib.Core.List.{_++_}
 use Prim.Native.Nat.{ℕ, _+_, _-_}
-use lib.ListN.{set, take, drop}
+use lib.Dec.{ltb, eqb}
+use lib.ListN.{length, set, take, drop}
 use lib.Ieee.{Float, binary64, neg, sub, div}
 use Rattle.numbers.specs.Each.{eachFrom, turnsFrom}
 use Rattle.numbers.specs.Column.{Column, entry}
@@ -99,6 +100,10 @@ turnsOf TransposedUnitLower n = n
 -- turn k on a right-hand column, cs being the columns of the matrix
 unfoldable pub turn : Pass → ℕ → Matrix → ℕ → Column → Column
 turn pass n cs k b = let i = rowAt pass n k in solvedRow pass (column cs i) i b
+
+-- the same by itself, t holding the n by n matrix; without such a matrix, a column of n entries or a turn k the column stays as it was
+unfoldable pub turnedBy : Pass → ℕ → ℕ → Column → Column → Column
+turnedBy pass n k t b = cond (isMatrix n n t && eqb (length b) n && ltb k (turnsOf pass n)) (turn pass n (columns n n t) k b) b
 
 -- a right-hand column, solved
 unfoldable pub solvedColumn : Pass → ℕ → Matrix → Column → Column

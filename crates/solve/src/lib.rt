@@ -6,7 +6,7 @@ ghost use lib.ListN.{length};
 ghost use Rattle.store.specs.Columns.{columns, isMatrix};
 ghost use Rattle.refusals.specs.Refusals.{answered};
 ghost use Rattle.solve.specs.Triangular.{divisor, lowerRow, upperRow, keptRow, lessBelow, transposedLowerRow, transposedUpperRow};
-ghost use Rattle.solve.specs.Triangular.{transposedUnitLowerRow, solvedRow, rowAt, turnsOf, solvedColumn, solvedInPlace};
+ghost use Rattle.solve.specs.Triangular.{transposedUnitLowerRow, solvedRow, rowAt, turnsOf, turn, turnedBy, solvedColumn, solvedInPlace};
 ghost use Rattle.solve.specs.Calls.{zeroOnDiagonal, sizesOutside, lengthsFit, givenFinite, numbersFinite, zeroDivisor, refusalOf, solving};
 use refusals::Answer;
 
@@ -146,6 +146,33 @@ fn turns_of(pass: Pass, n: usize) -> usize
     }
 }
 
+// Turn k on a right-hand column.
+fn take_turn(pass: Pass, t: &[f64], n: usize, b: &mut [f64], k: usize)
+    requires { ⌜ (isMatrix n n (now t) ≡ true) × (length (now b) ≡ n) × (k < turnsOf pass n) ⌝ }
+    ensures { λ _. ⌜ now (b .exit) ≡ turn pass n (columns n n (now (t .entry))) k (now (b .entry)) ⌝ }
+{
+    let i = row_at(pass, n, k);
+    let a = i * n;
+    let e = a + n;
+    solve_row(pass, &t[a..e], b, i);
+}
+
+// The same by itself; nothing where t is no n by n matrix, b has not n entries, or there is no turn k.
+pub fn solve_turn(pass: Pass, t: &[f64], n: usize, b: &mut [f64], k: usize)
+    ensures { λ _. ⌜ now (b .exit) ≡ turnedBy pass n k (now (t .entry)) (now (b .entry)) ⌝ }
+{
+    if !store::is_matrix(t, n, n) {
+        return;
+    }
+    if b.len() != n {
+        return;
+    }
+    if turns_of(pass, n) <= k {
+        return;
+    }
+    take_turn(pass, t, n, b, k);
+}
+
 // Solves one right-hand column in place.
 fn solve_column(pass: Pass, t: &[f64], n: usize, b: &mut [f64])
     requires { ⌜ (isMatrix n n (now t) ≡ true) × (length (now b) ≡ n) ⌝ }
@@ -154,10 +181,7 @@ fn solve_column(pass: Pass, t: &[f64], n: usize, b: &mut [f64])
     let turns = turns_of(pass, n);
     let mut k = 0;
     while k < turns {
-        let i = row_at(pass, n, k);
-        let a = i * n;
-        let e = a + n;
-        solve_row(pass, &t[a..e], b, i);
+        take_turn(pass, t, n, b, k);
         k += 1;
     }
 }

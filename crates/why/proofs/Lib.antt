@@ -1,0 +1,9 @@
+pub mod Results
+pub mod Steps
+pub mod Factoring
+pub mod Column
+pub mod Pass
+pub mod Turns
+pub mod Solving
+pub mod SolvingCall
+pub mod Lowest

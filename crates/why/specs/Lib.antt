@@ -1,0 +1,5 @@
+pub mod Results
+pub mod Factoring
+pub mod Solving
+pub mod Why
+pub mod Inner
