@@ -26,6 +26,7 @@ __asm__(".globl _start\n_start: and $-16,%rsp\n call start\n");
 enum { DEEP = 262144, FULL = 4096, HEAD = 6 };
 static double a[FULL], factors[FULL], result[FULL], column[64], x[64], loads[64], value;
 static bool invertible;
+static int32_t exponent;
 static size_t swaps[128], ranks[64], pairs, dead, toss_ups, pads, listed, answer;
 static byte file[HEAD + FULL * 8 + 64 * 8];
 
@@ -38,9 +39,11 @@ APART void add(void) { answer = wejdarox_add_column(factors, FULL, column, 64, s
 APART void solve(void) { answer = wejdarox_solve(factors, FULL, swaps, 128, 64, 64, pairs, dead, column, 64, 1, x, 64); __asm__ volatile(""); }
 APART void inverse(void) { answer = wejdarox_inverse(factors, FULL, swaps, 128, 64, 64, pairs, dead, result, FULL); __asm__ volatile(""); }
 APART void determinant(void) { answer = wejdarox_determinant(factors, FULL, swaps, 128, 64, 64, pairs, dead, &value); __asm__ volatile(""); }
+APART void scaled(void) { answer = wejdarox_scaled_determinant(factors, FULL, swaps, 128, 64, 64, pairs, dead, &value, &exponent); __asm__ volatile(""); }
 APART void is_invertible(void) { answer = wejdarox_is_invertible(factors, FULL, swaps, 128, 64, 64, pairs, dead, &invertible); __asm__ volatile(""); }
 APART void rank(void) { answer = wejdarox_rank(x, 64, 64, ranks, 64, &listed); __asm__ volatile(""); }
 APART void order(void) { answer = wejdarox_pad_order(file, sizeof file, ranks, loads, &pads, &toss_ups); __asm__ volatile(""); }
+APART void stiffness(void) { answer = wejdarox_stiffness(file, sizeof file, &value, &exponent, &toss_ups); __asm__ volatile(""); }
 
 static size_t taken(void (*call)(void)) {
     paint();
@@ -82,9 +85,11 @@ __attribute__((used)) void start(void) {
     say("solve", solve);
     say("inverse", inverse);
     say("determinant", determinant);
+    say("scaled_determinant", scaled);
     say("is_invertible", is_invertible);
     say("rank", rank);
     say("pad_order", order);
+    say("stiffness", stiffness);
     memset(a, 0, 64 * sizeof *a); // the first step is skipped
     wejdarox_factor(a, FULL - 64, 64, 63, factors, FULL - 64, swaps, 128, &pairs, &dead, &toss_ups);
     say("add_skipped", add);

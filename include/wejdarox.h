@@ -29,12 +29,12 @@
  *             - a pointer beside a length n points to n elements of its type, aligned, for the time of the call; where n is 0 nothing is read or written
  *               through it, and it is still no null pointer;
  *             - a pointer to one number, or to an array of 64, points to it in the same way;
- *             - all of these hold values of their type when the call begins, outputs too: any bytes are a double or a size_t, so that an output need not
- *               be set; a `bool` holds false or true;
+ *             - all of these hold values of their type when the call begins, outputs too: any bytes are a double, a size_t or an int32_t, so that an output
+ *               need not be set; a `bool` holds false or true;
  *             - what a call may change (a pointer without `const`) is apart from every other slice and number of that call;
  *             - no other thread changes what is lent, or looks at what may change, until the call returns;
  *             - the floating-point state is the usual one of the ABI: rounding to nearest, no trap enabled, subnormal numbers kept;
- *             - the stack has room: on x86-64 wejdarox_pad_order takes at most 36 KB of it, the others under 1 KB.
+ *             - the stack has room: on x86-64 wejdarox_pad_order and wejdarox_stiffness take at most 36 KB of it, the others under 1 KB.
  *             It owes nothing else: sizes, lengths, swap lists and numbers may be anything.
  *
  *  Machine    `rt staticlib ffi` writes target/staticlib/libffi.a, code for x86-64 Linux. It needs `memset` and nothing else. No call allocates or keeps
@@ -55,7 +55,8 @@ extern "C" {
 /*
  * The version of this header and of the archive that it was packed with: the same number as in the file VERSION.
  * Since 0.7.0: a record has a fourth number, the dead columns. The six calls on matrices take it behind the pairs (wejdarox_factor and
- * wejdarox_add_column through a pointer, the others as it is), and those that take factors can answer 9.
+ * wejdarox_add_column through a pointer, the others as it is), and those that take factors can answer 9. wejdarox_scaled_determinant and wejdarox_stiffness
+ * are new.
  */
 #define WEJDAROX_VERSION "0.8.0"
 
@@ -257,6 +258,43 @@ size_t wejdarox_determinant(const double *factors, size_t factors_len, const siz
                             size_t n, size_t pairs, size_t dead, double *value);
 
 /*
+ * wejdarox_scaled_determinant
+ *
+ *  Purpose
+ *  =======
+ *  The determinant of the square matrix A, by its factors, as significand * 2^exponent. It neither underflows nor overflows: it is zero only where a column
+ *  is dead. Where no running product of the plain determinant leaves the normal numbers, it is that number exactly.
+ *
+ *  Arguments
+ *  =========
+ *  factors   (input) double array, dimension (m * n)
+ *            The factors, as wejdarox_factor or wejdarox_add_column left them.
+ *  factors_len (input) the length of factors: m * n.
+ *  swaps     (input) array of numbers, dimension (128)
+ *            The exchanged rows.
+ *  swaps_len (input) the length of swaps: 128.
+ *  m         (input) the number of rows, 1 to 64.
+ *  n         (input) the number of columns: m.
+ *  pairs     (input) the number of pairs.
+ *  dead      (input) the number of dead columns.
+ *  significand (output) of magnitude from 1 up to but not 2, with the sign of the determinant; or +0.0.
+ *  exponent  (output) the exponent of two, -68736 to 65535; 0 beside +0.0.
+ *
+ *  Answer
+ *  ======
+ *  0  done
+ *  1  m is not 1 to 64, or n is not 0 to 64              significand and exponent as they were
+ *  2  m is not n                                         significand and exponent as they were
+ *  3  factors_len is not m * n, or swaps_len is not 128  significand and exponent as they were
+ *  4  the swap list is bad                               significand and exponent as they were
+ *  5  a number of factors is not finite                  significand and exponent as they were
+ *  9  dead is not the number of dead columns of factors  significand and exponent as they were
+ *  factors and swaps are never changed.
+ */
+size_t wejdarox_scaled_determinant(const double *factors, size_t factors_len, const size_t *swaps, size_t swaps_len, size_t m,
+                                   size_t n, size_t pairs, size_t dead, double *significand, int32_t *exponent);
+
+/*
  * wejdarox_is_invertible
  *
  *  Purpose
@@ -365,6 +403,34 @@ size_t wejdarox_rank_all(const double *loads, size_t loads_len, size_t n, size_t
  *  8 is tested first, then 1, 3 and 5; 7 of the factoring before 6, and 7 of the solve behind it. file is never changed.
  */
 size_t wejdarox_pad_order(const uint8_t *file, size_t file_len, size_t ranks[64], double loads[64], size_t *pads, size_t *toss_ups);
+
+/*
+ * wejdarox_stiffness
+ *
+ *  Purpose
+ *  =======
+ *  How stiff a panel file's crossing is: its matrix factored, and the determinant as significand * 2^exponent.
+ *
+ *  Arguments
+ *  =========
+ *  file      (input) bytes, dimension (file_len)
+ *            The panel file, as wejdarox_pad_order takes it.
+ *  file_len  (input) how many bytes the file has: 6 + 8 * (n * n + n).
+ *  significand (output) of magnitude from 1 up to but not 2, with the sign of the determinant; or +0.0, where the matrix is singular.
+ *  exponent  (output) the exponent of two, -68736 to 65535; 0 beside +0.0.
+ *  toss_ups  (output) at how many columns of the matrix another row had the pivot's magnitude, so that the first was taken. Refused: 0.
+ *
+ *  Answer
+ *  ======
+ *  0  done
+ *  1  the number of pads is not 1 to 64                  significand and exponent as they were
+ *  3  the file has not the length that its number of pads asks for   significand and exponent as they were
+ *  5  a number of the file is not finite                 significand and exponent as they were
+ *  7  a factor is not finite                             significand +0.0, exponent 0
+ *  8  under 6 bytes, another mark or another version     significand and exponent as they were
+ *  8 is tested first, then 1, 3 and 5; 7 is the factoring's. file is never changed.
+ */
+size_t wejdarox_stiffness(const uint8_t *file, size_t file_len, double *significand, int32_t *exponent, size_t *toss_ups);
 
 #ifdef __cplusplus
 }

@@ -5,7 +5,7 @@ import struct
 from array import array
 
 from . import floats
-from .make import MAKERS, SQUARE, file_case, moves_case, panel
+from .make import MAKERS, SQUARE, file_case, moves_case, panel, stiffness_case
 from .rules import GIVEN, dead_columns
 from .wire import Case, FLOATS, HELD, LONGEST, NEWLINE, OPS, encode, hexes, line, words
 
@@ -78,6 +78,7 @@ def table():
         ('diagonal 2^-600 twice, determinant', Case(5, 2, 2, 0, [doubles(2.0 ** -600, 0.0, 0.0, 2.0 ** -600), *none]),
          line(0, [hexes(doubles(0.0))])),
         ('diagonal 2^-600 twice, invertible', Case(6, 2, 2, 0, [doubles(2.0 ** -600, 0.0, 0.0, 2.0 ** -600), *none]), line(0, ['1'])),
+        ('the same, scaled', Case(30, 2, 2, 0, [doubles(2.0 ** -600, 0.0, 0.0, 2.0 ** -600), *none]), line(0, ['3ff0000000000000', '-1200'])),
         ('1 by 1 factor 2^-1000, reading 2^100',
          Case(3, 1, 1, 1, [doubles(2.0 ** -1000), *none, doubles(2.0 ** 100), spare(1)]), line(7, [hexes(doubles(0.0))])),
         ('transposed lower, rows (2,0),(1,4), b (4,8)', Case(12, 0, 2, 1, [doubles(2.0, 1.0, 0.0, 4.0), doubles(4.0, 8.0), spare(2)]),
@@ -340,6 +341,54 @@ def kept():
     yield removing(2, 3, [], 0.0, 2.0, 3.0, 0.0, 0.0, 0.0)
 
 
+# ---- the scaled determinant
+
+def scaling(list_, *diagonal):
+    """Factors with that diagonal and ones beside it."""
+    n = len(diagonal)
+    return Case(30, n, n, 0, [doubles(*[diagonal[i] if i == j else 1.0 for j in range(n) for i in range(n)]), swap_store(*list_),
+                              held(len(list_) // 2, sum(x == 0.0 for x in diagonal))])
+
+
+def scaled():
+    least, normal, most = 2.0 ** -1074, 2.0 ** -1022, (2.0 - 2.0 ** -52) * 2.0 ** 1023
+    yield scaling([0, 1], 2.0, 1.0)                                                     # -1 and 1
+    yield scaling([0, 1, 1, 0], 2.0, 1.0)
+    yield scaling([0, 1], -2.0, 1.5)
+    for zero in (0.0, -0.0):                                                            # +0.0 and 0, whatever the signs and the other numbers
+        yield scaling([0, 1], zero, 3.0)
+        yield scaling([], 2.0 ** 500, -5.0, zero)
+        yield scaling([], zero)
+    for x in (least, 3 * least, 2.0 ** 51 * least, 2.0 ** 52 * least - least, normal, normal - least, normal + least, most, 1.0, 0.1):
+        yield scaling([], x)                                                            # one number: its own parts
+        yield scaling([0, 1], x, -x)
+    for n in (63, 64):                                                                  # both ends of the exponent
+        yield scaling([], *[least] * n)
+        yield scaling([0, 1], *[most] * n)
+        yield scaling([], *[-normal] * n)
+    yield scaling([], 1.5, 4.0 / 3.0)                                                   # just below 2, and just at it by rounding
+    yield scaling([], 1.0 + 2.0 ** -52, 2.0 - 2.0 ** -51)
+    yield scaling([], 1.0 + 2.0 ** -52, 2.0 - 2.0 ** -52)
+    yield scaling([], 2.0 - 2.0 ** -52, 2.0 - 2.0 ** -52)                               # just below 4
+    yield scaling([], 1.0 + 2.0 ** -27, 1.0 + 2.0 ** -26 + 2.0 ** -40)                  # just above a tie: not by way of 64 digits
+    yield scaling([], 2.0 ** 0.5, 2.0 ** 0.5)
+    yield scaling([], 2.0, 2.0, 0.5)
+    yield scaling([], 2.0 - 2.0 ** -52, 2.0 ** -1023)                                   # the plain product rounds up to 2^-1022
+    yield scaling([], 2.0 ** -600, 2.0 ** -600, 2.0 ** 600, 2.0 ** 600)                 # the plain product underflows on the way
+    yield scaling([], 2.0 ** 600, 2.0 ** 600, 2.0 ** -600)                              # and overflows
+    yield scaling([], 1.0 + 2.0 ** -52, 1.0 + 2.0 ** -52, 1.0 + 2.0 ** -52, 1.0 + 2.0 ** -51)
+
+
+def stiff():
+    """Each of those files but the longest; a singular one, one refused by the solve, and soft ones among them."""
+    for file in files():
+        if len(file) < LARGEST or file[:6] == b'LXP\1\0\x40' and len(file) == LARGEST:
+            yield stiffness_case(file)
+    yield stiffness_case(panel(1, doubles(2.0 ** -1074, 0.0)))
+    yield stiffness_case(panel(2, doubles(2.0 ** -600, 0.0, 0.0, -(2.0 ** -600), 5.0, 8.0)))
+    yield stiffness_case(panel(2, doubles(0.0, 2.0 ** 900, 2.0 ** 900, 0.0, 5.0, 8.0)))
+
+
 # ---- one fault at a time
 
 SIZES = (0, 65, 2 ** 63, 2 ** 64 - 1)
@@ -406,6 +455,7 @@ def good(op):
         4: lambda: Case(4, 3, 3, 0, [matrix, *told, spare(9)]),
         5: lambda: Case(5, 3, 3, 0, [matrix, *told]),
         6: lambda: Case(6, 3, 3, 0, [matrix, *told]),
+        30: lambda: Case(30, 3, 3, 0, [matrix, *told]),
         7: lambda: Case(7, 4, 3, 0, [tall, *told, wide]),
         8: lambda: Case(8, 4, 3, 0, [tall, *told, spare(9)]),
         11: lambda: Case(11, 0, 3, 2, [matrix, doubles(2.0), b, x]),
@@ -521,7 +571,7 @@ def largest():
     for op, make in MAKERS.items():
         r = random.Random(f'largest {op}')
         if op in SQUARE:
-            if op not in (20, 21, 26):
+            if op not in (20, 21, 26, 31):
                 yield make(r, op, 64, 1)
             if op in (3, 12, 25):
                 yield make(r, op, 63, 2)
@@ -546,7 +596,7 @@ def fixed():
     """All of them, as generators: makers ask the oracle."""
     for _, case, _ in table():
         yield done(case)
-    for case in (*added(), *given(), *tossed(), *removed(), *transposed(), *dead(), *kept()):
+    for case in (*added(), *given(), *tossed(), *removed(), *transposed(), *dead(), *kept(), *scaled()):
         yield done(case)
     for op in OPS:
         if op == 20:
@@ -554,6 +604,9 @@ def fixed():
                 yield done(file_case(file))
         elif op == 26:
             for case in moves():
+                yield done(case)
+        elif op == 31:
+            for case in stiff():
                 yield done(case)
         else:
             yield done(good(op))

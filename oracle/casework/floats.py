@@ -76,6 +76,13 @@ def any_bits(r, count):
     return bits_with(r, count, (0, 2046))
 
 
+def near_two(r, count):
+    """Significands near 1, near the root of 2 and near 2, so that products of them round to 2 or just not."""
+    near = (0x10000000000000, 0x16a09e667f3bcd, 0x1fffffffffffff)
+    return array('d', [r.choice((1.0, -1.0)) * min(max(r.choice(near) + r.randint(-3, 3), near[0]), near[2]) * 2.0 ** r.randint(-800, 800)
+                       for _ in range(count)])
+
+
 def mixed(r, count):
     return array('d', [r.choices(KINDS, WEIGHTS)[0](r, 1)[0] for _ in range(count)])
 

@@ -8,7 +8,7 @@ from .make import make
 from .rules import expected
 from .wire import encode, show, show_difference
 
-LISTED = 4500       # the cases of the committed list, the bad one at its end among them
+LISTED = 5000       # the cases of the committed list, the bad one at its end among them
 
 
 def with_line(maker):

@@ -10,7 +10,7 @@ from .wire import Case, FLOATS, HELD, LONGEST, OPS, hexes, unhex
 
 # how often each op comes in a round
 TURNS = {1: 4, 2: 4, 3: 3, 4: 2, 5: 2, 6: 2, 7: 4, 8: 4, 9: 2, 10: 2, 11: 2, 12: 3, 13: 3,
-         14: 4, 15: 4, 16: 4, 17: 4, 18: 2, 19: 2, 20: 2, 21: 2, 22: 4, 23: 2, 24: 2, 25: 3, 26: 2, 35: 4}
+         14: 4, 15: 4, 16: 4, 17: 4, 18: 2, 19: 2, 20: 2, 21: 2, 22: 4, 23: 2, 24: 2, 25: 3, 26: 2, 30: 3, 31: 2, 35: 4}
 ROUND = [(op, turn) for turn in range(max(TURNS.values())) for op in TURNS if turn < TURNS[op]]
 
 JUNK = [0, 1, 63, 64, 65, 255, 2 ** 32, 2 ** 63, 2 ** 64 - 1]
@@ -121,6 +121,14 @@ def make_square(r, op, n, k):
     return Case(op, n, n, 0, [factors, *held_slices(r, n, n, factors, pairs)] + ([floats.anything(r, n * n)] if op == 4 else []))
 
 
+def make_scaled(r, op, n, k):
+    """Half of the times with another diagonal: of subnormal numbers, of the format's ends, of significands whose products are near 2."""
+    factors, pairs = yield from some_factors(r, n, n, r.random() < 0.8)
+    if r.random() < 0.5:
+        factors[::n + 1] = r.choice((floats.subnormal, floats.tiny, floats.edges, floats.huge, floats.any_bits, floats.near_two))(r, n)
+    return Case(op, n, n, 0, [factors, *held_slices(r, n, n, factors, pairs)])
+
+
 def make_l_or_u(r, op, m, n):
     factors, pairs = yield from some_factors(r, m, n)
     return Case(op, m, n, 0, [factors, *held_slices(r, m, n, factors, pairs), floats.anything(r, min(m, n) * (m if op == 7 else n))])
@@ -229,11 +237,22 @@ def moves_case(pad, file):
     return Case(26, pad, 0, whole.k, whole.slices)
 
 
+def make_stiffness(r, op, n, k):
+    whole = yield from make_file(r, op, n, k)
+    return stiffness_case(whole.slices[0])
+
+
+def stiffness_case(file):
+    whole = file_case(file)
+    return Case(31, 0, 0, whole.k, whole.slices)
+
+
 MAKERS = {1: make_factor, 2: make_add, 3: make_solve, 4: make_square, 5: make_square, 6: make_square, 7: make_l_or_u, 8: make_l_or_u,
           9: make_triangular, 10: make_triangular, 11: make_triangular, 12: make_triangular, 13: make_triangular,
           14: make_permute, 15: make_permute, 16: make_permute, 17: make_permute, 18: make_append, 19: make_rank, 20: make_file,
-          21: make_write, 22: make_remove, 23: make_search, 24: make_triangular, 25: make_solve, 26: make_moves, 35: make_factor}
-SQUARE = (3, 4, 5, 6, 9, 10, 11, 12, 13, 19, 20, 21, 24, 25, 26)      # ops whose two sizes are the matrix's and the right-hand columns'
+          21: make_write, 22: make_remove, 23: make_search, 24: make_triangular, 25: make_solve, 26: make_moves, 30: make_scaled,
+          31: make_stiffness, 35: make_factor}
+SQUARE = (3, 4, 5, 6, 9, 10, 11, 12, 13, 19, 20, 21, 24, 25, 26, 30, 31)      # ops whose two sizes are the matrix's and the right-hand columns'
 
 
 # ---- faults: each changes a good case in place; the rules say what the changed case gives
@@ -407,6 +426,8 @@ def spoiled(r, c):
             c = damaged(r, c)
         elif c.op == 26:
             c = damaged_moves(r, c)
+        elif c.op == 31:
+            c = stiffness_case(damaged(r, c).slices[0])
         else:
             r.choice(FAULTS[c.op])(r, c)
     c.fresh = None

@@ -3,13 +3,14 @@
 sharing nothing with the modules beside it and asking no oracle. It reads a list on standard input and prints the lines.
 
 Matrices are lists of rows here. Every operation is one Python operation on floats, so one rounding to binary64."""
+import math
 import struct
 import sys
 
 # F: floats, W: whole numbers, T: two of them
 TAKES = {1: 'FFW', 2: 'FFWT', 3: 'FWTFF', 4: 'FWTF', 5: 'FWT', 6: 'FWT', 7: 'FWTF', 8: 'FWTF', 9: 'FFF', 10: 'FFF', 11: 'FFFF', 12: 'FFF',
          13: 'FFF', 14: 'WWF', 15: 'WWF', 16: 'WWF', 17: 'WWF', 18: 'WWW', 19: 'FW', 20: 'W', 21: 'FFW', 22: 'FWT', 23: 'F', 24: 'FFFF',
-         25: 'FWTFF', 26: 'W', 35: 'FFW'}
+         25: 'FWTFF', 26: 'W', 30: 'FWT', 31: 'W', 35: 'FFW'}
 
 
 class Refused(Exception):
@@ -351,6 +352,26 @@ def determinant(m, n, k, flat, swaps, told):
     return [product],
 
 
+def scaled_number(n, t, pairs):
+    """A significand of magnitude from 1 up to but not 2, and a binary exponent."""
+    s, e = 1.0, 0
+    for i in range(n):
+        if t[i][i] == 0.0:
+            return [0.0], [0]
+        half, power = math.frexp(t[i][i])
+        s *= 2.0 * half
+        e += power - 1
+        if magnitude(s) >= 2.0:
+            s *= 0.5
+            e += 1
+    return [-s if len(pairs) % 2 else s], [e]
+
+
+def scaled(m, n, k, flat, swaps, told):
+    t, pairs = factors(m, n, flat, swaps, told, True)
+    return scaled_number(n, t, pairs)
+
+
 def invertible(m, n, k, flat, swaps, told):
     factors(m, n, flat, swaps, told, True)
     return [int(told[1] == 0)],
@@ -545,6 +566,14 @@ def moves(m, n, k, items):
     return unit,
 
 
+def stiffness(m, n, k, items):
+    pads, values = read_panel(k, items)
+    t = rows_of(pads, pads, values)
+    pairs = eliminate(pads, pads, t)[0]
+    overflow(flat_of(pads, pads, t))
+    return scaled_number(pads, t, pairs)
+
+
 def last_left(number, *case):
     """The lent result is the last slice: +0.0 after an overflow, else as it was."""
     return [0.0] * len(case[-1]) if number == 7 else case[-1],
@@ -561,7 +590,7 @@ CALLS = {
     20: (panel_file, lambda number, *case: (f'refused {number}\n',)), 21: (write_file, write_left),
     22: (remove, lambda number, m, n, k, store, swaps, told: (told[:1], store, swaps, told[1:])),
     23: (search, None), 24: (given_diagonal(corrected), last_left), 25: (solving(transposed_solved), last_left),
-    26: (moves, lambda *case: ('-',)), 35: (factor, factor_left),
+    26: (moves, lambda *case: ('-',)), 30: (scaled, lambda *case: '--'), 31: (stiffness, lambda *case: '--'), 35: (factor, factor_left),
 }
 
 

@@ -245,6 +245,62 @@ def invertible_made(c):
     return 0, [text]
 
 
+# ---- 30: the scaled determinant (document 02, request 10), in whole numbers; the crate's determinant must be it where no running product is
+# too large or too small
+
+def apart(x):
+    """Sign, significand and exponent of a finite number that is not zero: it is the significand, from 2^52 up to but not 2^53, times
+    2^(exponent - 52)."""
+    bits, = struct.unpack('<Q', struct.pack('<d', x))
+    field, digits = bits >> 52 & 2047, bits & 2 ** 52 - 1
+    digits, exponent = (digits + 2 ** 52, field - 1023) if field else (digits, -1022)
+    up = 53 - digits.bit_length()
+    return bits >> 63, digits << up, exponent - up
+
+
+def rounded(digits):
+    """A whole number of 105 or 106 digits to the nearest one with 53, ties to even: those digits, and by how many it was more."""
+    drop = digits.bit_length() - 53
+    kept, rest = divmod(digits, 2 ** drop)
+    kept += 2 * rest + kept % 2 > 2 ** drop
+    return (kept, drop) if kept < 2 ** 53 else (2 ** 52, drop + 1)
+
+
+def scaled(n, factors, pairs):
+    """The two parts of a line."""
+    if zero_on_diagonal(n, factors):
+        return [16 * '0', '0']
+    sign, significand, exponent = pairs % 2, 2 ** 52, 0
+    for x in factors[::n + 1]:
+        s, digits, e = apart(x)
+        significand, drop = rounded(significand * digits)
+        sign, exponent = sign ^ s, exponent + e + drop - 52
+    return ['%016x' % (sign << 63 | 1022 * 2 ** 52 + significand), str(exponent)]
+
+
+def is_ample(n, factors):
+    """Every running product of the plain determinant is finite and of magnitude above 2^-1022."""
+    product = 1.0
+    for x in factors[::n + 1]:
+        product *= x
+        if not 2.0 ** -1022 < abs(product) < math.inf:
+            return False
+    return True
+
+
+def scaled_made(c):
+    factors, _, (pairs, _) = c.slices
+    parts = scaled(c.n, factors, pairs)
+    if is_ample(c.n, factors):
+        plain = yield encode(Case(5, c.m, c.n, 0, c.slices))
+        assert plain == hexes(array('d', [math.ldexp(unhex(parts[0])[0], int(parts[1]))])), 'the crate has another determinant'
+    return 0, parts
+
+
+def two_dashes(c):
+    return ['-', '-']
+
+
 # ---- 9 to 13 and 24: triangular solves
 
 GIVEN = (11, 24)        # the ops that take a diagonal
@@ -506,6 +562,17 @@ def moves_made(c):
     return (0, [moves]) if finite(moves) else (7, ['-'])
 
 
+# ---- 31: the stiffness of a panel file (document 02, request 10)
+
+def stiffness_made(c):
+    """Factoring's 7, and no other refusal behind the reader's."""
+    n, _, held = yield from file_factored(c)
+    if held is None:
+        return 7, ['-', '-']
+    factors, _, (pairs, _) = held
+    return 0, scaled(n, factors, pairs)
+
+
 # ---- all calls
 
 RULES = {
@@ -528,6 +595,8 @@ RULES = {
     24: (triangular_tests, result_left, corrected_made),
     25: (solve_tests, result_left, transposed_made),
     26: (moves_tests, dash, moves_made),
+    30: (square_tests, two_dashes, scaled_made),
+    31: (file_tests, two_dashes, stiffness_made),
     35: (factor_tests, factor_left, factor_made),
 }
 

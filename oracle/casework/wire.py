@@ -50,11 +50,13 @@ OPS = {
     24: Op('solve lower with the given diagonal, corrected', 'nk', 'matrix', 'diagonal', 'right-hand sides', 'x0'),
     25: Op('transposed solve', 'mnk', 'factors', 'swaps', 'pairs', 'right-hand sides', 'x0'),
     26: Op('how a pad moves, of a panel file', 'mk', 'file'),
+    30: Op('scaled determinant', 'mn', 'factors', 'swaps', 'pairs'),
+    31: Op('stiffness of a panel file', 'k', 'file'),
     35: Op('build up', 'mn', 'matrix', 'out0', 'swaps'),
 }
 
 # the ops that take factors: their slice `pairs` has two numbers, the pairs and the dead columns; in the other ops it has one
-HELD = (2, 3, 4, 5, 6, 7, 8, 22, 25)
+HELD = (2, 3, 4, 5, 6, 7, 8, 22, 25, 30)
 
 
 class Case:

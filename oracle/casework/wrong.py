@@ -224,7 +224,39 @@ WRONG = [
     ('takes off a column past the last row when removing', 'own = int(n <= m and a[n - 1][n - 1] == 0.0)', 'own = int(a[min(m, n) - 1][n - 1] == 0.0)'),
     ('takes off for +0.0 alone when removing', 'own = int(n <= m and a[n - 1][n - 1] == 0.0)', 'own = int(n <= m and text([a[n - 1][n - 1]]) == text([0.0]))'),
     ('loses the dead columns when removing is refused', '(told[:1], store, swaps, told[1:])', '(told[:1], store, swaps, [0])'),
+    ('halves a significand twice', '            s *= 0.5\n            e += 1\n', '            s *= 0.25\n            e += 2\n'),
+    ('halves a significand above 2 only', 'if magnitude(s) >= 2.0:', 'if magnitude(s) > 2.0:'),
+    ('halves a positive significand only', 'if magnitude(s) >= 2.0:', 'if s >= 2.0:'),
+    ('forgets the exponent of a halving', '            s *= 0.5\n            e += 1\n', '            s *= 0.5\n'),
+    ("is one off in a subnormal number's exponent", 'e += power - 1', 'e += power - 1 - (magnitude(t[i][i]) < 2.0 ** -1022)'),
+    ("takes a subnormal number's digits without raising them", 'half, power = math.frexp(t[i][i])',
+     'half, power = math.frexp(t[i][i]) if magnitude(t[i][i]) >= 2.0 ** -1022 else (t[i][i] * 2.0 ** 1022, -1022)'),
+    ('loses the sign of the swaps in the scaled determinant', 'return [-s if len(pairs) % 2 else s], [e]', 'return [s], [e]'),
+    ('loses the sign of the diagonal', 's *= 2.0 * half', 's *= 2.0 * magnitude(half)'),
+    ('gives a zero determinant the sign of the swaps', 'return [0.0], [0]', 'return [-0.0 if len(pairs) % 2 else 0.0], [0]'),
+    ('keeps the exponent where a diagonal number is zero', 'return [0.0], [0]', 'return [0.0], [e]'),
+    ('rounds the product of significands twice', 's *= 2.0 * half', 's = twice_rounded(s, 2.0 * half)'),
+    ('scales the plain determinant', '    return scaled_number(n, t, pairs)\n\n\ndef invertible',
+     '    plain = determinant(m, n, k, flat, swaps, told)[0][0]\n    half, power = math.frexp(plain)\n'
+     '    return [2.0 * half], [power - 1 if plain else 0]\n\n\ndef invertible'),
+    ('multiplies from the last diagonal on', '    s, e = 1.0, 0\n    for i in range(n):', '    s, e = 1.0, 0\n    for i in reversed(range(n)):'),
+    ('refuses the stiffness of a singular crossing', '    overflow(flat_of(pads, pads, t))\n    return scaled_number',
+     '    overflow(flat_of(pads, pads, t))\n    zero_diagonal(pads, t)\n    return scaled_number'),
+    ('refuses a stiffness whose plain determinant overflows', '    overflow(flat_of(pads, pads, t))\n    return scaled_number',
+     '    overflow(flat_of(pads, pads, t))\n    overflow([math.prod((t[i][i] for i in range(pads)), start=1.0)])\n    return scaled_number'),
 ]
+
+# two roundings of the exact product, to 64 digits first
+TWICE = '''
+def twice_rounded(a, b):
+    digits, power = int(a * 2.0 ** 52) * int(b * 2.0 ** 52), -104
+    drop = max(magnitude(digits).bit_length() - 64, 0)
+    kept, rest = divmod(magnitude(digits), 2 ** drop)
+    kept += 2 * rest + kept % 2 > 2 ** drop
+    return math.ldexp(-kept if digits < 0 else kept, power + drop)
+
+
+'''
 
 # one rounding of the exact product and sum
 FUSED = '''
@@ -245,4 +277,7 @@ def programs(model):
     for what, old, new in WRONG:
         assert model.count(old) >= 1, f'model.py has no such text: {what}'
         source = model.replace(old, new, 1)
-        yield what, source.replace("if __name__ == '__main__':", FUSED + "if __name__ == '__main__':") if 'fused(' in new else source
+        for called, more in (('fused(', FUSED), ('twice_rounded(', TWICE)):
+            if called in new:
+                source = source.replace("if __name__ == '__main__':", more + "if __name__ == '__main__':")
+        yield what, source

@@ -11,6 +11,7 @@ fn main() -> Result<(), Refusal> {
     crossing.add_column(&third_pad)?;
     let loads = crossing.solve(&readings, 1)?;
     println!("determinant {}, {} rows exchanged, {} toss-ups", crossing.determinant()?, crossing.swaps().count(), crossing.toss_ups());
+    println!("that is {}, which neither vanishes nor overflows", crossing.scaled_determinant()?);
     println!("{} dead columns, so it can be solved: {}", crossing.dead_columns(), crossing.is_invertible()?);
     for pad in rank(&loads)? {
         println!("pad {pad}: load {}", loads[pad - 1]);

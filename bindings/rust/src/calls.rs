@@ -68,6 +68,18 @@ mod c {
             dead: usize,
             value: *mut f64,
         ) -> usize;
+        pub fn wejdarox_scaled_determinant(
+            factors: *const f64,
+            factors_len: usize,
+            swaps: *const usize,
+            swaps_len: usize,
+            m: usize,
+            n: usize,
+            pairs: usize,
+            dead: usize,
+            significand: *mut f64,
+            exponent: *mut i32,
+        ) -> usize;
         pub fn wejdarox_is_invertible(
             factors: *const f64,
             factors_len: usize,
@@ -82,6 +94,7 @@ mod c {
         pub fn wejdarox_rank(loads: *const f64, loads_len: usize, n: usize, ranks: *mut usize, ranks_len: usize, count: *mut usize) -> usize;
         pub fn wejdarox_rank_all(loads: *const f64, loads_len: usize, n: usize, ranks: *mut usize, ranks_len: usize, count: *mut usize) -> usize;
         pub fn wejdarox_pad_order(file: *const u8, file_len: usize, ranks: *mut usize, loads: *mut f64, pads: *mut usize, toss_ups: *mut usize) -> usize;
+        pub fn wejdarox_stiffness(file: *const u8, file_len: usize, significand: *mut f64, exponent: *mut i32, toss_ups: *mut usize) -> usize;
     }
 }
 
@@ -133,6 +146,11 @@ pub(crate) fn determinant(held: Held, value: &mut f64) -> usize {
     unsafe { c::wejdarox_determinant(f.as_ptr(), f.len(), s.as_ptr(), s.len(), m, n, pairs, dead, value) }
 }
 
+pub(crate) fn scaled_determinant(held: Held, significand: &mut f64, exponent: &mut i32) -> usize {
+    let Held { factors: f, swaps: s, rows: m, columns: n, pairs, dead } = held;
+    unsafe { c::wejdarox_scaled_determinant(f.as_ptr(), f.len(), s.as_ptr(), s.len(), m, n, pairs, dead, significand, exponent) }
+}
+
 pub(crate) fn is_invertible(held: Held, invertible: &mut bool) -> usize {
     let Held { factors: f, swaps: s, rows: m, columns: n, pairs, dead } = held;
     unsafe { c::wejdarox_is_invertible(f.as_ptr(), f.len(), s.as_ptr(), s.len(), m, n, pairs, dead, invertible) }
@@ -150,9 +168,24 @@ pub(crate) fn pad_order(file: &[u8], ranks: &mut [usize; 64], loads: &mut [f64; 
     unsafe { c::wejdarox_pad_order(file.as_ptr(), file.len(), ranks.as_mut_ptr(), loads.as_mut_ptr(), pads, toss_ups) }
 }
 
+pub(crate) fn stiffness(file: &[u8], significand: &mut f64, exponent: &mut i32, toss_ups: &mut usize) -> usize {
+    unsafe { c::wejdarox_stiffness(file.as_ptr(), file.len(), significand, exponent, toss_ups) }
+}
+
 #[cfg(test)]
 mod tests {
     use super::*;
+
+    /// A refused stiffness: 7 leaves +0.0 with 0, any other refusal what was there.
+    #[test]
+    fn refused_stiffness() {
+        let seven = [b"LXP\x01\x00\x02".to_vec(), [1u64, 1, 0, 0, 0, 0].iter().flat_map(|word| word.to_le_bytes()).collect()].concat();
+        let (mut significand, mut exponent, mut toss_ups) = (7.5, -3, 9);
+        assert_eq!(stiffness(&seven[..53], &mut significand, &mut exponent, &mut toss_ups), 3);
+        assert_eq!((significand, exponent, toss_ups), (7.5, -3, 0));
+        assert_eq!(stiffness(&seven, &mut significand, &mut exponent, &mut toss_ups), 7);
+        assert_eq!((significand.to_bits(), exponent, toss_ups), (0, 0, 0));
+    }
 
     /// An `Lu` keeps its number of dead columns true, so 9 is met here alone: numbers that do not match, for two dead columns of either sign.
     #[test]
@@ -160,12 +193,13 @@ mod tests {
         let (factors, swaps) = ([0.0, 0.0, 5.0, -0.0], [0; 128]);
         for dead in [0, 1, 3, 1 << 32, usize::MAX] {
             let held = Held { factors: &factors, swaps: &swaps, rows: 2, columns: 2, pairs: 0, dead };
-            let (mut x, mut value, mut invertible) = ([7.5; 4], 7.5, true);
+            let (mut x, mut value, mut exponent, mut invertible) = ([7.5; 4], 7.5, -3, true);
             assert_eq!(solve(held, &[1.0, 2.0], 1, &mut x[..2]), 9);
             assert_eq!(inverse(held, &mut x), 9);
             assert_eq!(determinant(held, &mut value), 9);
+            assert_eq!(scaled_determinant(held, &mut value, &mut exponent), 9);
             assert_eq!(is_invertible(held, &mut invertible), 9);
-            assert_eq!((x, value, invertible), ([7.5; 4], 7.5, true));
+            assert_eq!((x, value, exponent, invertible), ([7.5; 4], 7.5, -3, true));
 
             let (mut store, mut list) = ([0.0, 0.0, 5.0, -0.0, 7.5, 7.5], swaps);
             let mut counts = Counts { pairs: 0, dead, toss_ups: 9 };

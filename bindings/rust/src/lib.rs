@@ -95,6 +95,24 @@ impl fmt::Display for Refusal {
 
 impl Error for Refusal {}
 
+/// A number as a significand times a power of two. It has room for the product of any 64 finite numbers; it prints as `1.25 × 2^-1200`.
+#[derive(Clone, Copy, Debug, PartialEq)]
+pub struct Scaled {
+    /// The significand, of magnitude from 1 up to but not 2; or +0.0.
+    pub significand: f64,
+    /// The exponent of two, from -68,736 up to 65,535; 0 beside +0.0.
+    pub exponent: i32,
+}
+
+impl fmt::Display for Scaled {
+    fn fmt(&self, f: &mut fmt::Formatter<'_>) -> fmt::Result {
+        if self.significand == 0.0 {
+            return write!(f, "0");
+        }
+        write!(f, "{} × 2^{}", self.significand, self.exponent)
+    }
+}
+
 /// The factors of a matrix, with the exchanged rows and the record of the factoring.
 #[derive(Clone, Debug)]
 pub struct Lu {
@@ -149,6 +167,13 @@ impl Lu {
         let mut value = 0.0;
         Refusal::told(calls::determinant(self.held(), &mut value))?;
         Ok(value)
+    }
+
+    /// The determinant of a square matrix, which neither vanishes nor overflows: it is zero only where a column is dead. Refusal: 2.
+    pub fn scaled_determinant(&self) -> Result<Scaled, Refusal> {
+        let mut d = Scaled { significand: 0.0, exponent: 0 };
+        Refusal::told(calls::scaled_determinant(self.held(), &mut d.significand, &mut d.exponent))?;
+        Ok(d)
     }
 
     /// Whether a square matrix is invertible: it has no dead column. Refusal: 2.
@@ -237,4 +262,20 @@ pub fn pad_order(file: &[u8]) -> Result<PadOrder, Refusal> {
     Refusal::told(calls::pad_order(file, &mut ranks, &mut loads, &mut pads, &mut toss_ups))?;
     let pads = ranks[..pads].iter().map(|&number| Pad { number, load: loads[number - 1] }).collect();
     Ok(PadOrder { pads, toss_ups })
+}
+
+/// How stiff the crossing of a panel file is.
+#[derive(Clone, Copy, Debug, PartialEq)]
+pub struct Stiffness {
+    /// The determinant of its matrix; +0.0 where that is singular.
+    pub determinant: Scaled,
+    /// In how many columns another row had the pivot's magnitude, so that the first was taken.
+    pub toss_ups: usize,
+}
+
+/// The stiffness of a panel file's crossing. Refusals: 8, 1, 3, 5, and 7 where a factor is not finite.
+pub fn stiffness(file: &[u8]) -> Result<Stiffness, Refusal> {
+    let (mut determinant, mut toss_ups) = (Scaled { significand: 0.0, exponent: 0 }, 0);
+    Refusal::told(calls::stiffness(file, &mut determinant.significand, &mut determinant.exponent, &mut toss_ups))?;
+    Ok(Stiffness { determinant, toss_ups })
 }

@@ -3,7 +3,7 @@ use std::fs;
 use std::io::Write;
 use std::path::{Path, PathBuf};
 use std::process::{Command, Stdio};
-use wejdarox::{pad_order, rank, rank_all, Lu, Pad, PadOrder, Refusal};
+use wejdarox::{pad_order, rank, rank_all, stiffness, Lu, Pad, PadOrder, Refusal, Scaled, Stiffness};
 
 // ---- random inputs, the same in every run
 
@@ -150,6 +150,42 @@ fn zeros(lu: &Lu) -> usize {
     (0..lu.rows().min(lu.columns())).filter(|i| lu.factors()[i * lu.rows() + i] == 0.0).count()
 }
 
+/// The scaled determinant by hand, each number of the diagonal doubled or halved, which is exact, until it is from 1 up to but not 2; and whether no running
+/// product of the plain determinant leaves the normal numbers.
+fn scaled_by_hand(lu: &Lu) -> (Scaled, bool) {
+    let (mut d, mut plain, mut ample) = (Scaled { significand: 1.0, exponent: 0 }, 1.0, true);
+    for i in 0..lu.rows() {
+        let mut x = lu.factors()[i * lu.rows() + i];
+        plain *= x;
+        ample &= plain.is_finite() && plain.abs() > 2f64.powi(-1022);
+        if x == 0.0 {
+            return (Scaled { significand: 0.0, exponent: 0 }, false);
+        }
+        while x.abs() < 1.0 {
+            x *= 2.0;
+            d.exponent -= 1;
+        }
+        while x.abs() >= 2.0 {
+            x *= 0.5;
+            d.exponent += 1;
+        }
+        d.significand *= x;
+        if d.significand.abs() >= 2.0 {
+            d.significand *= 0.5;
+            d.exponent += 1;
+        }
+    }
+    if lu.swaps().count() % 2 == 1 {
+        d.significand = -d.significand;
+    }
+    (d, ample)
+}
+
+/// The number that is meant, where it is a normal one: two exact products.
+fn unscaled(d: Scaled) -> f64 {
+    d.significand * 2f64.powi(d.exponent / 2) * 2f64.powi(d.exponent - d.exponent / 2)
+}
+
 /// All columns added one by one, from none on.
 fn built_up(a: &[f64], rows: usize) -> Result<Lu, Refusal> {
     let mut lu = Lu::factor(&[], rows, 0)?;
@@ -219,17 +255,28 @@ fn calls_on_factors() {
     }
     let answers = cases.answers();
     assert_eq!(answers.len(), 4 * asked.len());
-    let mut counts = [0; 8];
+    let (mut counts, mut exact, mut saved) = ([0; 8], 0, 0);
     for ((lu, b, k), line) in asked.iter().zip(answers.chunks(4)) {
         let solved = lu.solve(b, *k).map(|x| hex(&x));
         counts[solved.as_ref().err().map_or(0, |refusal| refusal.number())] += 1;
         assert_eq!(solved, expected(&line[0]));
         assert_eq!(lu.inverse().map(|x| hex(&x)), expected(&line[1]));
-        assert_eq!(lu.determinant().map(|d| hex(&[d])), expected(&line[2]));
+        let plain = lu.determinant();
+        assert_eq!(plain.map(|d| hex(&[d])), expected(&line[2]));
+        let (by_hand, ample) = scaled_by_hand(lu);
+        let scaled = lu.scaled_determinant().expect("it never overflows");
+        assert_eq!((hex(&[scaled.significand]), scaled.exponent), (hex(&[by_hand.significand]), by_hand.exponent));
+        if ample {
+            assert_eq!(Ok(unscaled(scaled)), plain);
+            exact += 1;
+        } else if scaled.significand != 0.0 {
+            saved += 1;
+        }
         assert_eq!(lu.is_invertible(), Ok(line[3] == "1"));
     }
     println!("{} solved, {} refused with 6 and {} with 7; as many inverses, determinants and tests", counts[0], counts[6], counts[7]);
-    assert!(counts[0] > 300 && counts[6] > 30 && counts[7] > 5);
+    println!("{exact} scaled determinants are the plain one exactly, and of {saved} a plain product vanishes, overflows or is subnormal");
+    assert!(counts[0] > 300 && counts[6] > 30 && counts[7] > 5 && exact > 200 && saved > 50);
 }
 
 #[test]
@@ -275,6 +322,12 @@ fn panel_files() {
         let whole = file(n, &a, &b);
         assert_eq!(pad_order(&whole), parts());
         assert_eq!(pad_order(&whole[..whole.len() - 1]), Err(Refusal::Length));
+        let quick = || -> Result<Stiffness, Refusal> {
+            let lu = Lu::factor(&a, n, n)?;
+            Ok(Stiffness { determinant: lu.scaled_determinant()?, toss_ups: lu.toss_ups() })
+        };
+        assert_eq!(stiffness(&whole), quick());
+        assert_eq!(stiffness(&whole[..whole.len() - 1]), Err(Refusal::Length));
     }
 }
 
@@ -299,5 +352,7 @@ fn crossings() {
         assert_eq!(made, wanted, "{name}");
         names += 1;
     }
-    assert_eq!(names, 6);
+    assert_eq!(names, 7);
+    let soft = fs::read(repository().join("crossings/soft-ground.lxp")).expect("the file");
+    assert_eq!(stiffness(&soft).map(|s| s.determinant.to_string()), Ok("1.25 × 2^-1200".to_owned()));
 }

@@ -1,10 +1,15 @@
 //! Every refusal, with sizes and lengths that are anything; and a refused call leaves the type as it was.
-use wejdarox::{pad_order, rank, rank_all, Lu, Refusal};
+use wejdarox::{pad_order, rank, rank_all, stiffness, Lu, Refusal, Scaled};
 
 /// All that can be seen of factors.
 fn seen(lu: &Lu) -> ([usize; 4], Vec<u64>, Vec<(usize, usize)>) {
     let numbers = [lu.rows(), lu.columns(), lu.dead_columns(), lu.toss_ups()];
     (numbers, lu.factors().iter().map(|x| x.to_bits()).collect(), lu.swaps().collect())
+}
+
+/// A scaled number's bits, by which +0.0 is told from -0.0.
+fn bits(x: Scaled) -> (u64, i32) {
+    (x.significand.to_bits(), x.exponent)
 }
 
 fn refused<T>(answer: Result<T, Refusal>) -> usize {
@@ -55,6 +60,7 @@ fn not_square() {
         assert_eq!(lu.solve(&vec![1.0; rows], 1), Err(Refusal::NotSquare));
         assert_eq!(lu.inverse(), Err(Refusal::NotSquare));
         assert_eq!(lu.determinant(), Err(Refusal::NotSquare));
+        assert_eq!(lu.scaled_determinant(), Err(Refusal::NotSquare));
         assert_eq!(lu.is_invertible(), Err(Refusal::NotSquare));
     }
 }
@@ -77,6 +83,7 @@ fn singular() {
     assert_eq!(lu.dead_columns(), 1);
     assert_eq!(lu.is_invertible(), Ok(false));
     assert_eq!(lu.determinant().map(f64::abs), Ok(0.0));
+    assert_eq!(lu.scaled_determinant().map(bits), Ok((0, 0)));
     assert_eq!(lu.solve(&[1.0, 1.0], 1), Err(Refusal::Singular));
     assert_eq!(lu.inverse(), Err(Refusal::Singular));
 }
@@ -103,6 +110,7 @@ fn overflow() {
     assert_eq!(lu.inverse(), Err(Refusal::Overflow));
     let large = Lu::factor(&[f64::MAX, 0.0, 0.0, f64::MAX], 2, 2).expect("finite factors");
     assert_eq!(large.determinant(), Err(Refusal::Overflow));
+    assert_eq!(large.scaled_determinant(), Ok(Scaled { significand: 2.0 - 2f64.powi(-51), exponent: 2047 }));
     assert_eq!(large.is_invertible(), Ok(true));
 }
 
@@ -134,13 +142,33 @@ fn refused_adding_leaves_all() {
 
 #[test]
 fn panel_file() {
-    assert_eq!(refused(pad_order(&[])), 8);
-    assert_eq!(refused(pad_order(b"LXQ\x01\x00\x01")), 8);
-    assert_eq!(refused(pad_order(b"LXP\x02\x00\x01")), 8);
-    assert_eq!(refused(pad_order(b"LXP\x01\x00\x00")), 1);
-    assert_eq!(refused(pad_order(b"LXP\x01\x00\x41")), 1);
-    assert_eq!(refused(pad_order(b"LXP\x01\x00\x01")), 3);
-    assert_eq!(refused(pad_order(&[0; 40000])), 8);
+    let files: [(&[u8], usize); 7] = [
+        (&[], 8),
+        (b"LXQ\x01\x00\x01", 8),
+        (b"LXP\x02\x00\x01", 8),
+        (b"LXP\x01\x00\x00", 1),
+        (b"LXP\x01\x00\x41", 1),
+        (b"LXP\x01\x00\x01", 3),
+        (&[0; 40000], 8),
+    ];
+    for (file, number) in files {
+        assert_eq!(refused(pad_order(file)), number);
+        assert_eq!(refused(stiffness(file)), number);
+    }
+}
+
+#[test]
+fn a_determinant_that_does_not_vanish() {
+    let tiny = f64::from_bits(1);
+    let soft = Lu::factor(&[2f64.powi(-600), 0.0, 0.0, 1.25 * 2f64.powi(-600)], 2, 2).expect("finite factors");
+    assert_eq!(soft.determinant(), Ok(0.0));
+    assert_eq!(soft.scaled_determinant().map(|d| d.to_string()), Ok("1.25 × 2^-1200".to_owned()));
+    let swapped = Lu::factor(&[0.0, 2.0, 1.0, 0.0], 2, 2).expect("one swap");
+    assert_eq!(swapped.scaled_determinant().map(|d| d.to_string()), Ok("-1 × 2^1".to_owned()));
+    assert_eq!(Lu::factor(&[-0.0], 1, 1).expect("a zero").scaled_determinant().map(bits), Ok((0, 0)));
+    assert_eq!(Lu::factor(&[0.0], 1, 1).expect("a zero").scaled_determinant().map(|d| d.to_string()), Ok("0".to_owned()));
+    assert_eq!(Lu::factor(&[tiny], 1, 1).expect("subnormal").scaled_determinant(), Ok(Scaled { significand: 1.0, exponent: -1074 }));
+    assert_eq!(Lu::factor(&[3.0 * tiny], 1, 1).expect("subnormal").scaled_determinant(), Ok(Scaled { significand: 1.5, exponent: -1073 }));
 }
 
 #[test]

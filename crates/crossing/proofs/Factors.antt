@@ -16,9 +16,9 @@ use Rattle.numbers.proofs.Choice.{and-both, and-first}
 use Rattle.refusals.specs.Outcome.{Outcome, done, refused, tested, andThen, Call, leaving}
 use Rattle.refusals.proofs.Outcomes.{tested-none, tested-some, tested-map}
 use Rattle.factors.specs.declared.Record.{Record}
-use Rattle.from_factors.specs.Determinant.{determined}
-use Rattle.from_factors.specs.declared.Det.{Det}
-use Rattle.from_factors.specs.declared.Det.the-variants.{Refused as NoNumber}
+use Rattle.scaled_determinant.specs.declared.ScaledDet.{ScaledDet}
+use Rattle.scaled_determinant.specs.declared.ScaledDet.the-variants.{Refused as NoNumber}
+use Rattle.scaled_determinant.specs.Determinant.{scaledAnswer}
 use Rattle.panel_file.specs.declared.Panel.{Panel}
 use Rattle.panel_file.specs.declared.Panel.the-variants.{Pads, Refused as NotRead}
 use Rattle.panel_file.specs.File.{padsOf, matrixOf, readingsOf}
@@ -28,7 +28,7 @@ use Rattle.panel_file.proofs.Reading.{square, file-whole, file-among, reading-f
 use Rattle.panel_file.proofs.Files.{numbers-parts}
 use Rattle.crossing.specs.declared.Held.{Held}
 use Rattle.crossing.specs.declared.Held.the-variants.{Factors, Refused}
-use Rattle.crossing.specs.Below.{Packed, packedIn, factorsOf, tossUpsOf, determinantBy}
+use Rattle.crossing.specs.Below.{Packed, packedIn, factorsOf, tossUpsOf, scaledBy}
 use Rattle.crossing.specs.Factors.{factorsIn, tossUpsIn, tossesGiven, stiffness, settledIn, fronted, swapsLeft, Stores, stores, holding, factorsHeld}
 use Rattle.crossing.proofs.Below.{Good, factored-rows, factored-seven, factored-settled}
 
@@ -246,13 +246,13 @@ module _ (bytes : List ℕ) where
       (g .least, g .most)
 
   -- ---- the stiffness
-  pub stiffness-held : (p : Packed) (answer : Det) → factorsIn bytes ≡ done p → determined answer ≡ determinantBy p → determined answer ≡ stiffness bytes
+  pub stiffness-held : (p : Packed) (answer : ScaledDet) → factorsIn bytes ≡ done p → scaledAnswer answer ≡ scaledBy p → scaledAnswer answer ≡ stiffness bytes
   unfolding stiffness andThen
-  stiffness-held p answer e d = d ∙ ap (λ (o : Outcome Packed). andThen o determinantBy) (sym e)
+  stiffness-held p answer e d = d ∙ ap (λ (o : Outcome Packed). andThen o scaledBy) (sym e)
 
-  pub stiffness-refused : (k : ℕ) → factorsIn bytes ≡ refused k → determined (NoNumber k) ≡ stiffness bytes
-  unfolding stiffness andThen determined
-  stiffness-refused k e = ap (λ (o : Outcome Packed). andThen o determinantBy) (sym e)
+  pub stiffness-refused : (k : ℕ) → factorsIn bytes ≡ refused k → scaledAnswer (NoNumber k) ≡ stiffness bytes
+  unfolding stiffness andThen scaledAnswer
+  stiffness-refused k e = ap (λ (o : Outcome Packed). andThen o scaledBy) (sym e)
 
   pub tossed-held : (p : Packed) (tossed : ℕ) → factorsIn bytes ≡ done p → tossed ≡ tossUpsIn bytes → tossed ≡ tossesGiven (factorsIn bytes) (tossUpsIn bytes)
   unfolding tossesGiven

@@ -3,7 +3,6 @@ use mathlib.Core.Bool.{Bool, true, false}
 use mathlib.Core.List.{List}
 use Prim.Native.Nat.{ℕ, _*_}
 use lib.ListN.{take, replicate}
-use lib.Ieee.{Float}
 use Rattle.numbers.specs.Column.{Column, zeros}
 use Rattle.store.specs.Columns.{columns}
 use Rattle.refusals.specs.Outcome.{Outcome, done, andThen, Call}
@@ -11,7 +10,8 @@ use Rattle.factors.specs.declared.Record.{Record}
 use Rattle.elimination.specs.TossUps.{tossUps}
 use Rattle.lu.specs.Factoring.{factoring}
 use Rattle.from_factors.specs.Solving.{solving, trSolving}
-use Rattle.from_factors.specs.Determinant.{determining}
+use Rattle.scaled_determinant.specs.declared.Scaled.{Scaled}
+use Rattle.scaled_determinant.specs.Determinant.{scaling}
 
 -- factors as the slices hold them: the record, the packed numbers, the swap store
 pub record Packed : Type 0 where
@@ -50,6 +50,6 @@ solutionBy transposed f b =
 abbrev pub solutionIn : Bool → Record → Column → List ℕ → Column → Outcome Column
 solutionIn transposed told store swaps b = solutionBy transposed (packedIn told store swaps) (take (told .rows) b)
 
--- the determinant
-unfoldable pub determinantBy : Packed → Outcome Float
-determinantBy f = determining (f .told) (f .factors) (f .swaps)
+-- the determinant as a significand and an exponent (document 02, request 10)
+unfoldable pub scaledBy : Packed → Outcome Scaled
+scaledBy f = scaling (f .told) (f .factors) (f .swaps)

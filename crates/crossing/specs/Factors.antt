@@ -5,15 +5,15 @@ use mathlib.Core.List.{List, _++_}
 use Prim.Native.Nat.{ℕ, _*_}
 use lib.Dec.{eqb}
 use lib.ListN.{length, take, drop, replicate}
-use lib.Ieee.{Float}
 use Rattle.numbers.specs.Column.{Column, zeros}
 use Rattle.refusals.specs.Outcome.{Outcome, done, refused, tested, andThen, Call}
 use Rattle.factors.specs.declared.Record.{Record}
+use Rattle.scaled_determinant.specs.declared.Scaled.{Scaled}
 use Rattle.panel_file.specs.File.{padsOf, matrixOf, readingsOf}
 use Rattle.panel_file.specs.Reading.{fileRefusal}
 use Rattle.crossing.specs.declared.Held.{Held}
 use Rattle.crossing.specs.declared.Held.the-variants.{Factors, Refused}
-use Rattle.crossing.specs.Below.{Packed, factorsOf, tossUpsOf, determinantBy}
+use Rattle.crossing.specs.Below.{Packed, factorsOf, tossUpsOf, scaledBy}
 
 -- refused by the file's tests, else by factoring
 unfoldable pub factorsIn : List ℕ → Outcome Packed
@@ -27,9 +27,9 @@ unfoldable pub tossesGiven : Outcome Packed → ℕ → ℕ
 tossesGiven (done f) tossed = tossed
 tossesGiven (refused number) tossed = 0
 
--- the quick check of a crossing's stiffness: the determinant of the file's matrix
-unfoldable pub stiffness : List ℕ → Outcome Float
-stiffness bytes = andThen (factorsIn bytes) determinantBy
+-- "our quick check of a crossing's stiffness": the scaled determinant of the file's matrix
+unfoldable pub stiffness : List ℕ → Outcome Scaled
+stiffness bytes = andThen (factorsIn bytes) scaledBy
 
 -- ---- what a call leaves
 

@@ -6,16 +6,17 @@ ghost use Prim.Native.Nat.{_-_, _*_, _≤_};
 ghost use lib.ListN.{length};
 ghost use Rattle.finite.specs.Finite.{allFinite};
 ghost use Rattle.refusals.specs.Outcome.{done, refused, tested, andThen};
-ghost use Rattle.from_factors.specs.Determinant.{determined};
 ghost use Rattle.from_factors.specs.Solving.{unitColumn};
-ghost use Rattle.crossing.specs.Below.{packed, packedIn, factorsOf, solutionBy, solutionIn, tossUpsOf, determinantBy};
+ghost use Rattle.scaled_determinant.specs.Determinant.{scaledAnswer};
+ghost use Rattle.scaled_determinant.specs.Range.{AnswerRanged};
+ghost use Rattle.crossing.specs.Below.{packed, packedIn, factorsOf, solutionBy, solutionIn, tossUpsOf, scaledBy};
 ghost use Rattle.crossing.specs.Factors.{factorsIn, tossUpsIn, stiffness, tossesGiven, settledIn, fronted, swapsLeft, stores, holding, factorsHeld};
 ghost use Rattle.crossing.specs.Ordering.{ranksLeft, ordering, padsOrdered};
 ghost use Rattle.crossing.specs.Moving.{moving};
 use factors::Record;
-use from_factors::Det;
 use lu::Factored;
 use panel_file::Panel;
+use scaled_determinant::ScaledDet;
 
 // What a file's matrix answers once it is factored: the record of its factors and the number of toss-ups, or a refusal's number.
 pub enum Held {
@@ -29,9 +30,9 @@ pub enum Order {
     Refused(usize),
 }
 
-// What the quick check answers: the determinant, or its refusal, and at how many columns the pivot was a toss-up, 0 where the matrix was not factored.
+// What the quick check answers: the scaled determinant, or its refusal, and at how many columns the pivot was a toss-up, 0 where the matrix was not factored.
 pub struct QuickCheck {
-    pub determinant: Det,
+    pub determinant: ScaledDet,
     pub toss_ups: usize,
 }
 
@@ -213,23 +214,25 @@ pub fn pad_order(file: &[u8], ranks: &mut [usize; 64], loads: &mut [f64; 64]) ->
     }
 }
 
-// The determinant by the factors in front of their store, or the refusal handed on.
-fn determinant_of(matrix: &[f64], swaps: &[usize], told: Record) -> Det
+// The scaled determinant by the factors in front of their store, or the refusal handed on.
+fn determinant_of(matrix: &[f64], swaps: &[usize], told: Record) -> ScaledDet
     requires { ⌜ (told .rows ≤ 64) × (length (now matrix) ≡ 4096) ⌝ }
-    ensures { λ r. ⌜ determined r ≡ determinantBy (packedIn told (now (matrix .entry)) (now (swaps .entry))) ⌝ }
+    ensures { λ r. ⌜ scaledAnswer r ≡ scaledBy (packedIn told (now (matrix .entry)) (now (swaps .entry))) ⌝ }
+    ensures { λ r. ⌜ AnswerRanged r ⌝ }
 {
     let n = told.rows;
     let entries = n * n;
-    let answer = from_factors::determinant(&matrix[..entries], swaps, told);
-    let Det::Number(d) = answer else {
+    let answer = scaled_determinant::scaled_determinant(&matrix[..entries], swaps, told);
+    let ScaledDet::Number(d) = answer else {
         return answer;
     };
-    Det::Number(d)
+    ScaledDet::Number(d)
 }
 
-// The quick check of a crossing's stiffness: the determinant of a panel file's matrix, or the refusal.
+// The quick check of a crossing's stiffness: the scaled determinant of a panel file's matrix, or the refusal.
 pub fn stiffness(file: &[u8]) -> QuickCheck
-    ensures { λ r. ⌜ determined (r .determinant) ≡ stiffness (now (file .entry)) ⌝ }
+    ensures { λ r. ⌜ scaledAnswer (r .determinant) ≡ stiffness (now (file .entry)) ⌝ }
+    ensures { λ r. ⌜ AnswerRanged (r .determinant) ⌝ }
     ensures { λ r. ⌜ r .«toss_ups» ≡ tossesGiven (factorsIn (now (file .entry))) (tossUpsIn (now (file .entry))) ⌝ }
 {
     let mut matrix = [0.0f64; 4096];
@@ -244,7 +247,7 @@ pub fn stiffness(file: &[u8]) -> QuickCheck
             }
         }
         Held::Refused(number) => QuickCheck {
-            determinant: Det::Refused(number),
+            determinant: ScaledDet::Refused(number),
             toss_ups: 0,
         },
     }

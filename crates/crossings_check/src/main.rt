@@ -1,4 +1,4 @@
-// Prints what `panel_text::text` answers for each file of crossings/, under its name. The names are its six arguments.
+// Prints what `panel_text::text` answers for each file of crossings/, under its name. The names are its seven arguments.
 
 // Prints the answer for an open file.
 fn print_answer(fd: i32) {
@@ -31,4 +31,5 @@ fn main() {
     print_crossing(4);
     print_crossing(5);
     print_crossing(6);
+    print_crossing(7);
 }

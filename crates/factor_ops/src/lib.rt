@@ -13,6 +13,7 @@ use lu::Factored;
 use matrix_ops::result_line;
 use matrix_ops::whole_of;
 use refusals::Answer;
+use scaled_determinant::ScaledDet;
 
 // The record that a case tells.
 fn record_of(case: Case) -> Record {
@@ -78,6 +79,14 @@ fn determinant(case: Case, a: &[f64], swaps: &[usize]) -> Line {
     }
 }
 
+// Op 30.
+fn scaled_determinant(case: Case, a: &[f64], swaps: &[usize]) -> Line {
+    match scaled_determinant::scaled_determinant(a, swaps, record_of(case)) {
+        ScaledDet::Number(r) => lines::scaled_line(r.significand, r.exponent),
+        ScaledDet::Refused(number) => lines::not_scaled_line(number),
+    }
+}
+
 // Op 6.
 fn is_invertible(case: Case, a: &[f64], swaps: &[usize]) -> Line {
     match from_factors::is_invertible(a, swaps, record_of(case)) {
@@ -109,6 +118,7 @@ pub fn run(case: Case, a: &[f64], b: &[f64], x: &mut [f64], swaps: &mut [usize])
         5 => determinant(case, a, swaps),
         6 => is_invertible(case, a, swaps),
         22 => remove_column(case, x, swaps),
+        30 => scaled_determinant(case, a, swaps),
         35 => factored_line(columns::build_up(a, case.m, case.n, x, swaps)),
         _ => matrix_ops::run(case, a, b, x, swaps),
     }

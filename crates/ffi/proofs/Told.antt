@@ -1,9 +1,11 @@
 -- What a call's answer tells, case by case: the refusal's number and each number that is written through a pointer. Assumes nothing.
-use mathlib.Core.Path.{_≡_, refl, sym, ap, _∙_}
+use mathlib.Core.Path.{_≡_, refl, sym, ap, _∙_, subst}
 use mathlib.Core.Bool.{Bool}
 use mathlib.Core.List.{List}
 use Prim.Native.Nat.{ℕ}
+use native.Mathlib.Omega.{arith}
 use borrow.Author.Tests.{eq-eqb, ne-eqb}
+use lib.IntN.{ℤ, pos}
 use lib.Ieee.{Float}
 use Rattle.numbers.specs.Numbers.{zero64}
 use Rattle.refusals.specs.Outcome.{Outcome, numberOf, Call}
@@ -21,6 +23,13 @@ use Rattle.from_factors.specs.declared.Det.the-variants.{Number, Refused as NoN
 use Rattle.from_factors.specs.declared.Invertible.{Invertible}
 use Rattle.from_factors.specs.declared.Invertible.the-variants.{Is, Refused as NotTested}
 use Rattle.from_factors.specs.Determinant.{determined, testedInverse}
+use Rattle.scaled_determinant.specs.declared.Scaled.{Scaled}
+use Rattle.scaled_determinant.specs.declared.ScaledDet.{ScaledDet}
+use Rattle.scaled_determinant.specs.declared.ScaledDet.the-variants.{Number as Parts, Refused as NoParts}
+use Rattle.scaled_determinant.specs.Determinant.{vanished, scaledAnswer}
+use Rattle.scaled_determinant.specs.Range.{AnswerRanged}
+use Rattle.scaled_determinant.proofs.Range.{ranged-few}
+use Rattle.scaled_determinant.proofs.Steps.{kept, is-kept}
 use Rattle.ranking.specs.declared.Listed.{Listed}
 use Rattle.ranking.specs.Ranking.{padsListed}
 use Rattle.crossing.specs.declared.Order.{Order}
@@ -60,15 +69,15 @@ module _ (r : Record) (made : Added) (tossed : ℕ) (o : Outcome Record) (e : ad
 
 -- ---- the determinant and the invertible test
 module _ (made : Det) (o : Outcome Float) (e : determined made ≡ o) (was : Float) where
-  pub value-told : (d : Float) → made ≡ Number d → (0 ≡ numberOf o) × (d ≡ resultAfter o was)
+  pub value-told : (d : Float) → made ≡ Number d → (0 ≡ numberOf o) × (d ≡ resultAfter zero64 o was)
   unfolding determined numberOf resultAfter
   value-told d is = rw (sym e ∙ ap determined is) (refl, refl)
 
-  pub value-seven : (number : ℕ) → made ≡ NoNumber number → number ≡ 7 → (number ≡ numberOf o) × (zero64 ≡ resultAfter o was)
+  pub value-seven : (number : ℕ) → made ≡ NoNumber number → number ≡ 7 → (number ≡ numberOf o) × (zero64 ≡ resultAfter zero64 o was)
   unfolding determined numberOf resultAfter
   value-seven number is h = rw (sym e ∙ ap determined is, eq-eqb number 7 h) (refl, refl)
 
-  pub value-kept : (number : ℕ) → made ≡ NoNumber number → (number ≡ 7 → ⊥) → (number ≡ numberOf o) × (was ≡ resultAfter o was)
+  pub value-kept : (number : ℕ) → made ≡ NoNumber number → (number ≡ 7 → ⊥) → (number ≡ numberOf o) × (was ≡ resultAfter zero64 o was)
   unfolding determined numberOf resultAfter
   value-kept number is h = rw (sym e ∙ ap determined is, ne-eqb number 7 h) (refl, refl)
 
@@ -80,6 +89,31 @@ module _ (made : Invertible) (o : Outcome Bool) (e : testedInverse made ≡ o) (
   pub truth-kept : (number : ℕ) → made ≡ NotTested number → (number ≡ numberOf o) × (was ≡ valueAfter o was)
   unfolding testedInverse numberOf valueAfter
   truth-kept number is = rw (sym e ∙ ap testedInverse is) (refl, refl)
+
+-- ---- the scaled determinant, of factors or of a file
+module _ (made : ScaledDet) (o : Outcome Scaled) (e : scaledAnswer made ≡ o) (was : Scaled) where
+  abbrev Left : (number : ℕ) (significand : Float) (exponent : ℤ) → Scaled → Type 0
+  Left number significand exponent x = (number ≡ numberOf o) × ((significand ≡ x .significand) × (exponent ≡ x .exponent))
+
+  pub parts-told : AnswerRanged made → (r : Scaled) → made ≡ Parts r
+      → Left 0 (r .significand) (kept (r .exponent)) (valueAfter o was) × Left 0 (r .significand) (kept (r .exponent)) (resultAfter vanished o was)
+  unfolding scaledAnswer numberOf valueAfter resultAfter
+  parts-told g r is =
+      let few = ranged-few r (subst AnswerRanged is g) in
+      let same = is-kept (r .exponent) (omega (arith, few)) in
+      rw (sym e ∙ ap scaledAnswer is) ((refl, (refl, same)), (refl, (refl, same)))
+
+  pub parts-kept : (number : ℕ) → made ≡ NoParts number → Left number (was .significand) (was .exponent) (valueAfter o was)
+  unfolding scaledAnswer numberOf valueAfter
+  parts-kept number is = rw (sym e ∙ ap scaledAnswer is) (refl, (refl, refl))
+
+  pub parts-seven : (number : ℕ) → made ≡ NoParts number → number ≡ 7 → Left number zero64 (pos 0) (resultAfter vanished o was)
+  unfolding scaledAnswer numberOf resultAfter
+  parts-seven number is h = rw (sym e ∙ ap scaledAnswer is, eq-eqb number 7 h) (refl, (refl, refl))
+
+  pub parts-left : (number : ℕ) → made ≡ NoParts number → (number ≡ 7 → ⊥) → Left number (was .significand) (was .exponent) (resultAfter vanished o was)
+  unfolding scaledAnswer numberOf resultAfter
+  parts-left number is h = rw (sym e ∙ ap scaledAnswer is, ne-eqb number 7 h) (refl, (refl, refl))
 
 -- ---- a panel file
 module _ (made : Order) (o : Outcome (ℕ × ℕ)) (e : padsOrdered made ≡ o) where

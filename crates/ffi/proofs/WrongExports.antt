@@ -7,7 +7,10 @@ use mathlib.Core.List.{List, [], _∷_}
 use Prim.Native.Nat.{ℕ}
 use native.Mathlib.Omega.{arith}
 use lib.ListN.{replicate}
+use lib.IntN.{pos}
+use lib.Signed.{mag}
 use lib.Ieee.{Float}
+use Rattle.numbers.specs.Numbers.{zero64}
 use Rattle.numbers.specs.Column.{Column, zeros}
 use Rattle.store.specs.Columns.{isMatrix}
 use Rattle.refusals.specs.Outcome.{Outcome, numberOf, firstOf, tested, andThen, Call}
@@ -22,18 +25,20 @@ use Rattle.adding.specs.Adding.{addingRefusal, adding, addingAnswer}
 use Rattle.from_factors.specs.Solving.{solving, inverting}
 use Rattle.from_factors.specs.Determinant.{producing, determining, inverseTest}
 use Rattle.from_factors.proofs.Figures.{n0, n1}
+use Rattle.scaled_determinant.specs.declared.Scaled.{Scaled}
+use Rattle.scaled_determinant.specs.Scaled.{scaled}
+use Rattle.scaled_determinant.specs.Determinant.{vanished, scaling}
 use Rattle.panel_file.specs.File.{littleEndian, fieldAt, headed, padsOf}
 use Rattle.panel_file.specs.Reading.{fileTests, fileRefusal}
-use Rattle.crossing.specs.Factors.{factorsIn, settledIn}
+use Rattle.crossing.specs.Factors.{factorsIn, tossUpsIn, tossesGiven, stiffness, settledIn}
 use Rattle.crossing.specs.Ordering.{loadsOf, ranksLeft, Ranks, ordering}
 use Rattle.ffi.specs.Exports.{valueAfter, resultAfter, padsIn, countIn}
 
 -- a name for all that has to unfold for a call to be refused
 refuses : Type 0
 unfolding isMatrix numberOf firstOf outside tested andThen rankingRefusal ranking recordAfter heldRefusal factoringRefusal factoring withTossUps factoringAnswer
-    pairsIn deadColumnsIn tossedIn addingRefusal adding addingAnswer solving inverting producing determining inverseTest littleEndian fieldAt headed fileTests fileRefusal
-    factorsIn
-    settledIn loadsOf ranksLeft ordering valueAfter resultAfter padsIn countIn
+    pairsIn deadColumnsIn tossedIn addingRefusal adding addingAnswer solving inverting producing determining scaling inverseTest littleEndian fieldAt headed
+    fileTests fileRefusal factorsIn tossesGiven stiffness settledIn loadsOf ranksLeft ordering valueAfter resultAfter padsIn countIn
 refuses = Unit {0}
 
 -- ---- factoring and adding
@@ -143,7 +148,7 @@ wejdarox-inverse =
 
 -- the determinant, where a number stood before: +0.0 for every refusal
 abbrev determines : Record × (Column × (List ℕ × Float)) → ℕ × Float
-determines x = let o = determining (x .0) (x .1 .0) (x .1 .1 .0) in (numberOf o, resultAfter o (x .1 .1 .1))
+determines x = let o = determining (x .0) (x .1 .0) (x .1 .1 .0) in (numberOf o, resultAfter zero64 o (x .1 .1 .1))
 
 abbrev zeroed : Record × (Column × (List ℕ × Float)) → ℕ × Float
 zeroed x = (determines x .0, n0)
@@ -156,6 +161,26 @@ wejdarox-determinant =
   where
     one-zero : n1 ≡ n0 → ⊥
     one-zero d = let z : _≡_ {A = ℕ} 0 1 = cc in omega arith
+
+-- the scaled determinant, where a significand and an exponent stood before: +0.0 with 0 for every refusal
+abbrev scales : Record × (Column × (List ℕ × Scaled)) → ℕ × Scaled
+scales x = let o = scaling (x .0) (x .1 .0) (x .1 .1 .0) in (numberOf o, valueAfter o (x .1 .1 .1))
+
+abbrev nothingLeft : Record × (Column × (List ℕ × Scaled)) → ℕ × Scaled
+nothingLeft x = (scales x .0, vanished)
+
+-- 1 times two to the power 3
+abbrev eight : Scaled
+eight = scaled n1 (pos 3)
+
+not-vanished : eight ≡ vanished → ⊥
+not-vanished d = omega (arith, ap (λ (r : Scaled). mag (r .exponent)) d)
+
+pub wejdarox-scaled-determinant : TwoShutOut scales nothingLeft
+unfolding refuses
+wejdarox-scaled-determinant =
+    two scales nothingLeft (noSizes, ([], ([], eight))) (noSizes, ([], ([], eight))) (oneByOne, ([], ([], eight)))
+    (λ d. not-vanished (ap (λ (o : ℕ × Scaled). o .1) d)) (λ d. omega (arith, ap (λ (o : ℕ × Scaled). o .0) d))
 
 -- the invertible test, where a truth stood before: false for every refusal
 abbrev tests : Record × (Column × (List ℕ × Bool)) → ℕ × Bool
@@ -222,3 +247,23 @@ unfolding refuses
 wejdarox-pad-order =
     two orders headPads (onePad, unranked) (onePad, unranked) ([], unranked) (λ d. omega (arith, ap (λ (o : Ordered). o .pads) d))
     (λ d. omega (arith, ap (λ (o : Ordered). o .number) d))
+
+-- the stiffness, the same way
+pub record Checked : Type 0 where
+  pub number : ℕ
+  pub value : Scaled
+  pub tossed : ℕ
+
+abbrev checks : List ℕ × Scaled → Checked
+checks x =
+    let o = stiffness (x .0) in
+    record { number = numberOf o; value = resultAfter vanished o (x .1); tossed = tossesGiven (factorsIn (x .0)) (tossUpsIn (x .0)) }
+
+abbrev cleared : List ℕ × Scaled → Checked
+cleared x = record { number = checks x .number; value = vanished; tossed = checks x .tossed }
+
+pub wejdarox-stiffness : TwoShutOut checks cleared
+unfolding refuses
+wejdarox-stiffness =
+    two checks cleared (onePad, eight) (onePad, eight) ([], eight) (λ d. not-vanished (ap (λ (o : Checked). o .value) d))
+    (λ d. omega (arith, ap (λ (o : Checked). o .number) d))

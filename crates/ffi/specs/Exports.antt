@@ -2,8 +2,6 @@
 use mathlib.Core.Bool.{cond}
 use Prim.Native.Nat.{ℕ}
 use lib.Dec.{eqb}
-use lib.Ieee.{Float}
-use Rattle.numbers.specs.Numbers.{zero64}
 use Rattle.refusals.specs.Outcome.{Outcome, done, refused}
 
 -- the answer's value, where `was` stood before; refused, it is as it was
@@ -11,10 +9,10 @@ unfoldable pub valueAfter : {A : Type 0} → Outcome A → A → A
 valueAfter (done x) was = x
 valueAfter (refused number) was = was
 
--- the same of a number that is a result: refused with 7 it is +0.0, as document 01 says of result slices
-unfoldable pub resultAfter : Outcome Float → Float → Float
-resultAfter (done x) was = x
-resultAfter (refused number) was = cond (eqb number 7) zero64 was
+-- the same of a result: refused with 7 it is zero, "result slices +0.0"
+unfoldable pub resultAfter : {A : Type 0} → A → Outcome A → A → A
+resultAfter zero (done x) was = x
+resultAfter zero (refused number) was = cond (eqb number 7) zero was
 
 -- the number of pads; refused, there are none
 unfoldable pub padsIn : Outcome (ℕ × ℕ) → ℕ

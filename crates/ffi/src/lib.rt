@@ -1,6 +1,7 @@
 // The calls for C and Rust, under plain names: a slice is a pointer and a length, a refusal's number is the answer (0 for none), and a further number is
 // written through a pointer. Each hands its arguments on and adds nothing of its own; include/wejdarox.h is the caller's side.
 ghost use mathlib.Core.Path.{_≡_};
+ghost use Rattle.numbers.specs.Numbers.{zero64};
 ghost use Rattle.refusals.specs.Outcome.{numberOf};
 ghost use Rattle.ranking.specs.Ranking.{loaded, everyPad, ranking, padsListed};
 ghost use Rattle.factors.specs.Factors.{recordOf, recordAfter};
@@ -8,6 +9,9 @@ ghost use Rattle.lu.specs.Factoring.{factoring, factoringAnswer, pairsIn, deadC
 ghost use Rattle.adding.specs.Adding.{adding, addingAnswer};
 ghost use Rattle.from_factors.specs.Solving.{solving, inverting};
 ghost use Rattle.from_factors.specs.Determinant.{determining, inverseTest};
+ghost use Rattle.scaled_determinant.specs.Scaled.{scaled};
+ghost use Rattle.scaled_determinant.specs.Determinant.{vanished, scaling};
+ghost use Rattle.crossing.specs.Factors.{factorsIn, tossUpsIn, tossesGiven, stiffness};
 ghost use Rattle.crossing.specs.Ordering.{ordering};
 ghost use Rattle.ffi.specs.Exports.{valueAfter, resultAfter, padsIn, countIn};
 use adding::Added;
@@ -17,6 +21,7 @@ use from_factors::Det;
 use from_factors::Invertible;
 use lu::Factored;
 use ranking::Listed;
+use scaled_determinant::ScaledDet;
 
 // Factors the m by n matrix a. Refused: no pairs, no dead columns and no toss-ups.
 #[no_mangle]
@@ -167,7 +172,7 @@ pub extern "C" fn wejdarox_determinant(
     value: &mut f64,
 ) -> usize
     ensures { λ r. ⌜ r ≡ numberOf (determining (recordOf m n pairs dead) (now (factors .entry)) (now (swaps .entry))) ⌝ }
-    ensures { λ _. ⌜ now (value .exit) ≡ resultAfter (determining (recordOf m n pairs dead) (now (factors .entry)) (now (swaps .entry))) (now (value .entry)) ⌝ }
+    ensures { λ _. ⌜ now (value .exit) ≡ resultAfter zero64 (determining (recordOf m n pairs dead) (now (factors .entry)) (now (swaps .entry))) (now (value .entry)) ⌝ }
 {
     let told = Record {
         rows: m,
@@ -186,6 +191,43 @@ pub extern "C" fn wejdarox_determinant(
             }
             number
         }
+    }
+}
+
+// The determinant as a significand and a binary exponent. Refused: both as they were.
+#[no_mangle]
+pub extern "C" fn wejdarox_scaled_determinant(
+    factors: &[f64],
+    swaps: &[usize],
+    m: usize,
+    n: usize,
+    pairs: usize,
+    dead: usize,
+    significand: &mut f64,
+    exponent: &mut i32,
+) -> usize
+    ensures { λ r. ⌜ r ≡ numberOf (scaling (recordOf m n pairs dead) (now (factors .entry)) (now (swaps .entry))) ⌝ }
+    ensures { λ _. ⌜ now (significand .exit)
+        ≡ valueAfter (scaling (recordOf m n pairs dead) (now (factors .entry)) (now (swaps .entry)))
+        (scaled (now (significand .entry)) (now (exponent .entry))) .significand ⌝ }
+    ensures { λ _. ⌜ now (exponent .exit)
+        ≡ valueAfter (scaling (recordOf m n pairs dead) (now (factors .entry)) (now (swaps .entry)))
+        (scaled (now (significand .entry)) (now (exponent .entry))) .exponent ⌝ }
+{
+    let told = Record {
+        rows: m,
+        columns: n,
+        pairs,
+        dead,
+    };
+    match scaled_determinant::scaled_determinant(factors, swaps, told) {
+        ScaledDet::Number(d) => {
+            let power = d.exponent;
+            *significand = d.significand;
+            *exponent = power;
+            0
+        }
+        ScaledDet::Refused(number) => number,
     }
 }
 
@@ -293,6 +335,42 @@ pub extern "C" fn wejdarox_pad_order(
         Order::Refused(number) => {
             *pads = 0;
             *toss_ups = 0;
+            number
+        }
+    }
+}
+
+// The stiffness of a panel file's crossing, as a significand and a binary exponent, with its number of toss-ups. Refused with 7 it is
+// +0.0 with 0, else refused as it was; refused there are no toss-ups.
+#[no_mangle]
+pub extern "C" fn wejdarox_stiffness(
+    file: &[u8],
+    significand: &mut f64,
+    exponent: &mut i32,
+    toss_ups: &mut usize,
+) -> usize
+    ensures { λ r. ⌜ r ≡ numberOf (stiffness (now (file .entry))) ⌝ }
+    ensures { λ _. ⌜ now (significand .exit)
+        ≡ resultAfter vanished (stiffness (now (file .entry))) (scaled (now (significand .entry)) (now (exponent .entry))) .significand ⌝ }
+    ensures { λ _. ⌜ now (exponent .exit)
+        ≡ resultAfter vanished (stiffness (now (file .entry))) (scaled (now (significand .entry)) (now (exponent .entry))) .exponent ⌝ }
+    ensures { λ _. ⌜ now («toss_ups» .exit) ≡ tossesGiven (factorsIn (now (file .entry))) (tossUpsIn (now (file .entry))) ⌝ }
+{
+    let check = crossing::stiffness(file);
+    *toss_ups = check.toss_ups;
+    let determinant = check.determinant;
+    match determinant {
+        ScaledDet::Number(d) => {
+            let power = d.exponent;
+            *significand = d.significand;
+            *exponent = power;
+            0
+        }
+        ScaledDet::Refused(number) => {
+            if number == 7 {
+                *significand = 0.0;
+                *exponent = 0;
+            }
             number
         }
     }

@@ -5,4 +5,5 @@ pub mod WrongColumns
 pub mod WrongFiles
 pub mod WrongSwaps
 pub mod WrongRecords
+pub mod WrongScaled
 pub mod WrongPrograms

@@ -2,13 +2,14 @@
 -- reading 2), and one that leaves its slices as they were (for an answer of one number: that always gives the same, and that never refuses). For the writer at
 -- no pads (1), at a matrix of no numbers (3) and at one pad. Assumes nothing.
 use mathlib.Core.Path.{_≡_, refl, sym, ap, _∙_}
-use mathlib.Core.Bool.{true, false, false≢true}
+use mathlib.Core.Bool.{false≢true}
 use mathlib.Core.List.{List, [], _∷_, _++_}
 use Prim.Native.Nat.{ℕ, zero, suc}
 use native.Mathlib.Omega.{arith}
 use lib.ListN.{getD, drop, replicate}
 use lib.Dec.{T}
-use lib.Ieee.{Float, binary64, fits}
+use lib.IntN.{pos}
+use lib.Ieee.{binary64, fits, toBits}
 use lib.Ieee.Fits.{nan-fits}
 use lib.Ieee.Bits.{ofBits-fits}
 use Rattle.numbers.specs.Column.{Column, entry, zeros}
@@ -26,20 +27,23 @@ use Rattle.panel_file.proofs.Writing.{Fit, not-refused, write-refused}
 use Rattle.panel_file.proofs.Crossings.{one-writing}
 use Rattle.ranking.specs.Ranking.{ahead, insertPad, ranked, padsTo}
 use Rattle.from_factors.proofs.Figures.{transposes, n0, n1, n2}
-use Rattle.crossing.specs.Below.{factorsOf, solutionBy, determinantBy}
+use Rattle.scaled_determinant.specs.declared.Scaled.{Scaled}
+use Rattle.scaled_determinant.specs.Scaled.{scaled}
+use Rattle.scaled_determinant.proofs.Figures.{computes as scales}
+use Rattle.crossing.specs.Below.{factorsOf, solutionBy, scaledBy}
 use Rattle.crossing.specs.Factors.{factorsIn, stiffness, settledIn, swapsLeft, Stores as Held, stores as held, holding}
 use Rattle.factors.specs.declared.Record.{Record}
 use Rattle.factors.specs.Factors.{recordOf}
 use Rattle.crossing.specs.Ordering.{loadsOf, ranksLeft, Ranks, ordering}
 use Rattle.crossing.specs.Moving.{movesRefusal, movesOf, moving}
-use Rattle.panel_text.specs.Text.{written as writtenOver, decimal, lineOf, linesOf, padsText, refusedText}
-use Rattle.panel_text.specs.Printed.{orderText, textOf, changeText, movesTextOf}
+use Rattle.panel_text.specs.Text.{written as writtenOver, decimal, lineOf, linesOf, padsText, refusedText, digitsIn, signed, scaledText}
+use Rattle.panel_text.specs.Printed.{orderText, textOf, changeText, movesTextOf, checkText, stiffnessTextOf}
 
 -- a name for all that has to unfold for a file to be read, factored and solved
 answers : Type 0
-unfolding transposes sharedFrom tossUp tossAt tossFrom tossUps firstOf outside tested andThen littleEndian fieldAt headed numberAt fileTests fileRefusal
+unfolding transposes scales sharedFrom tossUp tossAt tossFrom tossUps firstOf outside tested andThen littleEndian fieldAt headed numberAt fileTests fileRefusal
     readingRefusal reading factorsOf solutionBy
-    determinantBy factorsIn stiffness settledIn ahead insertPad ranked padsTo loadsOf ranksLeft ordering movesRefusal movesOf moving
+    scaledBy factorsIn stiffness settledIn ahead insertPad ranked padsTo loadsOf ranksLeft ordering movesRefusal movesOf moving
 answers = Unit {0}
 
 -- `LXP`, version 1, one pad: its matrix 1.0, its reading 2.0; and no file at all, which is refused with 8
@@ -156,12 +160,12 @@ pad-order =
 
 -- ---- the stiffness: the same always; never a refusal; and always one
 
-one-stiff : stiffness onePadFile ≡ done n1
+one-stiff : stiffness onePadFile ≡ done (scaled n1 (pos 0))
 unfolding answers
 one-stiff = refl
 
 abbrev NeverRefused : Type 0
-NeverRefused = (number : List ℕ → Float) → ShutsOut stiffness (λ x. done (number x))
+NeverRefused = (number : List ℕ → Scaled) → ShutsOut stiffness (λ x. done (number x))
 
 abbrev AlwaysRefused : Type 0
 AlwaysRefused = (number : List ℕ → ℕ) → ShutsOut stiffness (λ x. refused (number x))
@@ -184,7 +188,7 @@ unfolding answers
 moves =
     both movesBy (λ x. x .1 .1) (onePadFile, (1, zeros 64)) {a = (1, 0)} {made = n1 ∷ drop 1 (zeros 64)} refl (zero-one (drop 1 (zeros 64)) (zeros 63))
 
--- ---- the texts, in a slice of 1288 bytes: `pads 1` with its line; `refused 8`
+-- ---- the texts, in a slice of 1288 bytes: `pads 1` with its line, or the stiffness, which is 1; and `refused 8`
 
 abbrev Refusing : {Input : Type 0} → (Input → List ℕ) → (Input → List ℕ) → Type 0
 Refusing {Input} prints was = (number : Input → ℕ) → ShutsOut prints (λ x. writtenOver 0 (refusedText (number x)) (was x))
@@ -216,4 +220,15 @@ moves-text =
     strong printsMoves (onePadFile, (1, blank)) (empty, (1, blank)) (differs 0 (λ d. omega (arith, d))) (
       shut-out printsMoves (λ x. x .1 .1) (onePadFile, (1, blank)) (differs 0 (λ d. omega (arith, d))),
       (λ number. shut-out printsMoves (λ x. writtenOver 0 (refusedText (number x)) (x .1 .1)) (onePadFile, (1, blank)) (differs 0 (λ d. omega (arith, d)))),
+    )
+
+abbrev printsStiffness : List ℕ × List ℕ → List ℕ
+printsStiffness x = writtenOver 0 (stiffnessTextOf (x .0)) (x .1)
+
+pub stiffness-text : Strong printsStiffness (ShutsOut printsStiffness (λ x. x .1) × Refusing printsStiffness (λ x. x .1))
+unfolding answers toBits writtenOver decimal digitsIn signed scaledText refusedText checkText stiffnessTextOf
+stiffness-text =
+    strong printsStiffness (onePadFile, blank) (empty, blank) (differs 0 (λ d. omega (arith, d))) (
+      shut-out printsStiffness (λ x. x .1) (onePadFile, blank) (differs 0 (λ d. omega (arith, d))),
+      (λ number. shut-out printsStiffness (λ x. writtenOver 0 (refusedText (number x)) (x .1)) (onePadFile, blank) (differs 0 (λ d. omega (arith, d)))),
     )

@@ -6,10 +6,12 @@ use lines::put;
 use lines::put_bar;
 use lines::put_bytes;
 use lines::put_front;
+use lines::put_scaled;
 use lines::put_shown;
 use lines::put_whole;
 use lines::put_word;
 use panel_file::Written;
+use scaled_determinant::ScaledDet;
 
 // The digit of the refusal number in what the program prints, 0 where it prints pads.
 fn digit_of(answer: &[u8]) -> u8 {
@@ -52,6 +54,22 @@ fn moves(text: &mut [u8], from: usize, pad: usize, file: &[u8]) -> usize {
     }
 }
 
+// Op 31.
+fn stiffness(text: &mut [u8], from: usize, file: &[u8]) -> usize {
+    let check = crossing::stiffness(file);
+    let determinant = check.determinant;
+    match determinant {
+        ScaledDet::Number(r) => {
+            let at = put_word(text, from, b"0 | ");
+            put_scaled(text, at, r.significand, r.exponent)
+        }
+        ScaledDet::Refused(number) => {
+            let at = put_refused(text, from, number);
+            put_word(text, at, b" | -")
+        }
+    }
+}
+
 // The refusal number and the count of op 21.
 fn put_written(text: &mut [u8], from: usize, answer: Written) -> usize {
     match answer {
@@ -86,6 +104,7 @@ fn on_file(text: &mut [u8], from: usize, case: Case, file: &[u8]) -> usize {
     let op = case.op;
     match op {
         20 => printed(text, from, file),
+        31 => stiffness(text, from, file),
         _ => moves(text, from, case.m, file),
     }
 }

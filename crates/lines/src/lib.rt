@@ -8,13 +8,15 @@ pub use text::put_bytes;
 use text::put_float;
 use text::put_floats;
 pub use text::put_front;
+pub use text::put_scaled;
 pub use text::put_shown;
+use text::put_signed;
 pub use text::put_whole;
 use text::put_wholes;
 pub use text::put_word;
 
-// What the parts of a line are, at most five: x and s the slices x and swaps, 1, 2 and 3 the line's whole numbers, f its float,
-// and a dash for a number that a refused call does not answer.
+// What the parts of a line are, at most five: x and s the slices x and swaps, 1, 2 and 3 the line's whole numbers, f its float, e its
+// exponent, and a dash for a number that a refused call does not answer.
 pub struct Parts(pub u8, pub u8, pub u8, pub u8, pub u8);
 
 // No part.
@@ -28,6 +30,7 @@ pub struct Line {
     pub second: usize,
     pub third: usize,
     pub float: f64,
+    pub exponent: i32,
 }
 
 // A line with up to three whole numbers.
@@ -39,6 +42,7 @@ pub fn line_of(number: usize, parts: Parts, first: usize, second: usize, third: 
         second,
         third,
         float: 0.0,
+        exponent: 0,
     }
 }
 
@@ -66,7 +70,26 @@ pub fn float_line(float: f64) -> Line {
         second: 0,
         third: 0,
         float,
+        exponent: 0,
     }
+}
+
+// The line of a call that answered a float and an exponent.
+pub fn scaled_line(float: f64, exponent: i32) -> Line {
+    Line {
+        number: 0,
+        parts: Parts(b'f', b'e', NO, NO, NO),
+        first: 0,
+        second: 0,
+        third: 0,
+        float,
+        exponent,
+    }
+}
+
+// The line of a refused call that would have answered both.
+pub fn not_scaled_line(number: usize) -> Line {
+    line_of(number, Parts(b'-', b'-', NO, NO, NO), 0, 0, 0)
 }
 
 // Puts what stands behind a part's bar.
@@ -85,6 +108,7 @@ fn put_items(
         b'2' => put_whole(text, at, line.second),
         b'3' => put_whole(text, at, line.third),
         b'f' => put_float(text, at, line.float),
+        b'e' => put_signed(text, at, line.exponent),
         _ => put(text, at, b'-'),
     }
 }

@@ -54,6 +54,30 @@ pub fn put_float(text: &mut [u8], at: usize, number: f64) -> usize {
     put_word(text, at, &digits[..n])
 }
 
+// A number without its sign; the least one has no negative.
+fn bare(number: i32) -> usize {
+    if number < 0 {
+        return (-1 - number) as usize + 1;
+    }
+    number as usize
+}
+
+// Puts a number in decimal, with a minus before a negative one.
+pub fn put_signed(text: &mut [u8], at: usize, number: i32) -> usize {
+    if number < 0 {
+        let behind = put(text, at, b'-');
+        return put_whole(text, behind, bare(number));
+    }
+    put_whole(text, at, bare(number))
+}
+
+// Puts a float and an exponent as two parts of a line, and the bar between them.
+pub fn put_scaled(text: &mut [u8], at: usize, float: f64, exponent: i32) -> usize {
+    let end = put_float(text, at, float);
+    let bar = put_bar(text, end);
+    put_signed(text, bar, exponent)
+}
+
 // Puts the space before each item of a part but the first.
 fn put_gap(text: &mut [u8], at: usize, item: usize) -> usize {
     if item == 0 {

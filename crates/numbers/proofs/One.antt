@@ -33,15 +33,15 @@ told-by-value (fin t n d) s m e p q v =
     sym (ofBits-toBits binary64 (fin t n d) p) ∙ ap (ofBits binary64) (same-bits t s n m d e (v .0) (v .1)) ∙ ofBits-toBits binary64 (fin s m e) q
 
 -- ---- its own fraction rounds to itself
-says : (s : Bool) (m : ℕ) (e : ℤ) → T (fits binary64 (fin s m e)) → (m < 2 ^ 53) × (down e ≤ 2 ^ 1074) × (m * up e < 2 ^ 1024 * down e)
+pub fits-says : (s : Bool) (m : ℕ) (e : ℤ) → T (fits binary64 (fin s m e)) → (m < 2 ^ 53) × (down e ≤ 2 ^ 1074) × (m * up e < 2 ^ 1024 * down e)
 unfolding fits
-says s zero e t =
+fits-says s zero e t =
     let one : up e * down e ≡ 1 = eqb→eq (up e * down e) 1 t in (
       pow-pos 53,
       le-trans (le-trans (le-of-eq (sym (one-mul (down e)))) (mul-le-mul-right (down e) (up-pos e))) (le-trans (le-of-eq one) (pow-pos 1074)),
       lt-of-le-of-lt (le-of-eq (zero-mul (up e))) (mul-pos (pow-pos 1024) (down-pos e)),
     )
-says s (suc m) e t =
+fits-says s (suc m) e t =
     let a : Bool = eqb (suc m % 2) 1 in
     let b : Bool = ltb (suc m) (2 ^ 53) in
     let c : Bool = leb (down e) (2 ^ 1074) in
@@ -52,7 +52,7 @@ says s (suc m) e t =
       ltb→lt (suc m * up e) (2 ^ 1024 * down e) (and-r (a && b && c) d t),
     )
 
-pow-back : (a b : ℕ) → 2 ^ a ≤ 2 ^ b → a ≤ b
+pub pow-back : (a b : ℕ) → 2 ^ a ≤ 2 ^ b → a ≤ b
 pow-back a b h = le-of-suc-le-suc (lt-of-not-le (λ (g : suc b ≤ a). lt-irrefl (2 ^ b) (lt-of-lt-of-le (pow-lt g) h)))
 
 -- 2 ^ e is 2 ^ j times the smallest value
@@ -65,7 +65,7 @@ place (negsuc k) h =
 
 pub round-own : (s : Bool) (m : ℕ) (e : ℤ) → T (fits binary64 (fin s m e)) → round binary64 s (m * up e) (down e) ≡ fin s m e
 round-own s m e t =
-    let w = says s m e t in
+    let w = fits-says s m e t in
     let j = place e (w .1) .0 in
     let p : m * up e * 2 ^ 1074 ≡ m * 2 ^ j * down e = mul-assoc m (up e) (2 ^ 1074) ∙ ap (λ (z : ℕ). m * z) (place e (w .1) .1)
     ∙ sym (mul-assoc m (2 ^ j) (down e)) in
@@ -79,7 +79,7 @@ round-own s m e t =
 by-one : (u s : Bool) (a c m : ℕ) (e : ℤ) → T (fits binary64 (fin s m e)) → u ≡ s → a ≡ m * up e → c ≡ down e → round binary64 u a c ≡ fin s m e
 by-one u s a c m e t p q r = rw (p, q, r) (round-own s m e t)
 
-unlike-false : (s : Bool) → unlike s false ≡ s
+pub unlike-false : (s : Bool) → unlike s false ≡ s
 unlike-false true = refl
 unlike-false false = refl
 

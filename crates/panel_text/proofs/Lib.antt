@@ -1,4 +1,5 @@
 pub mod Writing
+pub mod Whole
 pub mod Lines
 pub mod Printed
 pub mod Longer

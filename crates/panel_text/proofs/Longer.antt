@@ -20,11 +20,11 @@ use Rattle.panel_file.specs.Reading.{fileTests, fileRefusal}
 use Rattle.panel_file.proofs.Bits.{field-two}
 use Rattle.refusals.proofs.Cases.{first-behind}
 use Rattle.panel_file.proofs.Reading.{square, file-numbered}
-use Rattle.crossing.specs.Factors.{factorsIn}
+use Rattle.crossing.specs.Factors.{factorsIn, stiffness}
 use Rattle.crossing.specs.Ordering.{loadsOf}
 use Rattle.crossing.specs.Moving.{movesRefusal, movesOf}
 use Rattle.panel_text.specs.Text.{refusedText}
-use Rattle.panel_text.specs.Printed.{orderText, textOf, changeText, movesTextOf}
+use Rattle.panel_text.specs.Printed.{orderText, textOf, changeText, movesTextOf, checkText, stiffnessTextOf}
 
 -- ---- an input that is longer than every file: its refusal is settled by the head
 
@@ -68,6 +68,10 @@ module _ (bytes : List ℕ) (long : 33287 ≤ length bytes) where
       let is = moves-number pad in
       rw (tested-some (movesRefusal bytes pad) refused _ (λ z. long-some (sym is ∙ z))) (ap refusedText (is ∙ long-refusal))
 
+  pub long-stiffness : stiffnessTextOf bytes ≡ refusedText number
+  unfolding stiffnessTextOf checkText stiffness factorsIn andThen
+  long-stiffness = rw (tested-some (fileRefusal bytes) refused _ long-some) (ap refusedText long-refusal)
+
 -- the head is the first six bytes
 same-head : (s t : List ℕ) → 6 ≤ length s → 6 ≤ length t → ((i : ℕ) → i < 6 → getD s i 0 ≡ getD t i 0) → headed s ≡ headed t
 unfolding headed
@@ -97,20 +101,24 @@ module _ (bytes : List ℕ) (long : 33287 ≤ length bytes) where
       ap₂ refusalByHead (same-head front bytes (omega (arith, front-length)) (omega arith) (λ i h. getD-take 33287 bytes i 0 (omega arith)))
       (getD-take 33287 bytes 5 0 (omega arith))
 
-  longer-same : (textOf front ≡ textOf bytes) × ((pad : ℕ) → movesTextOf front pad ≡ movesTextOf bytes pad)
-  longer-same =
-      let much : 33287 ≤ length front = omega (arith, front-length) in
-      let text = ap refusedText same-number in
-      (long-text front much ∙ text ∙ sym (long-text bytes long), λ pad. long-moves front much pad ∙ text ∙ sym (long-moves bytes long pad))
+  -- a text that is settled by the head is the same of both
+  longer-same : (text : List ℕ → List ℕ) → ((s : List ℕ) → 33287 ≤ length s → text s ≡ refusedText (refusalByHead (headed s) (padsOf s)))
+      → text front ≡ text bytes
+  longer-same text settled = settled front (omega (arith, front-length)) ∙ ap refusedText same-number ∙ sym (settled bytes long)
+
+any-longer : (text : List ℕ → List ℕ) → ((s : List ℕ) → 33287 ≤ length s → text s ≡ refusedText (refusalByHead (headed s) (padsOf s)))
+    → (bytes : List ℕ) → text (take 33287 bytes) ≡ text bytes
+any-longer text settled bytes =
+    test-cases (leb 33287 (length bytes)) (λ t. longer-same bytes (leb-true 33287 (length bytes) t) text settled)
+    (λ t. let few = leb-false 33287 (length bytes) t in ap text (take-all 33287 bytes (omega arith)))
 
 -- THEOREM. What `panel_order` prints of the at most 33,287 bytes that it reads is what the whole input asks for, however long it is.
 pub longer-text : (bytes : List ℕ) → textOf (take 33287 bytes) ≡ textOf bytes
-longer-text bytes =
-    test-cases (leb 33287 (length bytes)) (λ t. longer-same bytes (leb-true 33287 (length bytes) t) .0)
-    (λ t. let few = leb-false 33287 (length bytes) t in ap textOf (take-all 33287 bytes (omega arith)))
+longer-text = any-longer textOf long-text
 
--- THEOREM. The same of `panel_moves`, for any pad number.
+-- THEOREM. The same of `panel_moves`, for any pad number, and of `panel_stiffness`.
 pub longer-moves : (bytes : List ℕ) (pad : ℕ) → movesTextOf (take 33287 bytes) pad ≡ movesTextOf bytes pad
-longer-moves bytes pad =
-    test-cases (leb 33287 (length bytes)) (λ t. longer-same bytes (leb-true 33287 (length bytes) t) .1 pad)
-    (λ t. let few = leb-false 33287 (length bytes) t in ap (λ (s : List ℕ). movesTextOf s pad) (take-all 33287 bytes (omega arith)))
+longer-moves bytes pad = any-longer (λ s. movesTextOf s pad) (λ s long. long-moves s long pad) bytes
+
+pub longer-stiffness : (bytes : List ℕ) → stiffnessTextOf (take 33287 bytes) ≡ stiffnessTextOf bytes
+longer-stiffness = any-longer stiffnessTextOf long-stiffness

@@ -19,13 +19,19 @@ use Rattle.panel_file.specs.File.{padsOf}
 use Rattle.refusals.proofs.Cases.{then-done}
 use Rattle.crossing.specs.declared.Order.{Order}
 use Rattle.crossing.specs.declared.Order.the-variants.{Pads, Refused}
-use Rattle.crossing.specs.Factors.{tossUpsIn}
+use Rattle.scaled_determinant.specs.declared.Scaled.{Scaled}
+use Rattle.scaled_determinant.specs.declared.ScaledDet.{ScaledDet}
+use Rattle.scaled_determinant.specs.declared.ScaledDet.the-variants.{Number, Refused as NoNumber}
+use Rattle.scaled_determinant.specs.Determinant.{scaledAnswer}
+use Rattle.crossing.specs.Factors.{tossUpsIn, stiffness}
 use Rattle.crossing.specs.Ordering.{loadsOf, ranksLeft, Ranks, ordering, padsOrdered}
 use Rattle.crossing.specs.Moving.{movesOf, moving}
+use Rattle.crossing.proofs.Factors.{factors-few}
+use Rattle.crossing.proofs.Answered.{stiffness-refusals}
 use Rattle.crossing.proofs.Ordering.{solved, not-solved, loads-known, loads-few}
 use Rattle.crossing.proofs.Moving.{moves-known, moves-few}
-use Rattle.panel_text.specs.Text.{written, padsText, movesText, refusedText}
-use Rattle.panel_text.specs.Printed.{orderText, textOf, changeText, movesTextOf}
+use Rattle.panel_text.specs.Text.{written, padsText, movesText, scaledText, refusedText}
+use Rattle.panel_text.specs.Printed.{orderText, textOf, changeText, movesTextOf, checkText, stiffnessTextOf}
 
 -- ---- the bytes that count
 pub text-counts : (r : ℕ) (t s now : List ℕ) → r ≡ length t → now ≡ written 0 t s → Counts r now
@@ -135,3 +141,18 @@ module _ (bytes : List ℕ) (pad : ℕ) (made : Order) (m : padsOrdered made ≡
   pub not-moved-few : (k : ℕ) → made ≡ Refused k → k < 100
   unfolding moving
   not-moved-few k t = omega (arith, moves-few bytes pad k (not-solved (padsOf bytes) (tossUpsIn bytes) (movesOf bytes pad) made m k t))
+
+-- ---- the stiffness
+
+module _ (bytes : List ℕ) (made : ScaledDet) (m : scaledAnswer made ≡ stiffness bytes) where
+  pub text-scaled : (r : Scaled) → made ≡ Number r → scaledText r ≡ stiffnessTextOf bytes
+  unfolding scaledAnswer stiffnessTextOf checkText
+  text-scaled r t = ap checkText (sym (ap scaledAnswer t) ∙ m)
+
+  pub text-not-scaled : (k : ℕ) → made ≡ NoNumber k → refusedText k ≡ stiffnessTextOf bytes
+  unfolding scaledAnswer stiffnessTextOf checkText
+  text-not-scaled k t = ap checkText (sym (ap scaledAnswer t) ∙ m)
+
+  pub not-scaled-few : (k : ℕ) → made ≡ NoNumber k → k < 100
+  unfolding scaledAnswer
+  not-scaled-few k t = omega (arith, factors-few bytes k (stiffness-refusals bytes k (sym m ∙ ap scaledAnswer t)))

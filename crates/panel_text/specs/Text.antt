@@ -2,12 +2,14 @@
 -- `refused K`", as bytes, each line ended by a newline.
 use mathlib.Core.Bool.{cond}
 use mathlib.Core.List.{List, [], _∷_, _++_}
-use Prim.Native.Nat.{ℕ, suc, _+_, _/_, _%_}
+use Prim.Native.Nat.{ℕ, zero, suc, _+_, _/_, _%_}
 use lib.Dec.{ltb}
+use lib.IntN.{ℤ, pos, negsuc}
 use lib.ListN.{length, take, drop}
 use lib.Ieee.{Float, binary64, toBits}
 use Rattle.numbers.specs.Each.{listOf}
 use Rattle.numbers.specs.Column.{Column}
+use Rattle.scaled_determinant.specs.declared.Scaled.{Scaled}
 use Rattle.ranking.specs.Ranking.{loadOf}
 use Rattle.io.specs.Digits.{digits}
 
@@ -50,6 +52,24 @@ firstLine word n = word ++ decimal n ++ 10 ∷ []
 -- `pads N` with the lines behind it
 unfoldable pub padsText : ℕ → Column → List ℕ → List ℕ
 padsText n loads ranks = firstLine padsWord n ++ linesOf loads ranks
+
+-- document 02, request 10: "one line: 16 hex digits, space, signed decimal exponent", a minus before a negative one
+
+-- how many decimal digits a number has, up to f more than one
+unfoldable pub digitsIn : ℕ → ℕ → ℕ
+digitsIn zero n = 1
+digitsIn (suc f) n = cond (ltb n 10) 1 (suc (digitsIn f (n / 10)))
+
+-- a number below 100,000 in decimal
+abbrev pub whole : ℕ → List ℕ
+whole n = digits 10 (digitsIn 4 n) n
+
+unfoldable pub signed : ℤ → List ℕ
+signed (pos n) = whole n
+signed (negsuc n) = 45 ∷ whole (suc n)
+
+unfoldable pub scaledText : Scaled → List ℕ
+scaledText r = digits 16 16 (toBits binary64 (r .significand)) ++ 32 ∷ [] ++ signed (r .exponent) ++ 10 ∷ []
 
 -- `refused K`
 unfoldable pub refusedText : ℕ → List ℕ

@@ -1,17 +1,22 @@
-// What is printed for a panel file (document 01, "Ranking and program"): the text of its pads in rank order, and of how a pad's load moves with each reading
-// (document 02, request 5).
+// What is printed for a panel file (document 01, "Ranking and program"): the text of its pads in rank order, of how a pad's load moves with each reading
+// (document 02, request 5), and of its stiffness (request 10).
 ghost use mathlib.Core.Path.{_≡_};
 ghost use mathlib.Core.Bool.{true};
 ghost use Prim.Native.Nat.{ℕ, _+_, _*_, _<_, _≤_};
 ghost use lib.ListN.{length, getD};
+ghost use lib.IntN.{natAbs};
+ghost use lib.Signed.{mag};
 ghost use lib.Ieee.Scale.{finite};
 ghost use Rattle.finite.specs.Finite.{allFinite};
 ghost use Rattle.ranking.specs.Ranking.{IsPad};
+ghost use Rattle.scaled_determinant.specs.Range.{Ranged};
 ghost use Rattle.io.specs.Counts.{Counts};
 ghost use Rattle.io.specs.Digits.{digits, glyph as Digits·glyph};
-ghost use Rattle.panel_text.specs.Text.{written, decimal, lineOf, linesOf, movesText, padsText, refusedText};
-ghost use Rattle.panel_text.specs.Printed.{textOf, movesTextOf};
+ghost use Rattle.panel_text.specs.Text.{written, decimal, lineOf, linesOf, movesText, padsText, refusedText, whole, signed, scaledText};
+ghost use Rattle.panel_text.specs.Printed.{textOf, movesTextOf, stiffnessTextOf};
 use crossing::Order;
+use scaled_determinant::Scaled;
+use scaled_determinant::ScaledDet;
 
 // The character of a digit below 16.
 fn glyph(d: u64) -> u8
@@ -166,5 +171,65 @@ pub fn moves_text(file: &[u8], pad: usize, out: &mut [u8; 1288]) -> usize
             toss_ups: _,
         } => put_moves(out, &moves[..n]),
         Order::Refused(number) => put_refusal(out, number),
+    }
+}
+
+// Writes a number below 100,000 in decimal. Answers the place behind it.
+fn put_whole(out: &mut [u8], at: usize, n: u64) -> usize
+    requires { ⌜ (n < 100000) × (at + 5 ≤ length (now out)) ⌝ }
+    ensures { λ r. ⌜ r ≡ at + length (whole n) ⌝ }
+    ensures { λ _. ⌜ now (out .exit) ≡ written at (whole n) (now (out .entry)) ⌝ }
+{
+    let mut digits = [0u8; 20];
+    let k = io::decimal(n, &mut digits);
+    put_word(out, at, &digits[..k])
+}
+
+// A number without its sign.
+fn bare(e: i32) -> u64
+    requires { ⌜ mag e < 99999 ⌝ }
+    ensures { λ r. ⌜ r ≡ natAbs e ⌝ }
+{
+    if e < 0 { (-e) as u64 } else { e as u64 }
+}
+
+// Writes a number with its sign. Answers the place behind it.
+fn put_signed(out: &mut [u8], at: usize, e: i32) -> usize
+    requires { ⌜ (mag e < 99999) × (at + 6 ≤ length (now out)) ⌝ }
+    ensures { λ r. ⌜ r ≡ at + length (signed e) ⌝ }
+    ensures { λ _. ⌜ now (out .exit) ≡ written at (signed e) (now (out .entry)) ⌝ }
+{
+    let n = bare(e);
+    if e < 0 {
+        out[at] = b'-';
+        return put_whole(out, at + 1, n);
+    }
+    put_whole(out, at, n)
+}
+
+// Writes the line of a scaled determinant. Answers how many bytes it has.
+fn put_scaled(out: &mut [u8], r: Scaled) -> usize
+    requires { ⌜ (length (now out) ≡ 1288) × Ranged r ⌝ }
+    ensures { λ n. ⌜ n ≡ length (scaledText r) ⌝ }
+    ensures { λ _. ⌜ now (out .exit) ≡ written 0 (scaledText r) (now (out .entry)) ⌝ }
+{
+    put_hex(out, 0, f64::to_bits(r.significand));
+    out[16] = b' ';
+    let end = put_signed(out, 17, r.exponent);
+    out[end] = b'\n';
+    end + 1
+}
+
+// What is printed of a file's stiffness, at the front of out. Answers how many bytes it has.
+pub fn stiffness_text(file: &[u8], out: &mut [u8; 1288]) -> usize
+    ensures { λ r. ⌜ Counts r (now (out .exit)) ⌝ }
+    ensures { λ r. ⌜ r ≡ length (stiffnessTextOf (now (file .entry))) ⌝ }
+    ensures { λ _. ⌜ now (out .exit) ≡ written 0 (stiffnessTextOf (now (file .entry))) (now (out .entry)) ⌝ }
+{
+    let check = crossing::stiffness(file);
+    let determinant = check.determinant;
+    match determinant {
+        ScaledDet::Number(r) => put_scaled(out, r),
+        ScaledDet::Refused(number) => put_refusal(out, number),
     }
 }

@@ -17,13 +17,13 @@ returns c =
     let at-told = c .before .before .before .before in
     let e = ready at-told .factors in
     let t = filed-tossed _ _ _ _ _ (at-told .before .before .factor-file .ensures) _ _ (at-told .told .given .1) in
-    (stiffness-held _ _ _ e (c .determinant-of .ensures), tossed-held _ _ _ e t)
+    (stiffness-held _ _ _ e (c .determinant-of .ensures .0), (c .determinant-of .ensures .1, tossed-held _ _ _ e t))
 
 returns-2 : tie.Need-returns-2
 returns-2 c =
     let at-number = c .before in
     let e = filed-refused _ _ _ _ _ (at-number .before .before .factor-file .ensures) _ (at-number .number .given .1) in
-    (stiffness-refused _ _ e, tossed-refused _ _ e)
+    (stiffness-refused _ _ e, (tt, tossed-refused _ _ e))
 
 pub stiffness-spec : {M : Type 1} → statement M
 stiffness-spec =

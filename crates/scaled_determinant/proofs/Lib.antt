@@ -1,0 +1,12 @@
+pub mod Fractions
+pub mod OneWay
+pub mod Significand
+pub mod Exponents
+pub mod Parts
+pub mod Pattern
+pub mod Range
+pub mod Exactly
+pub mod Diagonal
+pub mod Steps
+pub mod Calls
+pub mod Figures

@@ -1,0 +1,4 @@
+pub mod Scaled
+pub mod Determinant
+pub mod Range
+pub mod Inner
