@@ -255,13 +255,16 @@ def transposed():
 
 # ---- dead columns: numbers that are wrong, and factors that keep theirs through adding and removing
 
+SOLVES = (3, 25, 28)
+
+
 def holding(op, m, n, dead, *numbers, list_=()):
     """A call on any m by n factors with that list and that number of dead columns; what it takes besides is good."""
     factors, told, column = doubles(*numbers), [swap_store(*list_), held(len(list_) // 2, dead)], doubles(*[float(x + 1) for x in range(m)])
     if op == 2:
         return Case(2, m, n, 0, [factors + spare(m), column, *told])
-    lent = {3: m, 4: m * n, 7: m * min(m, n), 8: n * min(m, n), 25: m}
-    return Case(op, m, n, 1, [factors, *told, *([column] if op in (3, 25) else []), *([spare(lent[op])] if op in lent else [])])
+    lent = {4: m * n, 7: m * min(m, n), 8: n * min(m, n), **{solve: m for solve in SOLVES}}
+    return Case(op, m, n, 1, [factors, *told, *([column] if op in SOLVES else []), *([spare(lent[op])] if op in lent else [])])
 
 
 # two diagonal numbers, with numbers of dead columns to tell, right and wrong
@@ -282,10 +285,10 @@ def dead():
             yield changed(bad, bad.at('swaps'), swap_store()[:-1])                      # 3 before 9
             yield changed(bad, bad.at('pairs'), held(3, number))                        # 4 before 9
             yield Case(op, 2, 65, bad.k, bad.slices)                                    # 1 before 9
-            if op in (2, 3, 25):
+            if op == 2 or op in SOLVES:
                 at = 1 if op == 2 else 3
                 yield changed(bad, at, with_item(bad.slices[at], 1, infinite))          # 5, of the column or the right-hand side
-        if op in (3, 4, 25):                                                            # 9 before 7
+        if op == 4 or op in SOLVES:                                                     # 9 before 7
             yield holding(op, 1, 1, 1, 2.0 ** -1074)
             yield holding(op, 1, 1, 0, 2.0 ** -1074)
     for op in (2, 7, 8, 22):
@@ -294,7 +297,7 @@ def dead():
             yield holding(op, 2, 4, number, 2.0, 0.5, 0.0, 0.0, 0.0, 0.0, 0.0, 0.0)
             yield holding(op, 3, 1, number, 2.0, 0.0, 0.0)                              # below the last column: none
             yield holding(op, 3, 2, number, 0.0, 4.0, 5.0, 0.0, -0.0, 6.0)
-    for op in (3, 4, 5, 6, 25):
+    for op in (4, 5, 6, *SOLVES):
         for number in (0, 1):
             yield holding(op, 2, 1, number, 0.0, 1.0)                                   # 2 before 9
     yield holding(2, 2, 0, 0)
@@ -339,6 +342,146 @@ def kept():
     yield removing(3, 2, [1, 2], 0.0, 0.0, 5.0, 7.0, 0.0, 6.0)
     yield removing(3, 3, [], 1.0, 2.0, 3.0, 4.0, 0.0, 6.0, 7.0, 8.0, 0.0)
     yield removing(2, 3, [], 0.0, 2.0, 3.0, 0.0, 0.0, 0.0)
+
+
+# ---- why: places of overflow in factoring and in both passes, and dead columns
+
+TOP = (2.0 - 2.0 ** -52) * 2.0 ** 1023          # the largest number
+TINY = 2.0 ** -1024                             # its reciprocal overflows
+
+
+def by_rows(*rows):
+    """A matrix given row by row."""
+    return doubles(*[row[j] for j in range(len(rows[0])) for row in rows])
+
+
+def why_factoring(*rows):
+    return Case(27, len(rows), len(rows[0]), 0, [by_rows(*rows), spare(len(rows) * len(rows[0])), swap_store(9)])
+
+
+def why_solving(n, factors, list_, *sides):
+    told = held(len(list_) // 2, dead_columns(n, n, factors))
+    return Case(28, n, n, len(sides), [factors, swap_store(*list_), told, doubles(*[x for side in sides for x in side]), spare(n * len(sides))])
+
+
+def why_file(matrix, *readings):
+    return file_case(panel(len(readings), matrix + doubles(*readings)), 29)
+
+
+def explained_factorings():
+    yield why_factoring([TINY])                                                         # no row below: no reason
+    yield why_factoring([TINY], [0.0])                                                  # the table's: its multiplier is a NaN
+    yield why_factoring([2.0 ** -1023], [0.0])
+    yield why_factoring([0.0], [TINY])                                                  # behind an exchange
+    yield why_factoring([0.0], [0.0], [TINY], [TINY / 2])
+    yield why_factoring([TINY, 1.0], [0.0, 1.0])                                        # the multipliers before the other columns
+    yield why_factoring([TINY, 0.0, 0.0], [-TINY, 0.0, 0.0])
+    yield why_factoring([1.0, TOP], [-1.0, TOP])                                        # an update
+    yield why_factoring([1.0, TOP], [1.0, TOP])                                         # just not
+    yield why_factoring([1.0, 0.0, TOP], [-1.0, 0.0, TOP])                              # in a later column
+    yield why_factoring([1.0, 0.0, TOP], [0.0, 0.0, TOP], [-1.0, 0.0, TOP])             # in a later row
+    yield why_factoring([1.0, TOP, TOP], [-1.0, 0.0, TOP], [-1.0, TOP, 0.0])            # column 1 in row 2, column 2 in row 1
+    yield why_factoring([1.0, TOP, TOP], [-1.0, TOP, 0.0], [-1.0, 0.0, TOP])            # and the other way round
+    yield why_factoring([1.0, 0.0], [2.0, TOP], [-2.0, TOP])                            # rows 0 and 1 exchanged; the place is row 2
+    yield why_factoring([-1.0, TOP], [1.0, 0.0], [2.0, TOP], [-2.0, -TOP])              # what stood in row 0 overflows in row 2; toss-up
+    yield why_factoring([-2.0, TOP], [4.0, TOP], [4.0, 0.0])                            # in row 1
+    yield why_factoring([-1.0, TOP], [0.0, 0.0], [1.0, TOP])                            # equal magnitudes: no exchange
+    yield why_factoring([1.0, 0.0, 0.0], [0.0, TINY, 0.0], [0.0, 0.0, 0.0])             # below the first step
+    yield why_factoring([1.0, 0.0, 0.0], [0.0, 0.0, 0.0], [0.0, TINY, 1.0])             # with an exchange there
+    yield why_factoring([1.0, 0.0, 0.0], [0.0, 1.0, TOP], [0.0, -1.0, TOP])
+    yield why_factoring([0.0, 1.0, 0.0, 5.0], [0.0, 0.0, 2.0, TOP], [2.0, 0.0, 0.0, 1.0], [0.0, 0.0, -2.0, TOP])        # two exchanges, step 2
+    yield why_factoring([0.0, 0.0, 0.0], [0.0, 0.0, TINY], [0.0, 0.0, 0.0])             # two steps skipped; the last has no row below
+    yield why_factoring([0.0, 0.0, TINY], [0.0, 0.0, 0.0])                              # skipped; past the last row
+    yield why_factoring([0.0, TINY], [0.0, 0.0], [0.0, 0.0])                            # one skipped: column 1 from row 1 on is zero
+    yield why_factoring([0.0, 3.0], [-0.0, TINY], [0.0, 0.0])                           # one skipped, then the reason
+    yield why_factoring([1.0, 2.0, TOP, TOP], [-1.0, -2.0, TOP, -TOP])                  # wide
+    yield why_factoring([1.0, 1.0], [1.0, 1.0], [1.0, 1.0], [1.0, 1.0])                 # toss-ups, no reason
+    yield why_factoring([TOP, TOP], [-TOP, TOP])                                        # a pivot near the top
+    yield why_factoring([1.75 * 2.0 ** 1023, 1.0], [1.75 * 2.0 ** 1023, TOP])
+    yield Case(27, 3, 0, 0, [doubles(), doubles(), swap_store(9)])
+    for i in (0, 62, 63):                                                               # 64 rows and columns: the last pivot has no row below
+        matrix = doubles(*[float(r == c) for c in range(64) for r in range(64)])
+        yield Case(27, 64, 64, 0, [with_item(matrix, 65 * i, TINY), spare(4096), swap_store(9)])
+    matrix[64 * 62 + 62:64 * 62 + 64] = doubles(1.0, -1.0)                              # the very last result
+    matrix[64 * 63 + 62:] = doubles(TOP, TOP)
+    yield Case(27, 64, 64, 0, [matrix, spare(4096), swap_store(9)])
+
+
+def explained_solves():
+    one = doubles(1.0, 0.0, 0.0, 1.0)
+    yield why_solving(1, doubles(2.0 ** -1000), [], [2.0 ** 100])                       # the table's: a quotient
+    yield why_solving(1, doubles(2.0 ** -1000), [], [2.0 ** 10])
+    yield why_solving(1, doubles(2.0 ** -1000), [], [1.0], [2.0 ** 100])                # in the second column
+    yield why_solving(2, doubles(1.0, -1.0, 0.0, 1.0), [], [TOP, TOP])                  # pass 1
+    yield why_solving(2, doubles(1.0, -1.0, 0.0, 1.0), [0, 1], [TOP, TOP])
+    yield why_solving(2, doubles(1.0, 2.0, 0.0, 1.0), [0, 1], [1.0, TOP])               # it overflows with the list, and not without
+    yield why_solving(2, doubles(1.0, 2.0, 0.0, 1.0), [], [1.0, TOP])
+    yield why_solving(2, doubles(1.0, 0.0, 2.0, 1.0), [], [0.0, TOP])                   # pass 2, an update of row 0
+    yield why_solving(2, doubles(1.0, 0.0, 2.0, 1.0), [0, 1], [TOP, 0.0])
+    yield why_solving(2, doubles(1.0, 0.0, 5.0, 0.5), [], [0.0, TOP])                   # a quotient: row 1 before row 0
+    yield why_solving(2, doubles(1.0, 0.0, 0.0, 0.5), [], [0.0, TOP])                   # row 0 is a NaN then
+    yield why_solving(2, doubles(0.5, 0.0, 0.0, 1.0), [], [TOP, 0.0])
+    yield why_solving(3, by_rows([1.0, 2.0, 2.0], [0.0, 1.0, 2.0], [0.0, 0.0, 1.0]), [], [0.0, 0.0, TOP])               # two rows above: row 0
+    yield why_solving(3, by_rows([1.0, 2.0, 0.0], [0.0, 1.0, 2.0], [0.0, 0.0, 1.0]), [], [0.0, 0.0, TOP])               # row 1
+    yield why_solving(3, by_rows([1.0, 2.0, 0.0], [0.0, 1.0, 0.0], [0.0, 0.0, 1.0]), [], [0.0, TOP, 0.0])               # on row 1's turn
+    yield why_solving(3, by_rows([1.0, 0.0, 0.0], [0.0, 1.0, 0.0], [-1.0, 0.0, 1.0]), [], [TOP, 0.0, TOP])              # pass 1, row 2
+    later = by_rows([1.0, 0.0, 0.0], [0.0, 1.0, 0.0], [0.0, -1.0, 1.0])
+    yield why_solving(3, later, [], [0.0, TOP, TOP])                                    # on row 1's turn
+    yield why_solving(3, later, [0, 2, 1, 2], [TOP, TOP, 0.0])                          # with the list in its order alone
+    yield why_solving(3, later, [0, 1, 1, 2], [TOP, 0.0, TOP])
+    yield why_solving(3, later, [0, 2, 1, 2], [0.0, TOP, TOP])                          # without a list alone
+    turns = by_rows([1.0, 0.0, 0.0, 0.0], [0.0, 1.0, 0.0, 0.0], [0.0, -1.0, 1.0, 0.0], [-1.0, 0.0, 0.0, 1.0])
+    yield why_solving(4, turns, [], [TOP] * 4)                                          # row 3 on row 0's turn, before row 2 on row 1's
+    both = doubles(1.0, -1.0, 0.0, 0.5)
+    yield why_solving(2, both, [], [0.0, TOP], [TOP, TOP])                              # column 0 in pass 2, column 1 in pass 1: pass 1
+    yield why_solving(2, both, [], [0.0, 1.0], [0.0, TOP], [TOP, TOP])
+    yield why_solving(2, both, [], [1.0, 1.0], [0.0, TOP], [0.0, -TOP])                 # two columns in pass 2: the first
+    yield why_solving(2, both, [], [1.0, 1.0], [TOP, TOP], [0.0, 0.0], [TOP, TOP])
+    yield why_solving(2, both, [], [1.0, 1.0], [2.0, 2.0])
+    yield why_solving(2, one, [], [TOP, -TOP])
+    for zeros in ((0,), (1,), (2,), (1, 2), (0, 2), (0, 1, 2)):                         # dead columns, of either sign
+        for zero in (0.0, -0.0):
+            factors = by_rows([4.0, 1.0, 2.0], [0.5, 3.0, 1.0], [-1.0, 0.25, 2.0])
+            for i in zeros:
+                factors[4 * i] = zero
+            yield why_solving(3, factors, [0, 1], [1.0, 2.0, 3.0])
+    yield why_solving(2, doubles(0.0, -1.0, 0.0, 0.0), [], [TOP, TOP])                  # 6 before 7
+    whole = doubles(*[float(r == c) for c in range(64) for r in range(64)])
+    for i in (0, 63):
+        yield why_solving(64, with_item(whole, 65 * i, -0.0), [], [1.0] * 64)
+        yield why_solving(64, with_item(whole, 65 * i, 2.0 ** -1000), [], [2.0 ** 100] * 64)
+    yield why_solving(64, with_item(whole, 63, -1.0), [], *[[1.0] * 64] * 63, [TOP] * 64)                               # the last result of pass 1
+    yield why_solving(64, with_item(whole, 0, 0.5), [], *[[1.0] * 64] * 63, [TOP] + [1.0] * 63)                         # and of pass 2
+
+
+def explained_files():
+    yield why_file(doubles(TINY), 1.0)                                                  # no row below; then a quotient
+    yield why_file(doubles(TINY), 0.0)
+    yield why_file(by_rows([TINY, 1.0], [0.0, 1.0]), 1.0, 1.0)
+    yield why_file(by_rows([1.0, TOP], [-1.0, TOP]), 1.0, 1.0)
+    yield why_file(by_rows([0.0, 1.0, 0.0], [2.0, 0.0, 0.0], [0.0, 0.0, 0.0]), 1.0, 1.0, 1.0)                           # singular in column 3
+    yield why_file(by_rows([2.0, 4.0, 1.0], [1.0, 2.0, 0.0], [0.0, 0.0, 1.0]), 1.0, 1.0, 1.0)                           # in column 2
+    yield why_file(doubles(0.0, 0.0, 1.0, 0.0), 1.0, 1.0)                               # in both: the lower one
+    yield why_file(doubles(-0.0), 1.0)
+    yield why_file(by_rows([1.0, 0.0], [-1.0, 1.0]), TOP, TOP)                          # the lower pass
+    yield why_file(by_rows([-1.0, 1.0], [1.0, 0.0]), TOP, TOP)
+    yield why_file(by_rows([1.0, 2.0], [0.0, 1.0]), 0.0, TOP)                           # the upper pass, an update
+    yield why_file(by_rows([0.0, 0.5], [1.0, 1.0]), TOP, 0.0)                           # and a quotient, behind an exchange
+    yield why_file(by_rows([1.0, 0.0, 0.0], [0.0, 0.0, 1.0], [0.0, TINY, 0.0]), 1.0, 1.0, 1.0)                          # factoring, step 2
+    for n in (11, 64):                                                                  # one digit, and two
+        whole = doubles(*[float(r == c) for c in range(n) for r in range(n)])
+        for i in {11: (8, 10), 64: (62,)}[n]:
+            yield why_file(with_item(whole, (n + 1) * i, TINY), *[1.0] * n)
+            yield why_file(with_item(whole, (n + 1) * i, 0.0), *[1.0] * n)
+            yield why_file(with_item(whole, n * i - n + i, -1.0), *[TOP] * n)
+            yield why_file(with_item(whole, (n + 1) * i - 1, 2.0), *[0.0] * i, TOP, *[0.0] * (n - 1 - i))
+        yield why_file(whole, *[1.0] * n)
+
+
+def explained():
+    yield from explained_factorings()
+    yield from explained_solves()
+    yield from explained_files()
 
 
 # ---- the scaled determinant
@@ -432,7 +575,7 @@ def faults_of(case):
             for count in COUNTS:
                 yield changed(case, at, with_item(items, 0, count))
                 yield changed(full, at, with_item(items, 0, count))         # good pairs, at most too many
-        if name == 'swaps' and case.op not in (1, 35):
+        if name == 'swaps' and case.op not in (1, 27, 35):
             for row in ROWS:
                 yield changed(case, at, with_item(items, 0, row))
             yield changed(case, at, with_item(items, 3, 1))
@@ -466,6 +609,8 @@ def good(op):
         23: lambda: searching(1, 3.0, -2.0, 1.0, 2.0, 3.0),
         24: lambda: Case(24, 0, 3, 2, [matrix, doubles(2.0), b, x]),
         25: lambda: Case(25, 3, 3, 2, [matrix, *told, b, x]),
+        27: lambda: Case(27, 4, 3, 0, [tall, wide, swap_store(9, 9)]),
+        28: lambda: Case(28, 3, 3, 2, [matrix, *told, b, x]),
         35: lambda: Case(35, 4, 3, 0, [tall, wide, swap_store(9, 9)]),
     }.get(op, lambda: Case(op, 0, 3, 2, [matrix, b, x]) if op < 14 else Case(op, 4, 3, 0, [*list_, tall]))()
 
@@ -571,12 +716,12 @@ def largest():
     for op, make in MAKERS.items():
         r = random.Random(f'largest {op}')
         if op in SQUARE:
-            if op not in (20, 21, 26, 31):
+            if op not in (20, 21, 26, 29, 31):
                 yield make(r, op, 64, 1)
-            if op in (3, 12, 25):
+            if op in (3, 12, 25, 28):
                 yield make(r, op, 63, 2)
         else:
-            if op in (2, 14, 22, 35):       # the table has factoring's
+            if op in (2, 14, 22, 27, 35):   # the table has factoring's
                 yield make(r, op, 64, 64)
             for m, n in ((64, 0), (63, 1), (1, 64), (2, 63)):
                 yield make(r, op, m, n)
@@ -596,12 +741,12 @@ def fixed():
     """All of them, as generators: makers ask the oracle."""
     for _, case, _ in table():
         yield done(case)
-    for case in (*added(), *given(), *tossed(), *removed(), *transposed(), *dead(), *kept(), *scaled()):
+    for case in (*added(), *given(), *tossed(), *removed(), *transposed(), *dead(), *kept(), *explained(), *scaled()):
         yield done(case)
     for op in OPS:
-        if op == 20:
+        if op in (20, 29):
             for file in files():
-                yield done(file_case(file))
+                yield done(file_case(file, op))
         elif op == 26:
             for case in moves():
                 yield done(case)

@@ -1,14 +1,15 @@
 """Cases with the lines that they must give, in batches; and a replay program's lines held against them."""
+import collections
 import itertools
 import subprocess
 
 from .fixed import BAD, BAD_LINE, fixed
 from .judge import together
-from .make import make
+from .make import make, op_of
 from .rules import expected
 from .wire import encode, show, show_difference
 
-LISTED = 5000       # the cases of the committed list, the bad one at its end among them
+LISTED = 5500       # the cases of the committed list, the bad one at its end among them
 
 
 def with_line(maker):
@@ -16,10 +17,11 @@ def with_line(maker):
     return case, (yield from expected(case))
 
 
-def batches(seed, count, size=1000):
-    """Batches of (case, line), `count` in all: the fixed cases first, then those of the seed."""
-    of_seed = (make(seed, index) for index in itertools.count())
-    makers = itertools.islice(itertools.chain(fixed(), of_seed), count)
+def batches(seed, count, size=1000, ops=()):
+    """Batches of (case, line), `count` in all: the fixed cases first, then those of the seed; where ops are given, those of the seed alone,
+    of these ops."""
+    of_seed = (make(seed, index) for index in itertools.count() if not ops or op_of(index) in ops)
+    makers = itertools.islice(of_seed if ops else itertools.chain(fixed(), of_seed), count)
     while batch := list(itertools.islice(makers, size)):
         yield together([with_line(maker) for maker in batch])
 
@@ -53,14 +55,16 @@ def replay(command, batch, bad=b'', before=0):
         raise Difference(b'', f'all lines are right, but the program was ended by a signal (status {done.returncode})')
 
 
-def replay_all(command, seed, count, size=1000, tell=lambda cases: None):
-    """Runs the empty list, each bad case alone and `count` cases through the command; raises at the first line that differs."""
+def replay_all(command, seed, count, size=1000, tell=lambda cases: None, ops=()):
+    """Runs the empty list, each bad case alone and `count` cases through the command; raises at the first line that differs. Gives how many
+    cases have which refusal number."""
     replay(command, [])
     for bad in BAD:
         replay(command, [], bad)
-    cases = 0
-    for turn, batch in enumerate(batches(seed, count, size)):
+    numbers, cases = collections.Counter(), 0
+    for turn, batch in enumerate(batches(seed, count, size, ops)):
         replay(command, batch, BAD[turn % len(BAD)], cases)
+        numbers.update(line.split(' ', 1)[0] for _, line in batch)
         cases += len(batch)
         tell(cases)
-    return cases
+    return numbers

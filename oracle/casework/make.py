@@ -3,14 +3,14 @@ import random
 import struct
 from array import array
 
-from . import floats
+from . import floats, overflow
 from .judge import finite
 from .rules import GIVEN, MOST, STORE, dead_columns, request_factoring
 from .wire import Case, FLOATS, HELD, LONGEST, OPS, hexes, unhex
 
 # how often each op comes in a round
 TURNS = {1: 4, 2: 4, 3: 3, 4: 2, 5: 2, 6: 2, 7: 4, 8: 4, 9: 2, 10: 2, 11: 2, 12: 3, 13: 3,
-         14: 4, 15: 4, 16: 4, 17: 4, 18: 2, 19: 2, 20: 2, 21: 2, 22: 4, 23: 2, 24: 2, 25: 3, 26: 2, 30: 3, 31: 2, 35: 4}
+         14: 4, 15: 4, 16: 4, 17: 4, 18: 2, 19: 2, 20: 2, 21: 2, 22: 4, 23: 2, 24: 2, 25: 3, 26: 2, 27: 4, 28: 4, 29: 3, 30: 3, 31: 2, 35: 4}
 ROUND = [(op, turn) for turn in range(max(TURNS.values())) for op in TURNS if turn < TURNS[op]]
 
 JUNK = [0, 1, 63, 64, 65, 255, 2 ** 32, 2 ** 63, 2 ** 64 - 1]
@@ -183,9 +183,9 @@ def make_file(r, op, n, k):
     yield
 
 
-def file_case(file):
+def file_case(file, op=20):
     file = file[:8 * LONGEST]
-    return Case(20, 0, 0, len(file), [file])
+    return Case(op, 0, 0, len(file), [file])
 
 
 def make_write(r, op, n, k):
@@ -237,6 +237,36 @@ def moves_case(pad, file):
     return Case(26, pad, 0, whole.k, whole.slices)
 
 
+def make_why_factor(r, op, m, n):
+    """Nine in ten overflow, where the shape has a row below and a column."""
+    matrix = overflow.overflowing_matrix(r, m, n) if r.random() < 0.9 else floats.matrix(r, m, n)
+    return Case(op, m, n, 0, [matrix, floats.anything(r, m * n), store_of(r, [])])
+    yield
+
+
+def make_why_solve(r, op, n, k):
+    """Seven in ten overflow, one in ten is singular."""
+    how = r.random()
+    if how > 0.8:
+        return (yield from make_solve(r, op, n, k))
+    pairs = good_pairs(r, n, n)
+    list_ = [row for pair in pairs for row in pair]
+    factors, b = overflow.overflowing_solve(r, n, k, list_) if how < 0.7 else (overflow.singular_factors(r, n), floats.matrix(r, n, k))
+    return Case(op, n, n, k, [factors, *held_slices(r, n, n, factors, pairs), b, floats.anything(r, n * k)])
+
+
+def make_why_file(r, op, n, k):
+    """Three in ten overflow when they are factored, four when they are solved; one is singular."""
+    how = r.random()
+    if how > 0.8:
+        return file_case((yield from make_file(r, op, n, k)).slices[0], op)
+    if how < 0.3 and n > 1:
+        matrix, readings = overflow.overflowing_matrix(r, n, n), floats.matrix(r, n, 1)
+    else:
+        matrix, readings = (overflow.overflowing_crossing if how < 0.7 else overflow.singular_crossing)(r, n)
+    return file_case(panel(n, matrix + readings), op)
+
+
 def make_stiffness(r, op, n, k):
     whole = yield from make_file(r, op, n, k)
     return stiffness_case(whole.slices[0])
@@ -250,9 +280,9 @@ def stiffness_case(file):
 MAKERS = {1: make_factor, 2: make_add, 3: make_solve, 4: make_square, 5: make_square, 6: make_square, 7: make_l_or_u, 8: make_l_or_u,
           9: make_triangular, 10: make_triangular, 11: make_triangular, 12: make_triangular, 13: make_triangular,
           14: make_permute, 15: make_permute, 16: make_permute, 17: make_permute, 18: make_append, 19: make_rank, 20: make_file,
-          21: make_write, 22: make_remove, 23: make_search, 24: make_triangular, 25: make_solve, 26: make_moves, 30: make_scaled,
-          31: make_stiffness, 35: make_factor}
-SQUARE = (3, 4, 5, 6, 9, 10, 11, 12, 13, 19, 20, 21, 24, 25, 26, 30, 31)      # ops whose two sizes are the matrix's and the right-hand columns'
+          21: make_write, 22: make_remove, 23: make_search, 24: make_triangular, 25: make_solve, 26: make_moves,
+          27: make_why_factor, 28: make_why_solve, 29: make_why_file, 30: make_scaled, 31: make_stiffness, 35: make_factor}
+SQUARE = (3, 4, 5, 6, 9, 10, 11, 12, 13, 19, 20, 21, 24, 25, 26, 28, 29, 30, 31)      # ops whose two sizes are the matrix's and the right-hand columns'
 
 
 # ---- faults: each changes a good case in place; the rules say what the changed case gives
@@ -406,7 +436,7 @@ def damaged(r, c):
             at = r.randrange(len(changed))
             changed[at] ^= 1 << r.randrange(8)
         file = bytes(changed)
-    return file_case(file)
+    return file_case(file, c.op)
 
 
 def damaged_moves(r, c):
@@ -422,7 +452,7 @@ def spoiled(r, c):
     """The case with one fault, or two or three at once: the order of the tests then shows."""
     times = r.choice((1, 1, 1, 2, 2, 3))
     for _ in range(times):
-        if c.op == 20:
+        if c.op in (20, 29):
             c = damaged(r, c)
         elif c.op == 26:
             c = damaged_moves(r, c)
@@ -435,6 +465,10 @@ def spoiled(r, c):
 
 
 # ---- case number `index`
+
+def op_of(index):
+    return ROUND[index % len(ROUND)][0]
+
 
 def make(seed, index):
     """Of an op's turns each third is spoiled, one in 48 is larger, and the others go through all small shapes."""

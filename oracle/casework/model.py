@@ -10,16 +10,20 @@ import sys
 # F: floats, W: whole numbers, T: two of them
 TAKES = {1: 'FFW', 2: 'FFWT', 3: 'FWTFF', 4: 'FWTF', 5: 'FWT', 6: 'FWT', 7: 'FWTF', 8: 'FWTF', 9: 'FFF', 10: 'FFF', 11: 'FFFF', 12: 'FFF',
          13: 'FFF', 14: 'WWF', 15: 'WWF', 16: 'WWF', 17: 'WWF', 18: 'WWW', 19: 'FW', 20: 'W', 21: 'FFW', 22: 'FWT', 23: 'F', 24: 'FFFF',
-         25: 'FWTFF', 26: 'W', 30: 'FWT', 31: 'W', 35: 'FFW'}
+         25: 'FWTFF', 26: 'W', 27: 'FFW', 28: 'FWTFF', 29: 'W', 30: 'FWT', 31: 'W', 35: 'FFW'}
 
 
 class Refused(Exception):
-    pass
+    """A number, and a part to print where the call that refuses knows it."""
 
 
 def refuse(number, when):
     if when:
         raise Refused(number)
+
+
+def tell(number, part):
+    raise Refused(number, part)
 
 
 # ---- reading and printing
@@ -128,7 +132,11 @@ def toss_up(column, i, best):
     return 0
 
 
-def eliminate(m, n, a):
+def unseen(*turn):
+    """What looks at the numbers after a step or a turn, where nothing does."""
+
+
+def eliminate(m, n, a, look=unseen):
     """Gives the pairs, the number of toss-ups and that of skipped steps: each leaves a zero on the diagonal, and no other step does."""
     pairs, tosses, dead = [], 0, 0
     for i in range(min(m, n)):
@@ -146,6 +154,7 @@ def eliminate(m, n, a):
         for r in range(i + 1, m):
             for j in range(i + 1, n):
                 a[r][j] = (-a[i][j]) * a[r][i] + a[r][j]
+        look(i, p)
     return pairs, tosses, dead
 
 
@@ -175,12 +184,13 @@ def add_column(m, n, a, pairs, column):
 
 # ---- solves of one right-hand column
 
-def unit_lower(t, b, d=1.0):
+def unit_lower(t, b, d=1.0, look=unseen):
     for i in range(len(b)):
         if i + 1 < len(b):
             c = b[i] / d
             for r in range(i + 1, len(b)):
                 b[r] = (-c) * t[r][i] + b[r]
+            look(i)
 
 
 def lower(t, b):
@@ -190,11 +200,12 @@ def lower(t, b):
             b[r] = (-b[i]) * t[r][i] + b[r]
 
 
-def upper(t, b):
+def upper(t, b, look=unseen):
     for i in reversed(range(len(b))):
         b[i] /= t[i][i]
         for r in range(i):
             b[r] = (-b[i]) * t[r][i] + b[r]
+        look(i)
 
 
 def dot(x, y):
@@ -566,6 +577,64 @@ def moves(m, n, k, items):
     return unit,
 
 
+# ---- why: the numbers are looked at after each step or turn, those that it stored, in their order
+
+def explain_elimination(m, n, a, place):
+    def look(i, p):
+        for j in range(i, n):
+            for r in range(i + 1, m):
+                finite(a[r][j]) or tell(7, place(i, j, r))
+    return eliminate(m, n, a, look)[0]
+
+
+def explain_passes(t, pairs, sides, place):
+    def look(which, c, b, rows):
+        for r in rows:
+            finite(b[r]) or tell(7, place(which, c, r))
+    for b in sides:
+        swap(b, pairs)
+    for c, b in enumerate(sides):
+        unit_lower(t, b, look=lambda i: look(1, c, b, range(i + 1, len(b))))
+    for c, b in enumerate(sides):
+        upper(t, b, look=lambda i: look(2, c, b, [i, *range(i)]))
+
+
+def explain_singular(t, place):
+    for i in range(len(t)):
+        t[i][i] == 0.0 and tell(6, place(i))
+
+
+def from_0(*numbers):
+    return list(numbers)
+
+
+def why_factor(m, n, k, matrix, out0, swaps):
+    size(m, 1), size(n, 0)
+    length(matrix, m * n), length(out0, m * n), length(swaps, 128)
+    numbers(matrix)
+    explain_elimination(m, n, rows_of(m, n, matrix), from_0)
+    return '-',
+
+
+def why_solve(m, n, k, flat, swaps, told, b, x0):
+    size(k, 1)
+    t, pairs = factors(m, n, flat, swaps, told, True, (b, m * k, True), (x0, m * k, False))
+    explain_singular(t, from_0)
+    explain_passes(t, pairs, columns_of(n, k, b), from_0)
+    return '-',
+
+
+def why_panel_file(m, n, k, items):
+    """A planner counts from 1."""
+    pads, values = read_panel(k, items)
+    t = rows_of(pads, pads, values)
+    pairs = explain_elimination(pads, pads, t, lambda i, j, r: f'refused 7\nfactoring: step {i + 1}, column {j + 1}, row {r + 1}\n')
+    explain_singular(t, lambda j: f'refused 6\ncolumn {j + 1}\n')
+    names = ['', 'lower', 'upper']
+    explain_passes(t, pairs, [values[pads * pads:]], lambda which, c, r: f'refused 7\nsolving: {names[which]} pass, column {c + 1}, row {r + 1}\n')
+    return 'no reason\n',
+
+
 def stiffness(m, n, k, items):
     pads, values = read_panel(k, items)
     t = rows_of(pads, pads, values)
@@ -590,7 +659,9 @@ CALLS = {
     20: (panel_file, lambda number, *case: (f'refused {number}\n',)), 21: (write_file, write_left),
     22: (remove, lambda number, m, n, k, store, swaps, told: (told[:1], store, swaps, told[1:])),
     23: (search, None), 24: (given_diagonal(corrected), last_left), 25: (solving(transposed_solved), last_left),
-    26: (moves, lambda *case: ('-',)), 30: (scaled, lambda *case: '--'), 31: (stiffness, lambda *case: '--'), 35: (factor, factor_left),
+    26: (moves, lambda *case: ('-',)), 27: (why_factor, lambda *case: ('-',)), 28: (why_solve, lambda *case: ('-',)),
+    29: (why_panel_file, lambda number, *case: (f'refused {number}\n',)), 30: (scaled, lambda *case: '--'), 31: (stiffness, lambda *case: '--'),
+    35: (factor, factor_left),
 }
 
 
@@ -599,8 +670,8 @@ def answer(op, *case):
     try:
         number, parts = 0, call(*case)
     except Refused as e:
-        number = e.args[0]
-        parts = left(number, *case)
+        number, *parts = e.args
+        parts = parts or left(number, *case)
     return ' | '.join([str(number)] + [p.replace('\n', ' / ') if isinstance(p, str) else text(p) for p in parts])
 
 

@@ -2,8 +2,8 @@
 for what is accepted.
 
 A call has three parts here. Its tests give pairs (number, does it hold), in the documents' order; the first that holds
-is the refusal. `left` gives the parts of the line when a test refuses. `made` is a generator that asks the oracle (it
-yields a request and is sent the oracle's line) and returns the refusal number, 0 or 7, with the parts."""
+is the refusal. `left` gives the parts of the line when a test refuses with that number. `made` is a generator that asks
+the oracle (it yields a request and is sent the oracle's line) and returns the refusal number, most often 0 or 7, with the parts."""
 import math
 import struct
 from array import array
@@ -99,7 +99,7 @@ def factor_tests(c):
     yield 5, not_finite(matrix)
 
 
-def factor_left(c):
+def factor_left(c, number):
     return ['0', hexes(c.slices[1]), words(c.slices[2]), '0', '0']
 
 
@@ -108,20 +108,20 @@ def factor_made(c):
     pairs, factors, swaps = (yield request_factoring(c.m, c.n, matrix)).split(' | ')
     if not finite(factors):
         return 7, ['0', zeros(matrix), words([0] * STORE), '0', '0']
-    built, toss_ups = built_up(c.m, c.n, matrix)
-    assert built == factors, 'building up in Python gives other factors than the crate'
+    built, list_, toss_ups = built_up(c.m, c.n, matrix)
+    assert (hexes(built), words(list_)) == (factors, swaps), 'building up in Python gives other factors or swaps than the crate'
     store = swaps.split() + ['0'] * (STORE - 2 * int(pairs))
     return 0, [pairs, factors, ' '.join(store), str(toss_ups), str(dead_columns(c.m, c.n, unhex(factors)))]
 
 
 def built_up(m, n, matrix):
-    """Column after column, from none: the factors as text, and at how many columns the pivot was a toss-up."""
+    """Column after column, from none: the factors, their list, and at how many columns the pivot was a toss-up."""
     older, list_, toss_ups = array('d'), [], 0
     for j in range(n):
         older, pair, toss_up = added(m, j, older, matrix[j * m:j * m + m], list_)
         list_ += pair
         toss_ups += toss_up
-    return hexes(older), toss_ups
+    return older, list_, toss_ups
 
 
 def add_tests(c):
@@ -133,7 +133,7 @@ def add_tests(c):
     yield 9, dead != dead_columns(c.m, c.n, store)
 
 
-def add_left(c):
+def add_left(c, number):
     store, _, swaps, (pairs, dead) = c.slices
     return [str(pairs), hexes(store), words(swaps), '0', str(dead)]
 
@@ -220,7 +220,7 @@ def u_tests(c):
     yield from factors_tests(c, False, len(c.slices[3]) != min(c.m, c.n) * c.n, [])
 
 
-def result_left(c):
+def result_left(c, number):
     """Calls whose lent result is their last slice."""
     return [hexes(c.slices[-1])]
 
@@ -229,7 +229,7 @@ def result_made(c):
     return numbers_or_seven((yield encode(c)), c.slices[-1])
 
 
-def dash(c):
+def dash(c, number):
     return ['-']
 
 
@@ -316,10 +316,12 @@ def triangular_tests(c):
 
 
 def for_crate(c):
-    """The case as the crate knows it: of the corrected diagonal its own given diagonal, of the transposed solve the first pass."""
+    """The case as the crate knows it: of the corrected diagonal its own given diagonal, of the transposed solve the first pass, of an
+    explained solve the solve."""
     if c.op == 25:
         return first_pass(c.n, c.k, c.slices[0], c.slices[3])
-    return encode(Case(11, c.m, c.n, c.k, c.slices) if c.op == 24 else c)
+    known = {24: 11, 28: 3}.get(c.op, c.op)
+    return encode(Case(known, c.m, c.n, c.k, c.slices))
 
 
 def corrected_made(c):
@@ -361,7 +363,7 @@ def append_tests(c):
     yield 4, i != j and pairs >= c.m
 
 
-def append_left(c):
+def append_left(c, number):
     return [words(c.slices[1]), words(c.slices[0])]
 
 
@@ -386,7 +388,7 @@ def rank_tests(c):
     yield 5, not_finite(loads)
 
 
-def rank_left(c):
+def rank_left(c, number):
     return ['-', words(c.slices[1])]
 
 
@@ -412,33 +414,40 @@ def printed(*lines):
     return [''.join(text + NEWLINE for text in lines)]
 
 
-def refused(number):
-    return number, printed(f'refused {number}')
+def refused_left(c, number):
+    return printed(f'refused {number}')
 
 
 def file_factored(c):
-    """The number of pads, the readings, and the factors with their list and its two numbers, or nothing where factoring overflows."""
+    """The number of pads, the matrix, the readings, and the factors with their list and its two numbers, or nothing where factoring overflows."""
     file = c.slices[0]
     n = file[5]
     numbers = array('d', file[6:])
-    pairs, factors, swaps = (yield request_factoring(n, n, numbers[:n * n])).split(' | ')
+    matrix, readings = numbers[:n * n], numbers[n * n:]
+    pairs, factors, swaps = (yield request_factoring(n, n, matrix)).split(' | ')
     if not finite(factors):
-        return n, numbers[n * n:], None
+        return n, matrix, readings, None
     factors = unhex(factors)
-    return n, numbers[n * n:], [factors, array('Q', map(int, swaps.split())), array('Q', [int(pairs), dead_columns(n, n, factors)])]
+    return n, matrix, readings, [factors, array('Q', map(int, swaps.split())), array('Q', [int(pairs), dead_columns(n, n, factors)])]
+
+
+def file_solved(n, held, readings):
+    """The crate's loads as text, or `none` where a zero stands on the diagonal."""
+    loads = yield encode(Case(3, n, n, 1, [*held, readings, array('d')]))
+    assert (loads == 'none') == zero_on_diagonal(n, held[0]), loads
+    return loads
 
 
 def file_made(c):
     """Factoring's 7, then the solve's 6, then its 7."""
-    n, readings, held = yield from file_factored(c)
+    n, _, readings, held = yield from file_factored(c)
     if held is None:
-        return refused(7)
-    loads = yield encode(Case(3, n, n, 1, [*held, readings, array('d')]))
-    if zero_on_diagonal(n, held[0]):
-        assert loads == 'none', loads
-        return refused(6)
+        return 7, refused_left(c, 7)
+    loads = yield from file_solved(n, held, readings)
+    if loads == 'none':
+        return 6, refused_left(c, 6)
     if not finite(loads):
-        return refused(7)
+        return 7, refused_left(c, 7)
     loads = unhex(loads)
     return 0, printed(f'pads {n}', *(f'{pad} {hexes(loads[pad - 1:pad])}' for pad in ranks(loads)))
 
@@ -452,7 +461,7 @@ def write_tests(c):
     yield 5, not_finite(matrix, readings)
 
 
-def write_left(c):
+def write_left(c, number):
     return ['-', c.slices[2].hex()]
 
 
@@ -482,7 +491,7 @@ def remove_tests(c):
     yield 9, dead != dead_columns(c.m, c.n, store)
 
 
-def remove_left(c):
+def remove_left(c, number):
     store, swaps, (pairs, dead) = c.slices
     return [str(pairs), hexes(store), words(swaps), str(dead)]
 
@@ -551,7 +560,7 @@ def moves_tests(c):
 
 def moves_made(c):
     """The transposed solve of the pad's unit column: factoring's 7, then the solve's 6, then its 7."""
-    n, _, held = yield from file_factored(c)
+    n, _, _, held = yield from file_factored(c)
     if held is None:
         return 7, ['-']
     unit = array('d', [float(pad == c.m) for pad in range(1, n + 1)])
@@ -560,6 +569,104 @@ def moves_made(c):
         assert moves == 'none', moves
         return 6, ['-']
     return (0, [moves]) if finite(moves) else (7, ['-'])
+
+
+# ---- 27 to 29: why a call is refused (document 02, request 8)
+#
+# Every number that is stored, in the crate's order, with its place, all counted from 0; the reason is the first that is not finite.
+# Whether there is one is the crate's to say: its final result is not finite then.
+
+def stored_in_factoring(m, n, matrix):
+    """((step, column, row), number): in step i the multipliers of column i, then each column to the right of it, in each the rows below
+    row i, where the step's exchange has put them. A skipped step stores nothing."""
+    a = [list(matrix[j * m:j * m + m]) for j in range(n)]
+    for i in range(min(m, n)):
+        pivot = greatest(a[i], i)
+        if a[i][pivot] == 0.0:
+            continue
+        for column in a:
+            column[i], column[pivot] = column[pivot], column[i]
+        for r in range(i + 1, m):
+            a[i][r] = a[i][r] * (1.0 / a[i][i])
+            yield (i, i, r), a[i][r]
+        for j in range(i + 1, n):
+            for r in range(i + 1, m):
+                a[j][r] = -a[j][i] * a[i][r] + a[j][r]
+                yield (i, j, r), a[j][r]
+
+
+def stored_in_solve(n, k, factors, list_, b):
+    """((pass, right-hand column, row), number): pass 1, unit lower, over all right-hand columns, then pass 2, upper, over all. On row i's
+    turn pass 1 stores in the rows below it, pass 2 its quotient and then in the rows above it, from row 0 on."""
+    sides = [list(b[c * n:c * n + n]) for c in range(k)]
+    for side in sides:
+        for i, j in zip(list_[::2], list_[1::2]):
+            side[i], side[j] = side[j], side[i]
+    for c, side in enumerate(sides):
+        for i in range(n):
+            for r in range(i + 1, n):
+                side[r] = -side[i] * factors[i * n + r] + side[r]
+                yield (1, c, r), side[r]
+    for c, side in enumerate(sides):
+        for i in range(n - 1, -1, -1):
+            side[i] = side[i] / factors[i * n + i]
+            yield (2, c, i), side[i]
+            for r in range(i):
+                side[r] = -side[i] * factors[i * n + r] + side[r]
+                yield (2, c, r), side[r]
+
+
+def first_overflow(stored):
+    """The place of the first stored number that is not finite, if there is one."""
+    return next((place for place, x in stored if not math.isfinite(x)), None)
+
+
+def reason_of(stored, result):
+    """The same; it must be there exactly where the crate's result is not finite."""
+    place = first_overflow(stored)
+    assert (place is None) == finite(result), f'the crate gives {result}, and the first number that is not finite is stored at {place}'
+    return place
+
+
+def lowest_dead(n, factors):
+    """The lowest column with a zero on the diagonal."""
+    return [x == 0.0 for x in factors[::n + 1]].index(True)
+
+
+def placed(place):
+    return (0, ['-']) if place is None else (7, [words(place)])
+
+
+def why_factor_made(c):
+    _, factors, _ = (yield request_factoring(c.m, c.n, c.slices[0])).split(' | ')
+    return placed(reason_of(stored_in_factoring(c.m, c.n, c.slices[0]), factors))
+
+
+def why_solve_left(c, number):
+    return [str(lowest_dead(c.n, c.slices[0])) if number == 6 else '-']
+
+
+def why_solve_made(c):
+    factors, swaps, (pairs, _), b, _ = c.slices
+    return placed(reason_of(stored_in_solve(c.n, c.k, factors, swaps[:2 * pairs], b), (yield for_crate(c))))
+
+
+PASSES = {1: 'lower', 2: 'upper'}
+
+
+def why_file_made(c):
+    """The text of the program: two lines for what is refused after the reader; places count from 1."""
+    n, matrix, readings, held = yield from file_factored(c)
+    if held is None:
+        step, column, row = first_overflow(stored_in_factoring(n, n, matrix))
+        return 7, printed('refused 7', f'factoring: step {step + 1}, column {column + 1}, row {row + 1}')
+    loads = yield from file_solved(n, held, readings)
+    if loads == 'none':
+        return 6, printed('refused 6', f'column {lowest_dead(n, held[0]) + 1}')
+    place = reason_of(stored_in_solve(n, 1, held[0], held[1], readings), loads)
+    if place is None:
+        return 0, printed('no reason')
+    return 7, printed('refused 7', f'solving: {PASSES[place[0]]} pass, column {place[1] + 1}, row {place[2] + 1}')
 
 
 # ---- 31: the stiffness of a panel file (document 02, request 10)
@@ -588,13 +695,16 @@ RULES = {
     **{op: (permute_tests, result_left, result_made) for op in range(14, 18)},
     18: (append_tests, append_left, append_made),
     19: (rank_tests, rank_left, rank_made),
-    20: (file_tests, None, file_made),
+    20: (file_tests, refused_left, file_made),
     21: (write_tests, write_left, write_made),
     22: (remove_tests, remove_left, remove_made),
     23: (lambda c: [], None, search_made),
     24: (triangular_tests, result_left, corrected_made),
     25: (solve_tests, result_left, transposed_made),
     26: (moves_tests, dash, moves_made),
+    27: (factor_tests, dash, why_factor_made),
+    28: (solve_tests, why_solve_left, why_solve_made),
+    29: (file_tests, refused_left, why_file_made),
     30: (square_tests, two_dashes, scaled_made),
     31: (file_tests, two_dashes, stiffness_made),
     35: (factor_tests, factor_left, factor_made),
@@ -608,7 +718,7 @@ def expected(c):
     if number == 0:
         number, parts = yield from made(c)
     else:
-        parts = refused(number)[1] if c.op == 20 else left(c)
+        parts = left(c, number)
         if number == 6:      # the one refusal that the crate has too: it must agree
             answer = yield for_crate(c)
             assert answer == 'none', answer

@@ -7,7 +7,7 @@ from array import array
 assert sys.byteorder == 'little', 'slices are kept as the machine keeps them, and the format is little-endian'
 
 LONGEST = 4168      # items that a slice of a case may have
-NEWLINE = ' / '     # how op 20 shows each newline of the program's answer, the last one too
+NEWLINE = ' / '     # how ops 20 and 29 show each newline of a program's answer, the last one too
 
 FLOATS, WORDS, BYTES = 'd', 'Q', 'B'
 
@@ -50,13 +50,16 @@ OPS = {
     24: Op('solve lower with the given diagonal, corrected', 'nk', 'matrix', 'diagonal', 'right-hand sides', 'x0'),
     25: Op('transposed solve', 'mnk', 'factors', 'swaps', 'pairs', 'right-hand sides', 'x0'),
     26: Op('how a pad moves, of a panel file', 'mk', 'file'),
+    27: Op('explain factoring', 'mn', 'matrix', 'out0', 'swaps'),
+    28: Op('explain a solve', 'mnk', 'factors', 'swaps', 'pairs', 'right-hand sides', 'x0'),
+    29: Op('why a panel file is refused', 'k', 'file'),
     30: Op('scaled determinant', 'mn', 'factors', 'swaps', 'pairs'),
     31: Op('stiffness of a panel file', 'k', 'file'),
     35: Op('build up', 'mn', 'matrix', 'out0', 'swaps'),
 }
 
 # the ops that take factors: their slice `pairs` has two numbers, the pairs and the dead columns; in the other ops it has one
-HELD = (2, 3, 4, 5, 6, 7, 8, 22, 25, 30)
+HELD = (2, 3, 4, 5, 6, 7, 8, 22, 25, 28, 30)
 
 
 class Case:

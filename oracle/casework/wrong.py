@@ -8,6 +8,29 @@ SKIP = """        if a[p][i] == 0.0:
 SOLVING = """        t, pairs = factors(m, n, flat, swaps, told, True, (b, m * k, True), (x0, m * k, False))
 """
 
+# of the explaining calls: the order in which a step is looked at, its function, the lowest dead column, and the two passes
+ORDER = """        for j in range(i, n):
+            for r in range(i + 1, m):
+                finite(a[r][j]) or"""
+
+LOOK = """    def look(i, p):
+""" + ORDER + """ tell(7, place(i, j, r))
+    return eliminate(m, n, a, look)[0]
+"""
+
+LAST = LOOK.replace('tell(7, place(i, j, r))', 'last.append(place(i, j, r))').replace(
+    '    return eliminate(m, n, a, look)[0]\n',
+    '    last = []\n    pairs = eliminate(m, n, a, look)[0]\n    last and tell(7, last[-1])\n    return pairs\n')
+
+SINGULAR = """    for i in range(len(t)):
+        t[i][i] == 0.0 and tell(6, place(i))"""
+
+PASSES = """    for c, b in enumerate(sides):
+        unit_lower(t, b, look=lambda i: look(1, c, b, range(i + 1, len(b))))
+    for c, b in enumerate(sides):
+        upper(t, b, look=lambda i: look(2, c, b, [i, *range(i)]))
+"""
+
 WRONG = [
     ('divides by the pivot', 'a[r][i] *= 1.0 / a[i][i]', 'a[r][i] /= a[i][i]'),
     ('divides by the pivot when adding', 'a[r][n] *= 1.0 / a[n][n]', 'a[r][n] /= a[n][n]'),
@@ -224,6 +247,64 @@ WRONG = [
     ('takes off a column past the last row when removing', 'own = int(n <= m and a[n - 1][n - 1] == 0.0)', 'own = int(a[min(m, n) - 1][n - 1] == 0.0)'),
     ('takes off for +0.0 alone when removing', 'own = int(n <= m and a[n - 1][n - 1] == 0.0)', 'own = int(n <= m and text([a[n - 1][n - 1]]) == text([0.0]))'),
     ('loses the dead columns when removing is refused', '(told[:1], store, swaps, told[1:])', '(told[:1], store, swaps, [0])'),
+    ('tells the last place of the step', ORDER, ORDER.replace('range(i, n)', 'reversed(range(i, n))').replace('range(i + 1, m)', 'reversed(range(i + 1, m))')),
+    ('tells the last place of all', LOOK, LAST),
+    ('tells the first place of the factors that are left', LOOK,
+     '    pairs = eliminate(m, n, a)[0]\n    for j in range(n):\n        for r in range(1, m):\n'
+     '            finite(a[r][j]) or tell(7, place(min(j, r - 1), j, r))\n    return pairs\n'),
+    ('counts rows as they stood before the exchange', 'place(i, j, r))', 'place(i, j, i if r == p else r))'),
+    ('counts rows as the matrix had them', 'place(i, j, r))', 'place(i, j, next(row for row in range(m) if was[row] is a[r])))\n    was = list(a)'),
+    ('looks at the multipliers after the other columns', ORDER, ORDER.replace('range(i, n)', '[*range(i + 1, n), i]')),
+    ('never looks at the multipliers', ORDER, ORDER.replace('range(i, n)', 'range(i + 1, n)')),
+    ('looks at the multipliers alone', ORDER, ORDER.replace('range(i, n)', 'range(i, i + 1)')),
+    ('looks at a step row by row', ORDER, '        for r in range(i + 1, m):\n            for j in range(i, n):\n                finite(a[r][j]) or'),
+    ('never looks at the last row', ORDER, ORDER.replace('range(i + 1, m)', 'range(i + 1, m - 1)')),
+    ('looks at the first step alone', '        look(i, p)\n', '        i or look(i, p)\n'),
+    ('exchanges step and column', 'place(i, j, r))', 'place(j, i, r))'),
+    ('exchanges column and row', 'place(i, j, r))', 'place(i, r, j))'),
+    ('counts places from 1', '    return list(numbers)\n', '    return [x + 1 for x in numbers]\n'),
+    ('counts steps that are not skipped', 'place(i, j, r))', 'place(sum(a[s][s] != 0.0 for s in range(i)), j, r))'),
+    ('tells the place of a small pivot whose reciprocal no row uses', '    def look(i, p):\n',
+     '    def look(i, p):\n        i + 1 < m or finite(1.0 / a[i][i]) or tell(7, place(i, i, i))\n'),
+    ('tells the highest dead column', SINGULAR, SINGULAR.replace('range(len(t))', 'reversed(range(len(t)))')),
+    ('tells the number of dead columns', 'place(i))', 'place(sum(t[j][j] == 0.0 for j in range(len(t)))))'),
+    ('takes +0.0 alone for a dead column that it tells', 't[i][i] == 0.0 and tell(6, place(i))',
+     'text([t[i][i]]) == text([0.0]) and tell(6, place(i))\n    zero_diagonal(len(t), t)'),
+    ('explains a solve with a singular matrix by its overflow', '    explain_singular(t, from_0)\n    explain_passes(t, pairs, columns_of(n, k, b), from_0)\n',
+     '    diagonal = [t[i][i] for i in range(n)]\n    for i in range(n):\n        t[i][i] = t[i][i] or 1.0\n'
+     '    explain_passes(t, pairs, columns_of(n, k, b), from_0)\n    for i in range(n):\n        t[i][i] = diagonal[i]\n    explain_singular(t, from_0)\n'),
+    ('tells the row of a quotient after the rows above it', '[i, *range(i)]', '[*range(i), i]'),
+    ('never looks at the quotients', '[i, *range(i)]', 'range(i)'),
+    ('looks at the quotients alone', '[i, *range(i)]', '[i]'),
+    ('looks at the rows above from the lowest', '[i, *range(i)]', '[i, *reversed(range(i))]'),
+    ('looks at the rows below from the lowest', 'range(i + 1, len(b))))\n    for c, b', 'reversed(range(i + 1, len(b)))))\n    for c, b'),
+    ('looks at a right-hand column after its whole pass', PASSES,
+     '    for c, b in enumerate(sides):\n        unit_lower(t, b), look(1, c, b, range(len(b)))\n'
+     '    for c, b in enumerate(sides):\n        upper(t, b), look(2, c, b, range(len(b)))\n'),
+    ('looks at the solution alone', PASSES,
+     '    for c, b in enumerate(sides):\n        unit_lower(t, b), upper(t, b), look(2, c, b, range(len(b)))\n'),
+    ('solves each right-hand column whole before the next', PASSES, PASSES.replace('    for c, b in enumerate(sides):\n        upper', '        upper')),
+    ('never looks at the unit lower pass', 'look=lambda i: look(1, c, b, range(i + 1, len(b)))', 'look=unseen'),
+    ('takes the right-hand columns from the last', PASSES, PASSES.replace('enumerate(sides)', 'reversed(list(enumerate(sides)))')),
+    ('looks at the first right-hand column alone', 'look(which, c, b, rows):\n', 'look(which, c, b, rows):\n        rows = [] if c else rows\n'),
+    ('counts the passes from 0', 'place(which, c, r))', 'place(which - 1, c, r))'),
+    ('names the passes the other way round', 'place(which, c, r))', 'place(3 - which, c, r))'),
+    ('exchanges right-hand column and row', 'place(which, c, r))', 'place(which, r, c))'),
+    ('forgets the list when it explains a solve', '    for b in sides:\n        swap(b, pairs)\n', ''),
+    ('applies the list backwards when it explains a solve', '    for b in sides:\n        swap(b, pairs)\n',
+     '    for b in sides:\n        swap(b, pairs[::-1])\n'),
+    ('counts right-hand rows as they stood before the list', 'place(which, c, r))', 'place(which, c, at[r]))\n    at = list(range(len(t)))\n    swap(at, pairs)'),
+    ("counts a file's steps from 0", 'factoring: step {i + 1}', 'factoring: step {i}'),
+    ("counts a file's columns from 0", 'column {j + 1}, row {r + 1}', 'column {j}, row {r + 1}'),
+    ("counts a file's rows from 0 in factoring", 'column {j + 1}, row {r + 1}', 'column {j + 1}, row {r}'),
+    ("counts a file's rows from 0 in solving", 'pass, column {c + 1}, row {r + 1}', 'pass, column {c + 1}, row {r}'),
+    ("counts a file's right-hand column from 0", 'pass, column {c + 1}, row {r + 1}', 'pass, column {c}, row {r + 1}'),
+    ("counts a file's dead column from 0", "'refused 6\\ncolumn {j + 1}", "'refused 6\\ncolumn {j}"),
+    ("exchanges a file's passes", "['', 'lower', 'upper']", "['', 'upper', 'lower']"),
+    ('explains a file by its number alone', "29: (why_panel_file,", "29: (lambda *case: panel_file(*case) and ('no reason\\n',),"),
+    ('says nothing where there is no reason', "    return 'no reason\\n',", "    return '',"),
+    ('tells a singular file before its factoring is through', "    pairs = explain_elimination(pads, pads, t,",
+     "    explain_singular(t, lambda j: f'refused 6\\ncolumn {j + 1}\\n')\n    pairs = explain_elimination(pads, pads, t,"),
     ('halves a significand twice', '            s *= 0.5\n            e += 1\n', '            s *= 0.25\n            e += 2\n'),
     ('halves a significand above 2 only', 'if magnitude(s) >= 2.0:', 'if magnitude(s) > 2.0:'),
     ('halves a positive significand only', 'if magnitude(s) >= 2.0:', 'if s >= 2.0:'),

@@ -57,9 +57,9 @@ const NO: u8 = 0;
 // p the number of pairs, r the pairs and the dead columns of a record, d a diagonal, t two whole numbers, f bytes. An unknown op has a slice of no kind.
 fn layout_of(op: u8) -> Layout {
     match op {
-        1 | 35 => Layout(b'a', b'x', b's', NO, NO),
+        1 | 27 | 35 => Layout(b'a', b'x', b's', NO, NO),
         2 => Layout(b'x', b'b', b's', b'r', NO),
-        3 | 25 => Layout(b'a', b's', b'r', b'b', b'x'),
+        3 | 25 | 28 => Layout(b'a', b's', b'r', b'b', b'x'),
         4 | 7 | 8 => Layout(b'a', b's', b'r', b'x', NO),
         5 | 6 | 30 => Layout(b'a', b's', b'r', NO, NO),
         9 | 10 | 12 | 13 => Layout(b'a', b'b', b'x', NO, NO),
@@ -67,7 +67,7 @@ fn layout_of(op: u8) -> Layout {
         14..=17 => Layout(b's', b'p', b'x', NO, NO),
         18 => Layout(b's', b'p', b't', NO, NO),
         19 => Layout(b'a', b's', NO, NO, NO),
-        20 | 26 | 31 => Layout(b'f', NO, NO, NO, NO),
+        20 | 26 | 29 | 31 => Layout(b'f', NO, NO, NO, NO),
         21 => Layout(b'a', b'b', b'f', NO, NO),
         22 => Layout(b'x', b's', b'r', NO, NO),
         23 => Layout(b'a', NO, NO, NO, NO),

@@ -14,6 +14,8 @@ use matrix_ops::result_line;
 use matrix_ops::whole_of;
 use refusals::Answer;
 use scaled_determinant::ScaledDet;
+use why::WhyFactor;
+use why::WhySolve;
 
 // The record that a case tells.
 fn record_of(case: Case) -> Record {
@@ -75,7 +77,7 @@ fn remove_column(case: Case, x: &mut [f64], swaps: &mut [usize]) -> Line {
 fn determinant(case: Case, a: &[f64], swaps: &[usize]) -> Line {
     match from_factors::determinant(a, swaps, record_of(case)) {
         Det::Number(number) => lines::float_line(number),
-        Det::Refused(number) => lines::refused_line(number),
+        Det::Refused(number) => lines::dash_line(number),
     }
 }
 
@@ -91,7 +93,7 @@ fn scaled_determinant(case: Case, a: &[f64], swaps: &[usize]) -> Line {
 fn is_invertible(case: Case, a: &[f64], swaps: &[usize]) -> Line {
     match from_factors::is_invertible(a, swaps, record_of(case)) {
         Invertible::Is(yes) => lines::whole_line(whole_of(yes)),
-        Invertible::Refused(number) => lines::refused_line(number),
+        Invertible::Refused(number) => lines::dash_line(number),
     }
 }
 
@@ -108,6 +110,33 @@ fn of_factors(case: Case, a: &[f64], swaps: &[usize], b: &[f64], x: &mut [f64]) 
     }
 }
 
+// The line of op 27: step, column and row of an overflow.
+fn why_factor_line(reason: WhyFactor) -> Line {
+    match reason {
+        WhyFactor::NoReason => lines::dash_line(0),
+        WhyFactor::Refused(number) => lines::dash_line(number),
+        WhyFactor::Overflow { step, column, row } => lines::place_line(7, step, column, row),
+    }
+}
+
+// The line of op 28: the dead column of a singular matrix, or pass, right-hand column and row of an overflow.
+fn why_solve_line(reason: WhySolve) -> Line {
+    match reason {
+        WhySolve::NoReason => lines::dash_line(0),
+        WhySolve::Refused(number) => lines::dash_line(number),
+        WhySolve::Singular(column) => {
+            lines::line_of(6, Parts(b'1', NO, NO, NO, NO), column, 0, 0)
+        }
+        WhySolve::Overflow { pass, column, row } => lines::place_line(7, pass, column, row),
+    }
+}
+
+// Op 28.
+fn why_solve(case: Case, a: &[f64], swaps: &[usize], b: &[f64], x: &mut [f64]) -> Line {
+    let k = case.k;
+    why_solve_line(why::why_solve(a, swaps, record_of(case), b, k, x))
+}
+
 // Runs the op of a case on its slices.
 pub fn run(case: Case, a: &[f64], b: &[f64], x: &mut [f64], swaps: &mut [usize]) -> Line {
     let op = case.op;
@@ -118,6 +147,8 @@ pub fn run(case: Case, a: &[f64], b: &[f64], x: &mut [f64], swaps: &mut [usize])
         5 => determinant(case, a, swaps),
         6 => is_invertible(case, a, swaps),
         22 => remove_column(case, x, swaps),
+        27 => why_factor_line(why::why_factor(a, case.m, case.n, x, swaps)),
+        28 => why_solve(case, a, swaps, b, x),
         30 => scaled_determinant(case, a, swaps),
         35 => factored_line(columns::build_up(a, case.m, case.n, x, swaps)),
         _ => matrix_ops::run(case, a, b, x, swaps),

@@ -13,7 +13,7 @@ use lines::put_word;
 use panel_file::Written;
 use scaled_determinant::ScaledDet;
 
-// The digit of the refusal number in what the program prints, 0 where it prints pads.
+// The digit of the refusal number in what a program prints, 0 where it prints pads or no reason.
 fn digit_of(answer: &[u8]) -> u8 {
     if answer.len() < 9 {
         return b'0';
@@ -30,13 +30,28 @@ fn put_refused(text: &mut [u8], from: usize, number: usize) -> usize {
     put_word(text, at, b" | -")
 }
 
+// The line of what a program prints.
+fn put_printed(text: &mut [u8], from: usize, answer: &[u8]) -> usize {
+    let at = put(text, from, digit_of(answer));
+    let bar = put_bar(text, at);
+    put_shown(text, bar, answer)
+}
+
 // Op 20.
-fn printed(text: &mut [u8], from: usize, file: &[u8]) -> usize {
+fn ordered(text: &mut [u8], from: usize, file: &[u8]) -> usize {
     let mut answer = [0u8; 1288];
     let n = panel_text::text(file, &mut answer);
-    let at = put(text, from, digit_of(&answer[..n]));
-    let bar = put_bar(text, at);
-    put_shown(text, bar, &answer[..n])
+    put_printed(text, from, &answer[..n])
+}
+
+// Op 29.
+fn explained(text: &mut [u8], from: usize, file: &[u8]) -> usize {
+    let mut answer = [0u8; 1288];
+    let n = why_text::put_why(&mut answer, file);
+    if answer.len() < n {
+        return from;
+    }
+    put_printed(text, from, &answer[..n])
 }
 
 // Op 26.
@@ -103,7 +118,8 @@ fn write_file(text: &mut [u8], from: usize, case: Case, bytes: &mut [u8]) -> usi
 fn on_file(text: &mut [u8], from: usize, case: Case, file: &[u8]) -> usize {
     let op = case.op;
     match op {
-        20 => printed(text, from, file),
+        20 => ordered(text, from, file),
+        29 => explained(text, from, file),
         31 => stiffness(text, from, file),
         _ => moves(text, from, case.m, file),
     }

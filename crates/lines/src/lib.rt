@@ -15,8 +15,8 @@ pub use text::put_whole;
 use text::put_wholes;
 pub use text::put_word;
 
-// What the parts of a line are, at most five: x and s the slices x and swaps, 1, 2 and 3 the line's whole numbers, f its float, e its
-// exponent, and a dash for a number that a refused call does not answer.
+// What the parts of a line are, at most five: x and s the slices x and swaps, 1, 2 and 3 the line's whole numbers, t all three of
+// them as one part, f its float, e its exponent, and a dash for what a call does not answer.
 pub struct Parts(pub u8, pub u8, pub u8, pub u8, pub u8);
 
 // No part.
@@ -51,14 +51,19 @@ pub fn result_line(number: usize) -> Line {
     line_of(number, Parts(b'x', NO, NO, NO, NO), 0, 0, 0)
 }
 
-// The line of a refused call that would have answered a number.
-pub fn refused_line(number: usize) -> Line {
+// The line of a call that answers nothing besides its refusal number.
+pub fn dash_line(number: usize) -> Line {
     line_of(number, Parts(b'-', NO, NO, NO, NO), 0, 0, 0)
 }
 
 // The line of a call that answered a whole number.
 pub fn whole_line(whole: usize) -> Line {
     line_of(0, Parts(b'1', NO, NO, NO, NO), whole, 0, 0)
+}
+
+// The line of a call that tells a place of three numbers.
+pub fn place_line(number: usize, first: usize, second: usize, third: usize) -> Line {
+    line_of(number, Parts(b't', NO, NO, NO, NO), first, second, third)
 }
 
 // The line of a call that answered a float.
@@ -92,6 +97,12 @@ pub fn not_scaled_line(number: usize) -> Line {
     line_of(number, Parts(b'-', b'-', NO, NO, NO), 0, 0, 0)
 }
 
+// Puts the three whole numbers of a line as one part.
+fn put_three(text: &mut [u8], at: usize, line: Line) -> usize {
+    let three = [line.first, line.second, line.third];
+    put_wholes(text, at, &three)
+}
+
 // Puts what stands behind a part's bar.
 fn put_items(
     text: &mut [u8],
@@ -107,6 +118,7 @@ fn put_items(
         b'1' => put_whole(text, at, line.first),
         b'2' => put_whole(text, at, line.second),
         b'3' => put_whole(text, at, line.third),
+        b't' => put_three(text, at, line),
         b'f' => put_float(text, at, line.float),
         b'e' => put_signed(text, at, line.exponent),
         _ => put(text, at, b'-'),
