@@ -5,7 +5,7 @@ import struct
 from array import array
 
 from . import floats
-from .make import MAKERS, SQUARE, file_case, moves_case, panel, stiffness_case
+from .make import MAKERS, SQUARE, file_case, moves_case, panel, season_case, stiffness_case
 from .rules import GIVEN, dead_columns
 from .wire import Case, FLOATS, HELD, LONGEST, NEWLINE, OPS, encode, hexes, line, words
 
@@ -711,12 +711,53 @@ def moves():
         yield moves_case(n + 1, file)
 
 
+def one_pad(x):
+    """A file of one pad with this number on the diagonal; its load is 1."""
+    return panel(1, doubles(x, x))
+
+
+def seasons():
+    """No file, and one of each kind; the ends of every band; the least of several; idle pads; lists about as long as a season."""
+    good, idle = one_pad(4.0), panel(3, doubles(1.0, 0.0, 0.0, 0.0, 1.0, 0.0, 0.0, 0.0, 1.0, 0.0, 5.0, -0.0))
+    by_diagonal = lambda *numbers: panel(len(numbers), doubles(*(x if i == j else 0.0 for i, x in enumerate(numbers) for j in range(len(numbers))), *numbers))
+    yield season_case([])
+    yield season_case([good])
+    every = [*files()][:60]
+    for file in every:
+        yield season_case([file])
+    for count in (2, 5, len(every)):
+        yield season_case(every[:count])
+        yield season_case(every[count - 1::-1])
+    for e in (1, 2, 511, 512, 1022, 1023, 1024, 1534, 1535, 2046):
+        yield season_case([one_pad(2.0 ** (e - 1023)), one_pad(-(2.0 - 2.0 ** -52) * 2.0 ** (e - 1023))])
+    yield season_case([one_pad(2.0 ** -1074), one_pad(-(2.0 ** -1023)), one_pad(2.0 ** -1022 - 2.0 ** -1074)])
+    yield season_case([by_diagonal(1.0, 2.0 ** 600)])                                 # the least, wherever it stands
+    yield season_case([by_diagonal(2.0 ** 600, 1.0)])
+    yield season_case([by_diagonal(1.0, -(2.0 ** -600)), by_diagonal(-1.0, 2.0 ** -600), by_diagonal(-(2.0 ** 600), 2.0 ** -600, 1.0)])
+    yield season_case([idle, idle, good, panel(2, doubles(1.0, 0.0, 0.0, 1.0, 0.0, -0.0))])
+    yield season_case([panel(2, doubles(2.0 ** -700, 0.0, 0.0, 0.0, 1.0, 1.0)), panel(1, doubles(2.0 ** -1000, 2.0 ** 100))])      # refused by the solve: no band
+    yield season_case([panel(2, doubles(2.0 ** -1024, 0.0, 0.0, 0.0, 5.0, 8.0))])
+    for count in (3998, 3999, 4000, 4001, LONGEST):
+        yield season_case([b''] * count)
+        yield season_case([good] + [b''] * (count - 1))
+        yield season_case([b''] * (count - 1) + [good])
+        yield season_case([b''] * 3999 + [good, idle, good][:count - 3999])
+    yield season_case([good] * (8 * LONGEST // len(good)))
+    more = season_case([good, idle])
+    yield changed(more, 1, more.slices[1] + good)                                     # bytes that no file has
+    r = random.Random('seasons of large files')
+    yield season_case([panel(64, floats.unit(r, 64 * 65))])
+    yield season_case([panel(30, floats.unit(r, 30 * 31)) for _ in range(4)])
+    for pads in (9, 12, 17):
+        yield season_case([panel(pads, floats.unit(r, pads * (pads + 1))) for _ in range(30)])
+
+
 def largest():
     """63 and 64: whole for the square calls, adding, removing and permuting rows, thin for the others; lists of 62, 63 and 64 pairs."""
     for op, make in MAKERS.items():
         r = random.Random(f'largest {op}')
         if op in SQUARE:
-            if op not in (20, 21, 26, 29, 31):
+            if op not in (20, 21, 26, 29, 31, 34):
                 yield make(r, op, 64, 1)
             if op in (3, 12, 25, 28):
                 yield make(r, op, 63, 2)
@@ -753,6 +794,9 @@ def fixed():
         elif op == 31:
             for case in stiff():
                 yield done(case)
+        elif op == 34:
+            for case in seasons():
+                yield done(case)
         else:
             yield done(good(op))
             for bad in faults_of(good(op)):
@@ -781,6 +825,9 @@ def bad_cases():
     for op in HELD:                                                                     # other than two numbers of pairs and dead columns
         for told in (pairs(2), array('Q'), array('Q', [2, 0, 0])):
             yield encode(changed(good(op), good(op).at('pairs'), told))
+    season = season_case([one_pad(4.0)] * 2)
+    for lengths in ((24, 25), (49,), (2 ** 63, 2 ** 63), (44, 2 ** 64 - 1)):          # more bytes than are there
+        yield encode(changed(season, 0, array('Q', lengths)))
 
 
 BAD = list(bad_cases())

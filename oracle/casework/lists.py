@@ -9,7 +9,7 @@ from .make import make, op_of
 from .rules import expected
 from .wire import encode, show, show_difference
 
-LISTED = 5500       # the cases of the committed list, the bad one at its end among them
+LISTED = 6500       # the cases of the committed list, the bad one at its end among them
 
 
 def with_line(maker):

@@ -10,7 +10,7 @@ from .wire import Case, FLOATS, HELD, LONGEST, OPS, hexes, unhex
 
 # how often each op comes in a round
 TURNS = {1: 4, 2: 4, 3: 3, 4: 2, 5: 2, 6: 2, 7: 4, 8: 4, 9: 2, 10: 2, 11: 2, 12: 3, 13: 3,
-         14: 4, 15: 4, 16: 4, 17: 4, 18: 2, 19: 2, 20: 2, 21: 2, 22: 4, 23: 2, 24: 2, 25: 3, 26: 2, 27: 4, 28: 4, 29: 3, 30: 3, 31: 2, 35: 4}
+         14: 4, 15: 4, 16: 4, 17: 4, 18: 2, 19: 2, 20: 2, 21: 2, 22: 4, 23: 2, 24: 2, 25: 3, 26: 2, 27: 4, 28: 4, 29: 3, 30: 3, 31: 2, 34: 2, 35: 4}
 ROUND = [(op, turn) for turn in range(max(TURNS.values())) for op in TURNS if turn < TURNS[op]]
 
 JUNK = [0, 1, 63, 64, 65, 255, 2 ** 32, 2 ** 63, 2 ** 64 - 1]
@@ -277,12 +277,48 @@ def stiffness_case(file):
     return Case(31, 0, 0, whole.k, whole.slices)
 
 
+def season_case(files):
+    """As many of the files as the slice of bytes can hold."""
+    held, joined = [], b''
+    for file in files:
+        if len(joined) + len(file) <= 8 * LONGEST and len(held) < LONGEST:
+            held.append(file)
+            joined += file
+    return Case(34, 0, 0, 0, [array('Q', map(len, held)), joined])
+
+
+def some_file(r, n):
+    """A panel file, now and then a damaged one, or with a number on its diagonal that is small or large."""
+    matrix = floats.matrix(r, n, n)
+    if r.random() < 0.7:
+        floats.without_zero_diagonal(r, n, matrix)
+    if r.random() < 0.4:
+        i = r.randrange(n) * (n + 1)
+        matrix[i] = r.choice((1.0, -1.0)) * 2.0 ** r.choice((-1074, -1023, -1022, -512, -511, -1, 0, 511, 512, 1023, r.randint(-1074, 1023)))
+    file = panel(n, matrix + with_idle(r, floats.matrix(r, n, 1)))
+    return damaged(r, file_case(file)).slices[0] if r.random() < 0.25 else file
+
+
+def make_season(r, op, n, k):
+    """A few small files, some of them twice. In a larger one they stand among empty files, about as many as fill a season."""
+    files = [some_file(r, r.randint(1, min(n, 9))) for _ in range(r.randint(0, 12))]
+    files += r.choices(files, k=r.randint(0, 5)) if files else []
+    if n > 9:
+        many = [b''] * r.choice((3999, 4000, 4001, 4002, LONGEST))
+        for file in files:
+            many[r.choice((0, 3998, len(many) - 1, min(3999, len(many) - 1), r.randrange(len(many))))] = file
+        files = many
+    return season_case(files)
+    yield
+
+
 MAKERS = {1: make_factor, 2: make_add, 3: make_solve, 4: make_square, 5: make_square, 6: make_square, 7: make_l_or_u, 8: make_l_or_u,
           9: make_triangular, 10: make_triangular, 11: make_triangular, 12: make_triangular, 13: make_triangular,
           14: make_permute, 15: make_permute, 16: make_permute, 17: make_permute, 18: make_append, 19: make_rank, 20: make_file,
           21: make_write, 22: make_remove, 23: make_search, 24: make_triangular, 25: make_solve, 26: make_moves,
-          27: make_why_factor, 28: make_why_solve, 29: make_why_file, 30: make_scaled, 31: make_stiffness, 35: make_factor}
-SQUARE = (3, 4, 5, 6, 9, 10, 11, 12, 13, 19, 20, 21, 24, 25, 26, 28, 29, 30, 31)      # ops whose two sizes are the matrix's and the right-hand columns'
+          27: make_why_factor, 28: make_why_solve, 29: make_why_file, 30: make_scaled, 31: make_stiffness, 34: make_season,
+          35: make_factor}
+SQUARE = (3, 4, 5, 6, 9, 10, 11, 12, 13, 19, 20, 21, 24, 25, 26, 28, 29, 30, 31, 34)      # ops whose two sizes are the matrix's and the right-hand columns'
 
 
 # ---- faults: each changes a good case in place; the rules say what the changed case gives
@@ -410,7 +446,7 @@ def faults_of(op):
     return kinds
 
 
-FAULTS = {op: faults_of(op) for op in OPS}
+FAULTS = {op: faults_of(op) for op in OPS if op not in (20, 26, 34)}
 
 
 def damaged(r, c):
@@ -448,6 +484,23 @@ def damaged_moves(r, c):
     return moves_case(r.choice([0, pads + 1, pads + 1, pads, 64, 65, 2 ** 32 + c.m, 2 ** 63, 2 ** 64 - 1, r.randint(1, 64)]) % 2 ** 64, file)
 
 
+def damaged_season(r, c):
+    """A byte more or fewer in a file, which moves those behind it; two files in the other order; bytes behind the last file."""
+    lengths, joined = c.slices[0][:], c.slices[1]
+    how = r.randrange(3)
+    if how == 0 and len(lengths):
+        at = r.randrange(len(lengths))
+        lengths[at] = max(0, lengths[at] + r.choice((-1, 1)))
+        joined += bytes(max(0, sum(lengths) - len(joined)))
+    elif how == 1 and len(lengths):
+        at = r.randrange(len(lengths))
+        lengths[at], lengths[-1] = lengths[-1], lengths[at]
+    else:
+        joined += bytes(r.randrange(256) for _ in range(r.randint(1, 40)))
+    fits = len(joined) <= 8 * LONGEST
+    return Case(34, 0, 0, 0, [lengths, joined]) if fits else c
+
+
 def spoiled(r, c):
     """The case with one fault, or two or three at once: the order of the tests then shows."""
     times = r.choice((1, 1, 1, 2, 2, 3))
@@ -458,6 +511,8 @@ def spoiled(r, c):
             c = damaged_moves(r, c)
         elif c.op == 31:
             c = stiffness_case(damaged(r, c).slices[0])
+        elif c.op == 34:
+            c = damaged_season(r, c)
         else:
             r.choice(FAULTS[c.op])(r, c)
     c.fresh = None

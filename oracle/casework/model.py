@@ -10,7 +10,7 @@ import sys
 # F: floats, W: whole numbers, T: two of them
 TAKES = {1: 'FFW', 2: 'FFWT', 3: 'FWTFF', 4: 'FWTF', 5: 'FWT', 6: 'FWT', 7: 'FWTF', 8: 'FWTF', 9: 'FFF', 10: 'FFF', 11: 'FFFF', 12: 'FFF',
          13: 'FFF', 14: 'WWF', 15: 'WWF', 16: 'WWF', 17: 'WWF', 18: 'WWW', 19: 'FW', 20: 'W', 21: 'FFW', 22: 'FWT', 23: 'F', 24: 'FFFF',
-         25: 'FWTFF', 26: 'W', 27: 'FFW', 28: 'FWTFF', 29: 'W', 30: 'FWT', 31: 'W', 35: 'FFW'}
+         25: 'FWTFF', 26: 'W', 27: 'FFW', 28: 'FWTFF', 29: 'W', 30: 'FWT', 31: 'W', 34: 'WW', 35: 'FFW'}
 
 
 class Refused(Exception):
@@ -643,6 +643,52 @@ def stiffness(m, n, k, items):
     return scaled_number(pads, t, pairs)
 
 
+def exponent_of(x):
+    bits, = struct.unpack('<Q', struct.pack('<d', x))
+    return bits // 2 ** 52 % 2048
+
+
+def share(file):
+    """The pads that carry something, and the exponent that the band goes by."""
+    data = file + bytes(-len(file) % 8)
+    pads, values = read_panel(len(file), [x for x, in struct.iter_unpack('<Q', data)])
+    t, pairs = factored_panel(pads, values)
+    loads = values[pads * pads:]
+    solved(pads, t, pairs, [loads])
+    overflow(loads)
+    least = t[0][0]
+    for i in range(pads):
+        if magnitude(t[i][i]) < magnitude(least):
+            least = t[i][i]
+    return len([x for x in loads if x != 0.0]), exponent_of(least)
+
+
+def season(m, n, k, lengths, items):
+    data = struct.pack(f'<{len(items)}Q', *items)
+    if sum(lengths) > len(data):
+        raise BadCase
+    refuse(10, len(lengths) > 4000)
+    accepted, refused, listed, bands = 0, [0] * 10, 0, [0] * 5
+    at = 0
+    for length in lengths:
+        file = data[at:at + length]
+        at += length
+        try:
+            pads, exponent = share(file)
+        except Refused as e:
+            refused[e.args[0]] += 1
+            continue
+        accepted += 1
+        listed += pads
+        bands[(exponent > 0) + (exponent > 511) + (exponent > 1022) + (exponent > 1534)] += 1
+    return [accepted] + refused[1:] + [listed] + bands,
+
+
+def season_left(number, m, n, k, lengths, items):
+    """The season is full: the counts of those that filled it."""
+    return season(m, n, k, lengths[:4000], items)
+
+
 def last_left(number, *case):
     """The lent result is the last slice: +0.0 after an overflow, else as it was."""
     return [0.0] * len(case[-1]) if number == 7 else case[-1],
@@ -661,6 +707,7 @@ CALLS = {
     23: (search, None), 24: (given_diagonal(corrected), last_left), 25: (solving(transposed_solved), last_left),
     26: (moves, lambda *case: ('-',)), 27: (why_factor, lambda *case: ('-',)), 28: (why_solve, lambda *case: ('-',)),
     29: (why_panel_file, lambda number, *case: (f'refused {number}\n',)), 30: (scaled, lambda *case: '--'), 31: (stiffness, lambda *case: '--'),
+    34: (season, season_left),
     35: (factor, factor_left),
 }
 

@@ -297,7 +297,7 @@ def scaled_made(c):
     return 0, parts
 
 
-def two_dashes(c):
+def two_dashes(c, number):
     return ['-', '-']
 
 
@@ -438,18 +438,22 @@ def file_solved(n, held, readings):
     return loads
 
 
-def file_made(c):
-    """Factoring's 7, then the solve's 6, then its 7."""
+def file_loads(c):
+    """Factoring's 7, then the solve's 6, then its 7; 0 with the factors and the loads."""
     n, _, readings, held = yield from file_factored(c)
     if held is None:
-        return 7, refused_left(c, 7)
+        return 7, None, None
     loads = yield from file_solved(n, held, readings)
     if loads == 'none':
-        return 6, refused_left(c, 6)
-    if not finite(loads):
-        return 7, refused_left(c, 7)
-    loads = unhex(loads)
-    return 0, printed(f'pads {n}', *(f'{pad} {hexes(loads[pad - 1:pad])}' for pad in ranks(loads)))
+        return 6, None, None
+    return (0, held[0], unhex(loads)) if finite(loads) else (7, None, None)
+
+
+def file_made(c):
+    number, _, loads = yield from file_loads(c)
+    if number != 0:
+        return number, refused_left(c, number)
+    return 0, printed(f'pads {len(loads)}', *(f'{pad} {hexes(loads[pad - 1:pad])}' for pad in ranks(loads)))
 
 
 # ---- 21: writing a panel file (document 02, 1/13)
@@ -673,11 +677,55 @@ def why_file_made(c):
 
 def stiffness_made(c):
     """Factoring's 7, and no other refusal behind the reader's."""
-    n, _, held = yield from file_factored(c)
+    n, _, _, held = yield from file_factored(c)
     if held is None:
         return 7, ['-', '-']
     factors, _, (pairs, _) = held
     return 0, scaled(n, factors, pairs)
+
+
+# ---- 34: a season (document 02, request 13)
+
+FULL = 4000
+BANDS = (0, 511, 1022, 1534, 2046)      # the last exponent of each
+
+
+def files_of(lengths, joined):
+    at = 0
+    for length in lengths:
+        yield joined[at:at + length]
+        at += length
+
+
+def band_of(diagonal):
+    """By the biased exponent of the least magnitude."""
+    exponent = struct.unpack('<Q', struct.pack('<d', min(map(abs, diagonal))))[0] >> 52
+    return next(band for band, last in enumerate(BANDS) if exponent <= last)
+
+
+def file_told(file):
+    """The refusal's number, 0 for none; the pads that are listed without idle ones, and the band."""
+    c = Case(20, 0, 0, len(file), [file])
+    number, factors, loads = first(file_tests(c)), None, None
+    if number == 0:
+        number, factors, loads = yield from file_loads(c)
+    if number != 0:
+        return number, 0, None
+    return 0, sum(x != 0.0 for x in loads), band_of(factors[::len(loads) + 1])
+
+
+def season_made(c):
+    """Accepted, refused under 1 to 9, pads, the five bands, of the first 4,000 files; 10 where there are more."""
+    files = list(files_of(*c.slices))
+    told = {}
+    for file in files[:FULL]:
+        if file not in told:
+            told[file] = yield from file_told(file)
+    told = [told[file] for file in files[:FULL]]
+    counts = [sum(number == k for number, _, _ in told) for k in range(10)]
+    counts.append(sum(pads for _, pads, _ in told))
+    counts += [sum(band == b for _, _, band in told) for b in range(len(BANDS))]
+    return 10 if len(files) > FULL else 0, [words(counts)]
 
 
 # ---- all calls
@@ -707,6 +755,7 @@ RULES = {
     29: (file_tests, refused_left, why_file_made),
     30: (square_tests, two_dashes, scaled_made),
     31: (file_tests, two_dashes, stiffness_made),
+    34: (lambda c: [], None, season_made),
     35: (factor_tests, factor_left, factor_made),
 }
 

@@ -17,7 +17,8 @@ class Op:
 
     def __init__(self, name, sizes, *slices):
         self.name, self.sizes = name, sizes
-        self.slices = [(s, WORDS if s in ('swaps', 'pairs', 'two numbers', 'ranks0') else BYTES if s in ('file', 'lent bytes') else FLOATS)
+        self.slices = [(s, WORDS if s in ('swaps', 'pairs', 'two numbers', 'ranks0', 'lengths') else
+                        BYTES if s in ('file', 'lent bytes', 'files') else FLOATS)
                        for s in slices]
         # the sizes that may be anything: k is the number of bytes where a slice has bytes
         self.free = sizes.replace('k', '') if BYTES in (kind for _, kind in self.slices) else sizes
@@ -55,6 +56,7 @@ OPS = {
     29: Op('why a panel file is refused', 'k', 'file'),
     30: Op('scaled determinant', 'mn', 'factors', 'swaps', 'pairs'),
     31: Op('stiffness of a panel file', 'k', 'file'),
+    34: Op('season', '', 'lengths', 'files'),
     35: Op('build up', 'mn', 'matrix', 'out0', 'swaps'),
 }
 

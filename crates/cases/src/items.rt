@@ -2,6 +2,7 @@
 ghost use Prim.Native.Nat.{_<_};
 ghost use Rattle.cases.specs.Counted.{Counted};
 use crate::LIMIT;
+use crate::SWAPS;
 
 // Reads as many bytes as the slice has. Answers whether there were so many.
 pub fn fill(bytes: &mut [u8]) -> bool {
@@ -135,6 +136,33 @@ pub fn wholes(bytes: &[u8], room: usize, count: usize, dst: &mut [usize]) -> usi
     }
     wholes_of(&bytes[from..], &mut dst[..count]);
     count
+}
+
+// Whether the first `count` whole numbers that the bytes hold add to no more than `most`.
+fn add_within(bytes: &[u8], count: usize, most: usize) -> bool {
+    let mut left = most;
+    let mut k = 0;
+    while k < count {
+        let length = bits_of(bytes, k) as usize;
+        if left < length {
+            return false;
+        }
+        left -= length;
+        k += 1;
+    }
+    true
+}
+
+// Whether so many files, whose lengths stand in their room, have no more bytes than so many items.
+pub fn lengths_fit(bytes: &[u8], count: usize, items: usize) -> bool {
+    let from = 8 * LIMIT * SWAPS;
+    if bytes.len() < from {
+        return false;
+    }
+    if LIMIT < items {
+        return false;
+    }
+    add_within(&bytes[from..], count, 8 * items)
 }
 
 // How many of k bytes stand at the start of the store: k.

@@ -9,6 +9,7 @@ pub use items::bytes_within;
 use items::fill;
 use items::float_of;
 pub use items::floats;
+use items::lengths_fit;
 use items::read_items;
 pub use items::wholes;
 
@@ -54,7 +55,8 @@ struct Layout(u8, u8, u8, u8, u8);
 const NO: u8 = 0;
 
 // The slices that an op takes: a and b are floats that are read, x floats that are written, s whole numbers that are written,
-// p the number of pairs, r the pairs and the dead columns of a record, d a diagonal, t two whole numbers, f bytes. An unknown op has a slice of no kind.
+// p the number of pairs, r the pairs and the dead columns of a record, d a diagonal, t two whole numbers, f bytes, j the bytes of
+// files whose lengths are s. An unknown op has a slice of no kind.
 fn layout_of(op: u8) -> Layout {
     match op {
         1 | 27 | 35 => Layout(b'a', b'x', b's', NO, NO),
@@ -71,6 +73,7 @@ fn layout_of(op: u8) -> Layout {
         21 => Layout(b'a', b'b', b'f', NO, NO),
         22 => Layout(b'x', b's', b'r', NO, NO),
         23 => Layout(b'a', NO, NO, NO, NO),
+        34 => Layout(b's', b'j', NO, NO, NO),
         _ => Layout(b'?', NO, NO, NO, NO),
     }
 }
@@ -80,7 +83,7 @@ fn room(kind: u8) -> usize
     ensures { λ r. ⌜ r < 8 ⌝ }
 {
     match kind {
-        b'f' => 0,
+        b'f' | b'j' => 0,
         b'a' => A,
         b'b' => B,
         b'x' => X,
@@ -91,10 +94,11 @@ fn room(kind: u8) -> usize
     }
 }
 
-// Whether a slice of this kind may have so many items. A slice of k bytes has eight to an item.
+// Whether a slice of this kind may have so many items. A slice of k bytes has eight to an item; what files need is tested when all is
+// read.
 fn may_have(kind: u8, count: usize, k: usize) -> bool {
     match kind {
-        b'a' | b'b' | b'x' | b's' => true,
+        b'a' | b'b' | b'x' | b's' | b'j' => true,
         b'p' | b'd' => count == 1,
         b'r' | b't' => count == 2,
         b'f' => (k / 8 < count) | ((count == k / 8) & (k % 8 == 0)),
@@ -120,6 +124,10 @@ fn told(mut case: Case, kind: u8, count: usize, first: u64, second: u64) -> Case
             case.second = second as usize;
         }
         b'f' => case.on_file = true,
+        b'j' => {
+            case.a = count;
+            case.on_file = true;
+        }
         _ => {}
     }
     case
@@ -168,12 +176,21 @@ fn read_three(head: Case, kinds: Layout, bytes: &mut [u8]) -> Case {
     read_slice(case, kinds.2, bytes)
 }
 
+// The case, whole where its files have no more bytes than it brings.
+fn with_files(mut case: Case, bytes: &[u8]) -> Case {
+    if case.op == 34 {
+        case.whole = case.whole & lengths_fit(bytes, case.swaps, case.a);
+    }
+    case
+}
+
 // Reads what stands behind the op of a case.
 fn read(op: u8, bytes: &mut [u8]) -> Case {
     let kinds = layout_of(op);
     let mut case = read_three(read_head(op), kinds, bytes);
     case = read_slice(case, kinds.3, bytes);
-    read_slice(case, kinds.4, bytes)
+    case = read_slice(case, kinds.4, bytes);
+    with_files(case, bytes)
 }
 
 // What stands next on standard input.

@@ -33,7 +33,7 @@ module _ (n tossed : ℕ) (o : Outcome Column) where
     pub size : length x ≡ k
     pub front : take k now ≡ x
 
-  front-done : (x was now : Column) → o ≡ done x → now ≡ fronted n o was → n ≤ length was → length now ≡ length was → (length x ≡ n) × (take n now ≡ x)
+  pub front-done : (x was now : Column) → o ≡ done x → now ≡ fronted n o was → n ≤ length was → length now ≡ length was → (length x ≡ n) × (take n now ≡ x)
   unfolding settledIn
   front-done x was now e f h l =
       let is : now ≡ x ++ drop n was = f ∙ ap (λ (p : Outcome Column). fronted n p was) e in

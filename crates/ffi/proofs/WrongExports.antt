@@ -4,12 +4,13 @@
 use mathlib.Core.Path.{_≡_, sym, ap}
 use mathlib.Core.Bool.{Bool, true, false, false≢true}
 use mathlib.Core.List.{List, [], _∷_}
-use Prim.Native.Nat.{ℕ}
+use Prim.Native.Nat.{ℕ, _+_}
 use native.Mathlib.Omega.{arith}
-use lib.ListN.{replicate}
+use lib.ListN.{getD, set, replicate}
 use lib.IntN.{pos}
 use lib.Signed.{mag}
 use lib.Ieee.{Float}
+use Rattle.numbers.specs.Each.{listOf}
 use Rattle.numbers.specs.Numbers.{zero64}
 use Rattle.numbers.specs.Column.{Column, zeros}
 use Rattle.store.specs.Columns.{isMatrix}
@@ -32,6 +33,8 @@ use Rattle.panel_file.specs.File.{littleEndian, fieldAt, headed, padsOf}
 use Rattle.panel_file.specs.Reading.{fileTests, fileRefusal}
 use Rattle.crossing.specs.Factors.{factorsIn, tossUpsIn, tossesGiven, stiffness, settledIn}
 use Rattle.crossing.specs.Ordering.{loadsOf, ranksLeft, Ranks, ordering}
+use Rattle.season.specs.Telling.{telling}
+use Rattle.season.specs.Season.{oneMoreAt, counted, handing, countsOf, seasonFrom}
 use Rattle.ffi.specs.Exports.{valueAfter, resultAfter, padsIn, countIn}
 
 -- a name for all that has to unfold for a call to be refused
@@ -267,3 +270,24 @@ unfolding refuses
 wejdarox-stiffness =
     two checks cleared (onePad, eight) (onePad, eight) ([], eight) (λ d. not-vanished (ap (λ (o : Checked). o .value) d))
     (λ d. omega (arith, ap (λ (o : Checked). o .number) d))
+
+-- ---- a season, by its counts: the empty file that is one too many counted among the files, also where it is refused
+pub record Season : Type 0 where
+  pub number : ℕ
+  pub counts : List ℕ
+
+abbrev hands : List ℕ × List ℕ → Season
+hands x = let o = handing (seasonFrom (x .1)) (x .0) in record { number = numberOf (o .answer); counts = countsOf (o .left) }
+
+abbrev filesGoOn : List ℕ × List ℕ → Season
+filesGoOn x = record { number = hands x .number; counts = set (hands x .counts) 16 (getD (x .1) 16 0 + 1) }
+
+-- 4,000 empty files, and none
+abbrev full : List ℕ
+full = set (set (replicate 17 0) 8 4000) 16 4000
+
+pub wejdarox-with-file : TwoShutOut hands filesGoOn
+unfolding refuses listOf telling oneMoreAt counted handing countsOf seasonFrom
+wejdarox-with-file =
+    two hands filesGoOn ([], full) ([], full) ([], replicate 17 0) (λ d. omega (arith, ap (λ (o : Season). getD (o .counts) 16 0) d))
+    (λ d. omega (arith, ap (λ (o : Season). o .number) d))

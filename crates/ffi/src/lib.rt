@@ -13,6 +13,7 @@ ghost use Rattle.scaled_determinant.specs.Scaled.{scaled};
 ghost use Rattle.scaled_determinant.specs.Determinant.{vanished, scaling};
 ghost use Rattle.crossing.specs.Factors.{factorsIn, tossUpsIn, tossesGiven, stiffness};
 ghost use Rattle.crossing.specs.Ordering.{ordering};
+ghost use Rattle.season.specs.Season.{handing, countsOf, seasonFrom};
 ghost use Rattle.ffi.specs.Exports.{valueAfter, resultAfter, padsIn, countIn};
 use adding::Added;
 use crossing::Order;
@@ -22,6 +23,7 @@ use from_factors::Invertible;
 use lu::Factored;
 use ranking::Listed;
 use scaled_determinant::ScaledDet;
+use season::Season;
 
 // Factors the m by n matrix a. Refused: no pairs, no dead columns and no toss-ups.
 #[no_mangle]
@@ -374,4 +376,18 @@ pub extern "C" fn wejdarox_stiffness(
             number
         }
     }
+}
+
+// Hands a panel file over to a season, which stands as its sixteen counts and the number of files. Refused with 10, the season being full: all as it was.
+#[no_mangle]
+pub extern "C" fn wejdarox_with_file(file: &[u8], season: &mut [usize; 17]) -> usize
+    ensures { λ r. ⌜ r ≡ numberOf (handing (seasonFrom (now (season .entry))) (now (file .entry)) .answer) ⌝ }
+    ensures { λ _. ⌜ now (season .exit) ≡ countsOf (handing (seasonFrom (now (season .entry))) (now (file .entry)) .left) ⌝ }
+{
+    let counts = *season;
+    let handed = Season::from_counts(counts).with_file(file);
+    let answer = handed.answer;
+    let after = handed.season;
+    *season = after.counts();
+    refusals::number_of(answer)
 }

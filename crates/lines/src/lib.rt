@@ -12,7 +12,7 @@ pub use text::put_scaled;
 pub use text::put_shown;
 use text::put_signed;
 pub use text::put_whole;
-use text::put_wholes;
+pub use text::put_wholes;
 pub use text::put_word;
 
 // What the parts of a line are, at most five: x and s the slices x and swaps, 1, 2 and 3 the line's whole numbers, t all three of

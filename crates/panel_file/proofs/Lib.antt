@@ -5,3 +5,4 @@ pub mod Fields
 pub mod Files
 pub mod Writing
 pub mod Crossings
+pub mod Longer

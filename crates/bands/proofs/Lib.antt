@@ -1,0 +1,2 @@
+pub mod Banded
+pub mod Least

@@ -1,0 +1,5 @@
+pub mod Doubles
+pub mod Rows
+pub mod Telling
+pub mod Counts
+pub mod Handing
