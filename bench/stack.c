@@ -27,6 +27,7 @@ enum { DEEP = 262144, FULL = 4096, HEAD = 6 };
 static double a[FULL], factors[FULL], result[FULL], column[64], x[64], loads[64], value;
 static bool invertible;
 static int32_t exponent;
+static struct wejdarox_season season;
 static size_t swaps[128], ranks[64], pairs, dead, toss_ups, pads, listed, answer;
 static byte file[HEAD + FULL * 8 + 64 * 8];
 
@@ -44,6 +45,7 @@ APART void is_invertible(void) { answer = wejdarox_is_invertible(factors, FULL, 
 APART void rank(void) { answer = wejdarox_rank(x, 64, 64, ranks, 64, &listed); __asm__ volatile(""); }
 APART void order(void) { answer = wejdarox_pad_order(file, sizeof file, ranks, loads, &pads, &toss_ups); __asm__ volatile(""); }
 APART void stiffness(void) { answer = wejdarox_stiffness(file, sizeof file, &value, &exponent, &toss_ups); __asm__ volatile(""); }
+APART void with_file(void) { answer = wejdarox_with_file(file, sizeof file, &season); __asm__ volatile(""); }
 
 static size_t taken(void (*call)(void)) {
     paint();
@@ -90,6 +92,7 @@ __attribute__((used)) void start(void) {
     say("rank", rank);
     say("pad_order", order);
     say("stiffness", stiffness);
+    say("with_file", with_file);
     memset(a, 0, 64 * sizeof *a); // the first step is skipped
     wejdarox_factor(a, FULL - 64, 64, 63, factors, FULL - 64, swaps, 128, &pairs, &dead, &toss_ups);
     say("add_skipped", add);

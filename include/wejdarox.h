@@ -23,7 +23,8 @@
  *             7  a result is too large for a finite number
  *             8  not a panel file of version 1
  *             9  the number of dead columns is not that of the factors; it is tested after 5 and before 6
- *             1 to 6, 8 and 9 are answered before the work: every slice is left as it was. 7 is answered after it: results are +0.0, as each call says.
+ *             10 the season is full: wejdarox_with_file alone
+ *             1 to 6, 8 to 10 are answered before the work: every slice is left as it was. 7 is answered after it: results are +0.0, as each call says.
  *
  *  A caller   owes that
  *             - a pointer beside a length n points to n elements of its type, aligned, for the time of the call; where n is 0 nothing is read or written
@@ -34,7 +35,7 @@
  *             - what a call may change (a pointer without `const`) is apart from every other slice and number of that call;
  *             - no other thread changes what is lent, or looks at what may change, until the call returns;
  *             - the floating-point state is the usual one of the ABI: rounding to nearest, no trap enabled, subnormal numbers kept;
- *             - the stack has room: on x86-64 wejdarox_pad_order and wejdarox_stiffness take at most 36 KB of it, the others under 1 KB.
+ *             - the stack has room: on x86-64 wejdarox_pad_order, wejdarox_stiffness and wejdarox_with_file take at most 37 KB of it, the others under 1 KB.
  *             It owes nothing else: sizes, lengths, swap lists and numbers may be anything.
  *
  *  Machine    `rt staticlib ffi` writes target/staticlib/libffi.a, code for x86-64 Linux. It needs `memset` and nothing else. No call allocates or keeps
@@ -55,14 +56,17 @@ extern "C" {
 /*
  * The version of this header and of the archive that it was packed with: the same number as in the file VERSION.
  * Since 0.7.0: a record has a fourth number, the dead columns. The six calls on matrices take it behind the pairs (wejdarox_factor and
- * wejdarox_add_column through a pointer, the others as it is), and those that take factors can answer 9. wejdarox_scaled_determinant and wejdarox_stiffness
- * are new.
+ * wejdarox_add_column through a pointer, the others as it is), and those that take factors can answer 9. wejdarox_scaled_determinant, wejdarox_stiffness
+ * and wejdarox_with_file are new.
  */
 #define WEJDAROX_VERSION "0.8.0"
 
 /* The most rows, columns, right-hand columns and loads; and the length of a swap store. */
 #define WEJDAROX_MOST 64
 #define WEJDAROX_SWAPS 128
+
+/* The most files of a season. */
+#define WEJDAROX_FILES 4000
 
 /*
  * wejdarox_factor
@@ -431,6 +435,40 @@ size_t wejdarox_pad_order(const uint8_t *file, size_t file_len, size_t ranks[64]
  *  8 is tested first, then 1, 3 and 5; 7 is the factoring's. file is never changed.
  */
 size_t wejdarox_stiffness(const uint8_t *file, size_t file_len, double *significand, int32_t *exponent, size_t *toss_ups);
+
+/*
+ * The figures of a season: sixteen counts, and the number of files handed over. A season of no file is all zeros.
+ */
+struct wejdarox_season {
+    size_t accepted;   /* the files whose answer wejdarox_pad_order gives */
+    size_t refused[9]; /* those that it refuses with 1, with 2, and so on up to 9 */
+    size_t pads;       /* the pads that wejdarox_rank lists of the accepted files: those without a load are left off */
+    size_t bands[5];   /* the accepted files by the least magnitude on the diagonal of their factors: its biased exponent is 0, 1 to 511, 512 to 1022,
+                          1023 to 1534, 1535 to 2046 */
+    size_t files;      /* how many files were handed over: accepted and refused add to it, and the bands to the accepted */
+};
+
+/*
+ * wejdarox_with_file
+ *
+ *  Purpose
+ *  =======
+ *  Hands a panel file over to a season, which counts it by what becomes of it.
+ *
+ *  Arguments
+ *  =========
+ *  file      (input) bytes, dimension (file_len)
+ *            The file, as wejdarox_pad_order takes it; what it would refuse is counted as refused.
+ *  file_len  (input) how many bytes the file has.
+ *  season    (input/output) the season. All counts but those of this file stay. Counts may be anything: a sum past 2^64 - 1 starts again from 0.
+ *
+ *  Answer
+ *  ======
+ *  0   counted
+ *  10  the season is full: files is 4000 or more         season as it was
+ *  file is never changed. In whatever order up to 4000 files are handed over, the counts are the same.
+ */
+size_t wejdarox_with_file(const uint8_t *file, size_t file_len, struct wejdarox_season *season);
 
 #ifdef __cplusplus
 }

@@ -95,6 +95,7 @@ mod c {
         pub fn wejdarox_rank_all(loads: *const f64, loads_len: usize, n: usize, ranks: *mut usize, ranks_len: usize, count: *mut usize) -> usize;
         pub fn wejdarox_pad_order(file: *const u8, file_len: usize, ranks: *mut usize, loads: *mut f64, pads: *mut usize, toss_ups: *mut usize) -> usize;
         pub fn wejdarox_stiffness(file: *const u8, file_len: usize, significand: *mut f64, exponent: *mut i32, toss_ups: *mut usize) -> usize;
+        pub fn wejdarox_with_file(file: *const u8, file_len: usize, season: *mut usize) -> usize;
     }
 }
 
@@ -170,6 +171,11 @@ pub(crate) fn pad_order(file: &[u8], ranks: &mut [usize; 64], loads: &mut [f64; 
 
 pub(crate) fn stiffness(file: &[u8], significand: &mut f64, exponent: &mut i32, toss_ups: &mut usize) -> usize {
     unsafe { c::wejdarox_stiffness(file.as_ptr(), file.len(), significand, exponent, toss_ups) }
+}
+
+/// The season as its sixteen counts and the number of files.
+pub(crate) fn with_file(file: &[u8], season: &mut [usize; 17]) -> usize {
+    unsafe { c::wejdarox_with_file(file.as_ptr(), file.len(), season.as_mut_ptr()) }
 }
 
 #[cfg(test)]

@@ -41,10 +41,12 @@ pub enum Refusal {
     NotAPanelFile,
     /// 9: a number of dead columns that is not that of the factors. An [`Lu`] keeps its own true, so that none of its calls meets this.
     DeadColumns,
+    /// 10: the season is full.
+    SeasonFull,
 }
 
 impl Refusal {
-    /// Its number, 1 to 9.
+    /// Its number, 1 to 10.
     pub fn number(self) -> usize {
         match self {
             Refusal::Size => 1,
@@ -56,10 +58,11 @@ impl Refusal {
             Refusal::Overflow => 7,
             Refusal::NotAPanelFile => 8,
             Refusal::DeadColumns => 9,
+            Refusal::SeasonFull => 10,
         }
     }
 
-    /// What a call's answer says; no call answers a number past 9.
+    /// What a call's answer says; no call answers a number past 10.
     fn told(answer: usize) -> Result<(), Refusal> {
         match answer {
             0 => Ok(()),
@@ -71,7 +74,8 @@ impl Refusal {
             6 => Err(Refusal::Singular),
             7 => Err(Refusal::Overflow),
             8 => Err(Refusal::NotAPanelFile),
-            _ => Err(Refusal::DeadColumns),
+            9 => Err(Refusal::DeadColumns),
+            _ => Err(Refusal::SeasonFull),
         }
     }
 }
@@ -88,6 +92,7 @@ impl fmt::Display for Refusal {
             Refusal::Overflow => "a result is too large for a finite number",
             Refusal::NotAPanelFile => "this is no panel file of version 1: under 6 bytes, another mark or another version",
             Refusal::DeadColumns => "the number of dead columns is not that of the factors",
+            Refusal::SeasonFull => "the season is full: it has 4,000 files",
         };
         write!(f, "refused {}: {words}", self.number())
     }
@@ -278,4 +283,39 @@ pub fn stiffness(file: &[u8]) -> Result<Stiffness, Refusal> {
     let (mut determinant, mut toss_ups) = (Scaled { significand: 0.0, exponent: 0 }, 0);
     Refusal::told(calls::stiffness(file, &mut determinant.significand, &mut determinant.exponent, &mut toss_ups))?;
     Ok(Stiffness { determinant, toss_ups })
+}
+
+/// The figures of a season: panel files are handed over one at a time, at most 4,000, and counted by what becomes of them. The order of the files does not matter.
+#[derive(Clone, Copy, Debug, Default, PartialEq, Eq, Hash)]
+pub struct Season {
+    /// The files that [`pad_order`] answers.
+    pub accepted: usize,
+    /// Those that it refuses with 1, with 2, and so on up to 9.
+    pub refused: [usize; 9],
+    /// The pads that [`rank`] lists of the accepted files: idle ones are left off.
+    pub pads: usize,
+    /// The accepted files by the least magnitude on the diagonal of their factors: its biased exponent is 0, 1 to 511, 512 to 1022, 1023 to 1534, 1535 to 2046.
+    pub bands: [usize; 5],
+    /// How many files were handed over: accepted and refused add to it, and the bands to the accepted.
+    pub files: usize,
+}
+
+impl Season {
+    /// A season of no file.
+    pub fn new() -> Season {
+        Season::default()
+    }
+
+    /// The season with one file more. Refusal: 10, where it has 4,000.
+    pub fn with_file(self, file: &[u8]) -> Result<Season, Refusal> {
+        let mut counts = [0; 17];
+        counts[0] = self.accepted;
+        counts[1..10].copy_from_slice(&self.refused);
+        counts[10] = self.pads;
+        counts[11..16].copy_from_slice(&self.bands);
+        counts[16] = self.files;
+        Refusal::told(calls::with_file(file, &mut counts))?;
+        let [accepted, a, b, c, d, e, f, g, h, i, pads, v, w, x, y, z, files] = counts;
+        Ok(Season { accepted, refused: [a, b, c, d, e, f, g, h, i], pads, bands: [v, w, x, y, z], files })
+    }
 }

@@ -3,7 +3,7 @@ use std::fs;
 use std::io::Write;
 use std::path::{Path, PathBuf};
 use std::process::{Command, Stdio};
-use wejdarox::{pad_order, rank, rank_all, stiffness, Lu, Pad, PadOrder, Refusal, Scaled, Stiffness};
+use wejdarox::{pad_order, rank, rank_all, stiffness, Lu, Pad, PadOrder, Refusal, Scaled, Season, Stiffness};
 
 // ---- random inputs, the same in every run
 
@@ -328,6 +328,35 @@ fn panel_files() {
         };
         assert_eq!(stiffness(&whole), quick());
         assert_eq!(stiffness(&whole[..whole.len() - 1]), Err(Refusal::Length));
+    }
+}
+
+/// A season's counts are those of what becomes of each file.
+#[test]
+fn seasons() {
+    let mut random = Random(5);
+    for _ in 0..40 {
+        let (mut season, mut wanted) = (Season::new(), Season::new());
+        for _ in 0..random.below(20) {
+            let n = 1 + random.below(9);
+            let (a, b) = (random.matrix(n, n), random.numbers(n, 1));
+            let told = || -> Result<(usize, u64), Refusal> {
+                let lu = Lu::factor(&a, n, n)?;
+                let least = (0..n).map(|i| lu.factors()[i * n + i].abs()).fold(f64::INFINITY, f64::min);
+                Ok((rank(&lu.solve(&b, 1)?)?.len(), least.to_bits() >> 52))
+            };
+            match told() {
+                Ok((pads, exponent)) => {
+                    wanted.accepted += 1;
+                    wanted.pads += pads;
+                    wanted.bands[[0, 511, 1022, 1534].iter().filter(|&&last| exponent > last).count()] += 1;
+                }
+                Err(refusal) => wanted.refused[refusal.number() - 1] += 1,
+            }
+            wanted.files += 1;
+            season = season.with_file(&file(n, &a, &b)).expect("few files");
+        }
+        assert_eq!(season, wanted);
     }
 }
 

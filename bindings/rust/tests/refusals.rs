@@ -1,5 +1,5 @@
 //! Every refusal, with sizes and lengths that are anything; and a refused call leaves the type as it was.
-use wejdarox::{pad_order, rank, rank_all, stiffness, Lu, Refusal, Scaled};
+use wejdarox::{pad_order, rank, rank_all, stiffness, Lu, Refusal, Scaled, Season};
 
 /// All that can be seen of factors.
 fn seen(lu: &Lu) -> ([usize; 4], Vec<u64>, Vec<(usize, usize)>) {
@@ -169,6 +169,24 @@ fn a_determinant_that_does_not_vanish() {
     assert_eq!(Lu::factor(&[0.0], 1, 1).expect("a zero").scaled_determinant().map(|d| d.to_string()), Ok("0".to_owned()));
     assert_eq!(Lu::factor(&[tiny], 1, 1).expect("subnormal").scaled_determinant(), Ok(Scaled { significand: 1.0, exponent: -1074 }));
     assert_eq!(Lu::factor(&[3.0 * tiny], 1, 1).expect("subnormal").scaled_determinant(), Ok(Scaled { significand: 1.5, exponent: -1073 }));
+}
+
+#[test]
+fn season() {
+    let number = |x: f64| x.to_le_bytes();
+    let one_pad = |x: f64, reading: f64| [b"LXP\x01\x00\x01".to_vec(), number(x).to_vec(), number(reading).to_vec()].concat();
+    let files = [one_pad(1.0, 1.0), one_pad(-2f64.powi(-600), 0.0), one_pad(0.0, 1.0), one_pad(2f64.powi(-1000), 2f64.powi(100)), vec![]];
+    let of = |files: &[Vec<u8>]| files.iter().try_fold(Season::new(), |season, file| season.with_file(file));
+    let wanted = Season { accepted: 2, refused: [0, 0, 0, 0, 0, 1, 1, 1, 0], pads: 1, bands: [0, 1, 0, 1, 0], files: 5 };
+    assert_eq!(of(&files), Ok(wanted));
+    let backwards: Vec<_> = files.into_iter().rev().collect();
+    assert_eq!(of(&backwards), Ok(wanted));
+
+    let full = Season { refused: [0, 0, 0, 0, 0, 0, 0, 4000, 0], files: 4000, ..Season::new() };
+    assert_eq!(of(&vec![vec![]; 4000]), Ok(full));
+    assert_eq!(full.with_file(&one_pad(1.0, 1.0)), Err(Refusal::SeasonFull));
+    let wraps = Season { accepted: usize::MAX, ..Season::new() };
+    assert_eq!(wraps.with_file(&one_pad(1.0, 1.0)).map(|season| season.accepted), Ok(0));
 }
 
 #[test]

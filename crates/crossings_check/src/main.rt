@@ -1,28 +1,15 @@
-// Prints what `panel_text::text` and `why_text::put_why` answer for each file of crossings/, under its name. The names are its ten arguments.
+// Prints what `panel_text::text` answers for each file of crossings/, under its name. The names are its ten arguments.
 
-// Prints the pads of a file in rank order, or the refusal.
-fn print_order(file: &[u8]) {
+// Prints the answer for an open file.
+fn print_answer(fd: i32) {
+    let mut file = [0u8; 33287];
+    let held = io::read_full(fd, &mut file);
     let mut out = [0u8; 1288];
-    let count = panel_text::text(file, &mut out);
+    let count = panel_text::text(&file[..held], &mut out);
     io::write_all(1, &out[..count]);
 }
 
-// Prints why a file is refused.
-fn print_why(file: &[u8]) {
-    let mut out = [0u8; 1288];
-    let count = why_text::put_why(&mut out, file);
-    lines::flush(&out, count);
-}
-
-// Prints both answers for an open file.
-fn print_answers(fd: i32) {
-    let mut file = [0u8; 33287];
-    let held = io::read_full(fd, &mut file);
-    print_order(&file[..held]);
-    print_why(&file[..held]);
-}
-
-// Prints an argument's name on a line and the answers for its file, or says why it cannot be opened.
+// Prints an argument's name on a line and the answer for its file, or says why it cannot be opened.
 fn print_crossing(place: usize) {
     let mut path = io::buffer();
     let n = os::arg(place, &mut path);
@@ -33,7 +20,7 @@ fn print_crossing(place: usize) {
     }
     io::write_all(1, &path[..n]);
     io::write_all(1, b"\n");
-    print_answers(fd);
+    print_answer(fd);
     libc::close(fd);
 }
 

@@ -21,7 +21,11 @@ fn put_refusal(text: &mut [u8], from: usize, number: usize) -> usize {
 // Puts a word and a place, which is counted from 0.
 fn put_place(text: &mut [u8], from: usize, word: &[u8], place: usize) -> usize {
     let at = put_word(text, from, word);
-    if place < 64 { put_whole(text, at, place + 1) } else { at }
+    if place < 64 {
+        put_whole(text, at, place + 1)
+    } else {
+        at
+    }
 }
 
 // Puts the column and the row of an overflow, and ends the line.
@@ -40,7 +44,11 @@ fn put_singular(text: &mut [u8], from: usize, column: usize) -> usize {
 
 // The name of a pass of the solve.
 fn pass_name(pass: usize) -> [u8; 19] {
-    if pass == 1 { *b"solving: lower pass" } else { *b"solving: upper pass" }
+    if pass == 1 {
+        *b"solving: lower pass"
+    } else {
+        *b"solving: upper pass"
+    }
 }
 
 // Puts the reason of a solve.
@@ -80,7 +88,13 @@ fn factor_reason(matrix: &[f64], n: usize, factors: &mut [f64], swaps: &mut [usi
 }
 
 // Why the solve by the factors in front of a store is refused.
-fn solve_reason(factors: &[f64], swaps: &[usize], told: Record, b: &[f64], x: &mut [f64]) -> WhySolve
+fn solve_reason(
+    factors: &[f64],
+    swaps: &[usize],
+    told: Record,
+    b: &[f64],
+    x: &mut [f64],
+) -> WhySolve
     requires { ⌜ (told .rows ≤ 64) × (length (now factors) ≡ 4096) × (length (now b) ≡ 64) × (length (now x) ≡ 64) ⌝ }
 {
     let n = told.rows;
@@ -126,7 +140,11 @@ pub fn put_why(text: &mut [u8], file: &[u8]) -> usize {
     match panel_file::read(file, &mut matrix, &mut readings) {
         Panel::Pads(n) => {
             let end = put_read(text, n, &matrix);
-            if end == 0 { put_solved(text, file) } else { end }
+            if end == 0 {
+                put_solved(text, file)
+            } else {
+                end
+            }
         }
         Panel::Refused(number) => put_refusal(text, 0, number),
     }
