@@ -14,8 +14,25 @@ use Rattle.numbers.specs.Each.{listOf}
 use Rattle.refusals.specs.Outcome.{Outcome, done, refused, firstOf, tested, leaving}
 use Rattle.season.specs.declared.Season.{Season}
 use Rattle.season.specs.Telling.{Share, telling}
-use Rattle.season.specs.Season.{howMany, total, accepts, refuses, isIn, padsIn, File, seasonOf, plus, oneMoreAt, counted, handing, handedOver}
-use Rattle.season.proofs.Rows.{one, row-same, small, Alone, one-more, rowSum, sum-added, sum-none, sum-one}
+use Rattle.season.specs.Season.{
+  howMany,
+  total,
+  accepts,
+  refuses,
+  isIn,
+  padsIn,
+  File,
+  seasonOf,
+  plus,
+  oneMoreAt,
+  counted,
+  handing,
+  handedOver,
+  getAt,
+  countsOf,
+  seasonFrom,
+}
+use Rattle.season.proofs.Rows.{one, row-same, small, Alone, one-more, rowSum, sum-added, sum-none, sum-one, counts-back}
 use Rattle.season.proofs.Counts.{total-order, count-order, length-order, total-most, count-most}
 use Rattle.season.proofs.Telling.{telling-among, Solved, solved-file, share-known}
 
@@ -156,6 +173,11 @@ season-any-order {fs} {gs} p h =
 pub season-full : (s : Season) (file : File) → 4000 ≤ s .files → handing s file ≡ leaving s 10
 unfolding handing tested firstOf
 season-full s file h = rw (le-leb 4000 (s .files) h)
+
+-- the same of the seventeen counts in a row, by which C holds a season
+pub row-full : (l : List ℕ) (file : File) → length l ≡ 17 → 4000 ≤ getAt l 16 → countsOf (handing (seasonFrom l) file .left) ≡ l
+unfolding seasonFrom
+row-full l file e h = ap (λ (s : Season). countsOf s) (handed-full (seasonFrom l) file h) ∙ counts-back l e
 
 -- ---- counts that add up
 

@@ -1,4 +1,5 @@
--- Rows of counts: one more at a place, as the code counts it and as a test of the place does; the sum of a row. By induction on the row. Assumes nothing.
+-- Rows of counts: one more at a place, as the code counts it and as a test of the place does; the sum of a row; a season's counts in a row and back. By
+-- induction on the row. Assumes nothing.
 use mathlib.Core.Path.{_≡_, refl, sym, ap, ap₂, _∙_}
 use mathlib.Core.Bool.{Bool, true, false, cond}
 use mathlib.Core.List.{List, [], _∷_}
@@ -12,7 +13,8 @@ use lib.Seq.{set-out, ext-getD, getD-set-same, getD-set-other}
 use Rattle.numbers.specs.Each.{listOf}
 use Rattle.numbers.proofs.Choice.{test-cases}
 use Rattle.numbers.proofs.Each.{length-list, list-at}
-use Rattle.season.specs.Season.{plus, oneMoreAt}
+use Rattle.season.specs.declared.Season.{Season}
+use Rattle.season.specs.Season.{plus, oneMoreAt, getAt, countsOf, seasonFrom}
 
 -- 1 for a test that passes
 abbrev pub one : Bool → ℕ
@@ -84,3 +86,27 @@ sum-one (suc n) test zero alone h =
 sum-one (suc n) test (suc i) alone h =
     let later : Alone (λ k. test (suc k)) i = record { here = alone .here; other = λ k d. alone .other (suc k) (λ e. d (omega (arith, e))) } in
     rw (alone .other 0 (λ z. omega (arith, z))) (let e = sum-one n (λ k. test (suc k)) i later (le-of-suc-le-suc h) in omega arith)
+
+-- ---- a season's counts in a row, and back
+
+row-of : (l : List ℕ) → listOf (length l) (getAt l) ≡ l
+unfolding listOf
+row-of [] = refl
+row-of (x ∷ l) = ap (λ (t : List ℕ). x ∷ t) (row-of l)
+
+row-at : (n : ℕ) (l : List ℕ) → length l ≡ n → listOf n (getAt l) ≡ l
+row-at n l e = ap (λ (k : ℕ). listOf k (getAt l)) (sym e) ∙ row-of l
+
+-- THEOREM. The counts of the season with these seventeen counts are these.
+pub counts-back : (l : List ℕ) → length l ≡ 17 → countsOf (seasonFrom l) ≡ l
+unfolding listOf countsOf seasonFrom
+counts-back l e = row-at 17 l e
+
+-- THEOREM. The season with a season's counts is that season.
+pub season-back : (s : Season) → length (s .refused) ≡ 9 → length (s .bands) ≡ 5 → seasonFrom (countsOf s) ≡ s
+unfolding listOf countsOf seasonFrom
+season-back s e f =
+    ap₂
+    (λ (r b : List ℕ). record { files = s .files; accepted = s .accepted; refused = r; pads = s .pads; bands = b })
+    (row-at 9 (s .refused) e)
+    (row-at 5 (s .bands) f)
