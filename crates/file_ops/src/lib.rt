@@ -43,14 +43,6 @@ fn put_printed(text: &mut [u8], from: usize, answer: &[u8]) -> usize {
     put_shown(text, bar, answer)
 }
 
-// The line of the first bytes, which a program prints.
-fn put_first(text: &mut [u8], from: usize, answer: &[u8], n: usize) -> usize {
-    if n <= answer.len() {
-        return put_printed(text, from, &answer[..n]);
-    }
-    from
-}
-
 // Op 20.
 fn ordered(text: &mut [u8], from: usize, file: &[u8]) -> usize {
     let mut answer = [0u8; 1288];
@@ -61,8 +53,8 @@ fn ordered(text: &mut [u8], from: usize, file: &[u8]) -> usize {
 // Op 29.
 fn explained(text: &mut [u8], from: usize, file: &[u8]) -> usize {
     let mut answer = [0u8; 1288];
-    let n = why_text::put_why(&mut answer, file);
-    put_first(text, from, &answer, n)
+    let n = panel_text::why_text(file, &mut answer);
+    put_printed(text, from, &answer[..n])
 }
 
 // Op 26.

@@ -4,3 +4,4 @@ pub mod Lines
 pub mod Printed
 pub mod Longer
 pub mod Sheet
+pub mod Pieces

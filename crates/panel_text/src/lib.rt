@@ -1,5 +1,5 @@
 // What is printed for a panel file (document 01, "Ranking and program"): the text of its pads in rank order, of how a pad's load moves with each reading
-// (document 02, request 5), and of its stiffness (request 10).
+// (document 02, request 5), of its stiffness (request 10), and of why it is refused (request 8).
 ghost use mathlib.Core.Path.{_≡_};
 ghost use mathlib.Core.Bool.{true};
 ghost use Prim.Native.Nat.{ℕ, _+_, _*_, _<_, _≤_};
@@ -14,9 +14,13 @@ ghost use Rattle.io.specs.Counts.{Counts};
 ghost use Rattle.io.specs.Digits.{digits, glyph as Digits·glyph};
 ghost use Rattle.panel_text.specs.Text.{written, decimal, lineOf, linesOf, movesText, padsText, refusedText, whole, signed, scaledText};
 ghost use Rattle.panel_text.specs.Printed.{textOf, movesTextOf, stiffnessTextOf};
+ghost use Rattle.panel_text.specs.Why.{placeText, spotText, passWord, reasonText, whyTextOf};
+ghost use Rattle.why.specs.Why.{toldNumber};
+ghost use Rattle.why_file.specs.Explaining.{toldFile};
 use crossing::Order;
 use scaled_determinant::Scaled;
 use scaled_determinant::ScaledDet;
+use why_file::WhyFile;
 
 // The character of a digit below 16.
 fn glyph(d: u64) -> u8
@@ -231,5 +235,98 @@ pub fn stiffness_text(file: &[u8], out: &mut [u8; 1288]) -> usize
     match determinant {
         ScaledDet::Number(r) => put_scaled(out, r),
         ScaledDet::Refused(number) => put_refusal(out, number),
+    }
+}
+
+// Writes a word and a place, which counts from 0. Answers the place behind them.
+fn put_place(out: &mut [u8], at: usize, word: &[u8], place: usize) -> usize
+    requires { ⌜ (place < 64) × (at + length (now word) + 2 ≤ length (now out)) ⌝ }
+    ensures { λ r. ⌜ r ≡ at + length (placeText (now (word .entry)) place) ⌝ }
+    ensures { λ _. ⌜ now (out .exit) ≡ written at (placeText (now (word .entry)) place) (now (out .entry)) ⌝ }
+{
+    let end = put_word(out, at, word);
+    put_decimal(out, end, place + 1)
+}
+
+// Writes the column and the row of an overflow, and ends the line. Answers the place behind it.
+fn put_spot(out: &mut [u8], at: usize, column: usize, row: usize) -> usize
+    requires { ⌜ (column < 64) × (row < 64) × (at + 20 ≤ length (now out)) ⌝ }
+    ensures { λ r. ⌜ r ≡ at + length (spotText column row) ⌝ }
+    ensures { λ _. ⌜ now (out .exit) ≡ written at (spotText column row) (now (out .entry)) ⌝ }
+{
+    let end = put_place(out, at, b", column ", column);
+    let stop = put_place(out, end, b", row ", row);
+    put_word(out, stop, b"\n")
+}
+
+// Writes a refusal's number alone, or that there is none. Answers how many bytes it has.
+fn put_number(out: &mut [u8], number: usize) -> usize
+    requires { ⌜ (number < 100) × (length (now out) ≡ 1288) ⌝ }
+    ensures { λ r. ⌜ r ≡ length (reasonText (toldNumber number)) ⌝ }
+    ensures { λ _. ⌜ now (out .exit) ≡ written 0 (reasonText (toldNumber number)) (now (out .entry)) ⌝ }
+{
+    if number == 0 {
+        return put_word(out, 0, b"no reason\n");
+    }
+    put_refusal(out, number)
+}
+
+// Writes the place of an overflow in factoring. Answers how many bytes the text has.
+fn put_factoring(out: &mut [u8], step: usize, column: usize, row: usize) -> usize
+    requires { ⌜ (step < 64) × (column < 64) × (row < 64) × (length (now out) ≡ 1288) ⌝ }
+    ensures { λ r. ⌜ r ≡ length (reasonText (toldFile (WhyFile.Factoring step column row))) ⌝ }
+    ensures { λ _. ⌜ now (out .exit) ≡ written 0 (reasonText (toldFile (WhyFile.Factoring step column row))) (now (out .entry)) ⌝ }
+{
+    let at = put_refusal(out, 7);
+    let end = put_place(out, at, b"factoring: step ", step);
+    put_spot(out, end, column, row)
+}
+
+// Writes the lowest dead column. Answers how many bytes the text has.
+fn put_singular(out: &mut [u8], column: usize) -> usize
+    requires { ⌜ (column < 64) × (length (now out) ≡ 1288) ⌝ }
+    ensures { λ r. ⌜ r ≡ length (reasonText (toldFile (WhyFile.Singular column))) ⌝ }
+    ensures { λ _. ⌜ now (out .exit) ≡ written 0 (reasonText (toldFile (WhyFile.Singular column))) (now (out .entry)) ⌝ }
+{
+    let at = put_refusal(out, 6);
+    let end = put_place(out, at, b"column ", column);
+    put_word(out, end, b"\n")
+}
+
+// The name of a pass of the solve.
+fn pass_word(pass: usize) -> [u8; 19]
+    ensures { λ r. ⌜ r ≡ passWord pass ⌝ }
+{
+    if pass == 1 {
+        *b"solving: lower pass"
+    } else {
+        *b"solving: upper pass"
+    }
+}
+
+// Writes the place of an overflow in the solve. Answers how many bytes the text has.
+fn put_solving(out: &mut [u8], pass: usize, column: usize, row: usize) -> usize
+    requires { ⌜ (column < 64) × (row < 64) × (length (now out) ≡ 1288) ⌝ }
+    ensures { λ r. ⌜ r ≡ length (reasonText (toldFile (WhyFile.Solving pass column row))) ⌝ }
+    ensures { λ _. ⌜ now (out .exit) ≡ written 0 (reasonText (toldFile (WhyFile.Solving pass column row))) (now (out .entry)) ⌝ }
+{
+    let at = put_refusal(out, 7);
+    let name = pass_word(pass);
+    let end = put_word(out, at, &name);
+    put_spot(out, end, column, row)
+}
+
+// What is printed of why a file is refused, at the front of out. Answers how many bytes it has.
+pub fn why_text(file: &[u8], out: &mut [u8; 1288]) -> usize
+    ensures { λ r. ⌜ Counts r (now (out .exit)) ⌝ }
+    ensures { λ r. ⌜ r ≡ length (whyTextOf (now (file .entry))) ⌝ }
+    ensures { λ _. ⌜ now (out .exit) ≡ written 0 (whyTextOf (now (file .entry))) (now (out .entry)) ⌝ }
+{
+    match why_file::why_file(file) {
+        WhyFile::NoReason => put_number(out, 0),
+        WhyFile::Refused(number) => put_number(out, number),
+        WhyFile::Factoring { step, column, row } => put_factoring(out, step, column, row),
+        WhyFile::Singular(column) => put_singular(out, column),
+        WhyFile::Solving { pass, column, row } => put_solving(out, pass, column, row),
     }
 }

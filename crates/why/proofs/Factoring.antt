@@ -4,7 +4,7 @@ use mathlib.Core.Path.{_≡_, refl, sym, ap, _∙_}
 use mathlib.Core.Bool.{true}
 use mathlib.Core.List.{List, []}
 use mathlib.Core.Option.{Option, none, some}
-use Prim.Native.Nat.{ℕ, _*_}
+use Prim.Native.Nat.{ℕ, suc, _*_, _<_, min}
 use native.Mathlib.Omega.{arith}
 use borrow.Author.Tests.{eqb-true, eqb-false}
 use lib.Dec.{eqb}
@@ -13,7 +13,8 @@ use Rattle.numbers.specs.Column.{Column, zeros}
 use Rattle.finite.specs.Finite.{allFinite}
 use Rattle.numbers.proofs.Choice.{test-cases}
 use Rattle.store.specs.Columns.{columns, flat, isMatrix}
-use Rattle.store.proofs.Columns.{sized, flat-columns}
+use Rattle.store.proofs.Columns.{sized, flat-columns, length-columns}
+use Rattle.store.proofs.First.{FirstIn}
 use Rattle.blas.specs.Blas.{copied}
 use Rattle.blas.proofs.Rows.{copied-whole}
 use Rattle.refusals.specs.Outcome.{Outcome, done, refused, numberOf, firstOf, tested, leaving}
@@ -21,14 +22,15 @@ use Rattle.refusals.proofs.Outcomes.{tested-none, tested-some}
 use Rattle.refusals.proofs.Cases.{first-among, never-both}
 use Rattle.factors.specs.declared.Record.{Record}
 use Rattle.factors.specs.Factors.{slices, Factoring}
-use Rattle.elimination.specs.Elimination.{eliminate}
+use Rattle.elimination.specs.Elimination.{step, unfactored, eliminate}
 use Rattle.elimination.specs.Reason.{Place, firstReason}
+use Rattle.elimination.proofs.Step.{steps, steps-next, length-steps, rows-steps}
 use Rattle.lu.specs.declared.Factored.{Factored}
 use Rattle.lu.specs.declared.Factored.the-variants.{Accepted as Factors, Refused as NotFactored}
 use Rattle.lu.specs.Factoring.{factoringTests, factoringRefusal, settled, factoring, factored, factoringAnswer}
 use Rattle.lu.proofs.Told.{Passed, passed, told-accepted, told-refused}
 use Rattle.lu.proofs.Shape.{factorsOf, no-refusal, ok, size, shape, accepted-is, settled-number}
-use Rattle.lu.proofs.Reason.{factoring-cases}
+use Rattle.lu.proofs.Reason.{reason-some, factoring-cases}
 use Rattle.why.specs.declared.WhyFactor.{WhyFactor}
 use Rattle.why.specs.declared.WhyFactor.the-variants.{NoReason, Refused}
 use Rattle.why.specs.Results.{firstOverflow}
@@ -93,16 +95,33 @@ module _ (m n : ℕ) (a out : Column) (store : List ℕ) where
       let ne = eqb-false refusal 0 t in
       ap (λ (x : Told Place). x .number) (explained-refused ne) ∙ sym (ap (λ (o : Factoring). numberOf (o .answer)) (refused-is ne)))
 
-  -- THEOREM. The place that is told is that of a stored result that is not finite, and every result stored before it is.
-  pub named-first : (p : Place) → explainFactoring m n a out store .place ≡ some p → First (factoringResults m (columns m n a)) p
-  named-first p e =
-      test-cases (eqb refusal 0)
-      (λ t.
-      let by = explained-by (eqb-true refusal 0 t) in
-      first-named _ p (sym (overflowed-place _) ∙ sym (ap (λ (x : Told Place). x .place) by) ∙ e))
+  -- a place is told past the tests alone
+  told-past : (p : Place) → explainFactoring m n a out store .place ≡ some p → refusal ≡ 0
+  told-past p e =
+      test-cases (eqb refusal 0) (eqb-true refusal 0)
       (λ t. absurd
       (let none-told : none ≡ some p = sym (ap (λ (x : Told Place). x .place) (explained-refused (eqb-false refusal 0 t))) ∙ e in
       let z : _≡_ {A = ℕ} 0 1 = cc in omega arith))
+
+  first-told : (p : Place) → explainFactoring m n a out store .place ≡ some p → firstOverflow (factoringResults m (columns m n a)) ≡ some p
+  first-told p e = sym (overflowed-place _) ∙ sym (ap (λ (x : Told Place). x .place) (explained-by (told-past p e))) ∙ e
+
+  -- THEOREM. The place that is told is that of a stored result that is not finite, and every result stored before it is.
+  pub named-first : (p : Place) → explainFactoring m n a out store .place ≡ some p → First (factoringResults m (columns m n a)) p
+  named-first p e = first-named _ p (first-told p e)
+
+  -- THEOREM. It is a place of the matrix, and a step of its elimination.
+  pub place-within : (p : Place) → explainFactoring m n a out store .place ≡ some p → (p .step < min m n) × (p .column < n) × (p .row < m)
+  place-within p e =
+      let none-before = told-past p e in
+      let cs = columns m n a in
+      let rows = shape m n a out store none-before in
+      let x = reason-some m cs rows (whole-finite none-before) p (sym (results-first none-before) ∙ first-told p e) in
+      let next : steps (suc (p .step)) (unfactored cs) ≡ step (p .step) (steps (p .step) (unfactored cs)) = steps-next (p .step) (unfactored cs) in
+      let first : FirstIn (steps (suc (p .step)) (unfactored cs) .columns) (p .column) (p .row) = rw next (x .first) in
+      let wide : length (steps (suc (p .step)) (unfactored cs) .columns) ≡ n = length-steps (suc (p .step)) (unfactored cs) ∙ length-columns m n a in
+      let long = rows-steps m (suc (p .step)) (unfactored cs) rows (p .column) (first .wide) in
+      (rw (length-columns m n a) at (x .in-time), omega (arith, wide, first .wide), omega (arith, long, first .long))
 
   -- ---- from what the call gives
   abbrev pub Promise : WhyFactor → Column → List ℕ → Type 0

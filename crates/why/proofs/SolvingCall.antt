@@ -3,17 +3,19 @@
 use mathlib.Core.Path.{_≡_, refl, sym, ap, _∙_}
 use mathlib.Core.Bool.{Bool, true, false, not, cond}
 use mathlib.Core.List.{List, []}
+use mathlib.Core.Logic.{⊎-elim}
 use mathlib.Core.Option.{Option, none, some, Option·map}
-use Prim.Native.Nat.{ℕ, _*_, _≤_, _<_}
+use Prim.Native.Nat.{ℕ, _+_, _*_, _≤_, _<_}
 use native.Mathlib.Omega.{arith}
 use borrow.Author.Tests.{eqb-true, eqb-false, eq-eqb, ne-eqb, not-true}
 use lib.Dec.{eqb}
 use lib.ListN.{length, take, length-replicate}
 use lib.Seq.{take-all}
-use Rattle.numbers.specs.Numbers.{zero64}
+use Rattle.numbers.specs.Numbers.{zero64, one64}
 use Rattle.numbers.specs.Column.{Column, zeros}
 use Rattle.finite.specs.Finite.{allFinite}
-use Rattle.numbers.proofs.Choice.{test-cases, and-first, and-second}
+use Rattle.numbers.proofs.Choice.{test-cases, cond-cases, and-first, and-second}
+use Rattle.numbers.proofs.Each.{length-each}
 use Rattle.store.specs.Columns.{columns, flat, HasRows, isMatrix}
 use Rattle.store.specs.Steps.{Matrix}
 use Rattle.store.proofs.Columns.{sized, columns-rows, length-columns, same-matrix}
@@ -27,15 +29,17 @@ use Rattle.refusals.proofs.Outcomes.{tested-none, tested-some}
 use Rattle.refusals.proofs.Cases.{first-among}
 use Rattle.permutation_sequence.specs.SwapList.{Swaps, pairsOf, goodList}
 use Rattle.solve.specs.Calls.{zeroOnDiagonal}
+use Rattle.solve.specs.declared.Pass.the-variants.{GivenDiagonal}
+use Rattle.solve.specs.Triangular.{solvedColumns, solvedFrom}
 use Rattle.solve.specs.Reason.{Stored, lowestZero}
 use Rattle.solve.proofs.Reason.{zero-cases}
 use Rattle.factors.specs.declared.Record.{Record}
 use Rattle.factors.specs.Held.{heldTests, heldRefusal}
 use Rattle.factors.proofs.Held.{Passed, passed, same, square-matrix, square-list}
 use Rattle.from_factors.specs.Solving.{solved, solvedAll, solvedBy, solveAsks, solving}
-use Rattle.from_factors.specs.Reason.{solveReason}
+use Rattle.from_factors.specs.Reason.{swappedSides, lowerSides, solveReason}
 use Rattle.from_factors.proofs.Dead.{before, six-passed, six-zero}
-use Rattle.from_factors.proofs.Reason.{sides-size, sides-finite, seven, solve-none}
+use Rattle.from_factors.proofs.Reason.{sides-size, sides-finite, seven, solve-none, solve-cases}
 use Rattle.why.specs.declared.WhySolve.{WhySolve}
 use Rattle.why.specs.declared.WhySolve.the-variants.{NoReason, Refused, Singular}
 use Rattle.why.specs.Results.{firstOverflow}
@@ -114,17 +118,62 @@ module _ (r : Record) (factors : Column) (store : List ℕ) (k : ℕ) (b x : Col
       let ne = eqb-false refusal 0 t in
       ap (λ (e : Told Spot). e .number) (explained-refused ne) ∙ sym (ap (λ (o : Call (Unit {0}) Column). numberOf (o .answer)) (refused-is ne)))
 
-  -- THEOREM. The place that is told is that of a stored result that is not finite, and every result stored before it is.
-  pub named-first : (p : Spot) → explainSolving r factors store k b x .place ≡ some p → First (resultsOf r factors store (columns n k b)) p
+  -- a place is told past the tests alone
+  told-past : (p : Spot) → explainSolving r factors store k b x .place ≡ some p → refusal ≡ 0
   unfolding refusedSolving
-  named-first p e =
-      test-cases (eqb refusal 0)
-      (λ t.
-      let by = explained-by (eqb-true refusal 0 t) in
-      first-named _ p (sym (overflowed-place _) ∙ sym (ap (λ (q : Told Spot). q .place) by) ∙ e))
+  told-past p e =
+      test-cases (eqb refusal 0) (eqb-true refusal 0)
       (λ t. absurd
       (let none-told : none ≡ some p = sym (ap (λ (q : Told Spot). q .place) (explained-refused (eqb-false refusal 0 t))) ∙ e in
       let z : _≡_ {A = ℕ} 0 1 = cc in omega arith))
+
+  first-told : (p : Spot) → explainSolving r factors store k b x .place ≡ some p → results ≡ some p
+  first-told p e = sym (overflowed-place _) ∙ sym (ap (λ (q : Told Spot). q .place) (explained-by (told-past p e))) ∙ e
+
+  -- THEOREM. The place that is told is that of a stored result that is not finite, and every result stored before it is.
+  pub named-first : (p : Spot) → explainSolving r factors store k b x .place ≡ some p → First (resultsOf r factors store (columns n k b)) p
+  named-first p e = first-named _ p (first-told p e)
+
+  -- THEOREM. It is a right-hand column and a row of the sides.
+  pub spot-within : (p : Spot) → explainSolving r factors store k b x .place ≡ some p → (p .column < k) × (p .row < n)
+  unfolding solvedFrom
+  spot-within p e =
+      let h = told-past p e in
+      let cs = columns n n factors in
+      let swaps = pairsOf (r .pairs) store in
+      let bs = columns n k b in
+      let wide : length bs ≡ k = length-columns n k b in
+      let swapped : length (swappedSides swaps bs) ≡ length bs = length-each _ 0 bs in
+      let lower : length (lowerSides n cs swaps bs) ≡ length (swappedSides swaps bs) = length-each _ 0 (swappedSides swaps bs) in
+      solve-cases n cs swaps bs (rows h) (sides-finite r factors store k b x h) (λ o. Option·map spotOf o ≡ some p → (p .column < k) × (p .row < n))
+      (λ _ none-told. absurd (let z : _≡_ {A = ℕ} 0 1 = cc in omega arith))
+      (λ q _ stored told.
+      let same : spotOf q ≡ p = cc in
+      rw (sym same)
+      (⊎-elim
+      (λ low. (omega (arith, low .wide), low .first .long))
+      (λ up. (omega (arith, up .1 .wide), up .1 .first .long)) stored))
+      (sym (results-are h) ∙ first-told p e)
+
+  -- THEOREM. The column that is told is one of the matrix.
+  pub column-within : (j : ℕ) → explainSolving r factors store k b x .column ≡ some j → j < n
+  unfolding refusedSolving overflowed
+  column-within j e =
+      test-cases (eqb refusal 0)
+      (λ t. absurd (never-column results (sym (ap (λ (q : Told Spot). q .column) (explained-by (eqb-true refusal 0 t))) ∙ e)))
+      (λ t.
+      let told : cond (eqb refusal 6) (lowestZero 0 (columns n n factors)) none ≡ some j =
+      sym (ap (λ (q : Told Spot). q .column) (explained-refused (eqb-false refusal 0 t))) ∙ e in
+      cond-cases (λ (o : Option ℕ). o ≡ some j → j < n) (eqb refusal 6)
+      (λ six.
+      zero-cases (λ o. o ≡ some j → j < n) 0 (columns n n factors)
+      (λ _ none-told. absurd (let z : _≡_ {A = ℕ} 0 1 = cc in omega arith))
+      (λ i h _ _ _ is. (let same : 0 + i ≡ j = cc in omega (arith, length-columns n n factors))))
+      (λ other none-told. absurd (let z : _≡_ {A = ℕ} 0 1 = cc in omega arith)) told)
+    where
+      never-column : (o : Option Spot) → overflowed o .column ≡ some j → ⊥
+      never-column none d = let z : _≡_ {A = ℕ} 0 1 = cc in omega arith
+      never-column (some p) d = let z : _≡_ {A = ℕ} 0 1 = cc in omega arith
 
   -- ---- from the number that `solve` gave
   module _ (number : ℕ) (is : number ≡ numberOf (call .answer)) where
