@@ -1,5 +1,5 @@
 /*
- * wejdarox.h: the calls of the static library `ffi` (see README.md) for C and C++.
+ * wejdarox.h: the calls of the library for C and C++ (see README.md, "From C, C++, Rust and Python").
  *
  * The f64 LU decomposition with row pivoting of nalgebra 0.35.0, for small panels, and the order in which pads are lifted. Every function is proved to
  * end, to stay within the buffers that it is lent, and to answer and leave what is written here, on every input.
@@ -13,7 +13,8 @@
  *             diagonal of the factors has a zero of either sign in it; one past the last row has no diagonal and is never dead. Factoring sets the number
  *             and adding keeps it true. Every call on factors compares it with them, and refuses another number with 9.
  *
- *  Answers    0: done. Else the call was refused, by the first of these that holds; each call lists those that it can give.
+ *  Answers    0: done. Else the call was refused, by the first of these that holds; each call lists those that it can give. The enum below has their names.
+ *             A text, the version and the sign of a swap list have no refusal, and answer what their entry says.
  *             1  a size is outside its limits
  *             2  the matrix is not square
  *             3  a length differs from what the sizes ask for
@@ -29,7 +30,7 @@
  *  A caller   owes that
  *             - a pointer beside a length n points to n elements of its type, aligned, for the time of the call; where n is 0 nothing is read or written
  *               through it, and it is still no null pointer;
- *             - a pointer to one number, or to an array of 64, points to it in the same way;
+ *             - a pointer to one number, or to an array of 64 or 1288, points to it in the same way;
  *             - all of these hold values of their type when the call begins, outputs too: any bytes are a double, a size_t or an int32_t, so that an output
  *               need not be set; a `bool` holds false or true;
  *             - what a call may change (a pointer without `const`) is apart from every other slice and number of that call;
@@ -38,9 +39,8 @@
  *             - the stack has room: on x86-64 wejdarox_pad_order, wejdarox_stiffness and wejdarox_with_file take at most 37 KB of it, the others under 1 KB.
  *             It owes nothing else: sizes, lengths, swap lists and numbers may be anything.
  *
- *  Machine    `rt staticlib ffi` writes target/staticlib/libffi.a, code for x86-64 Linux. It needs `memset` and nothing else. No call allocates or keeps
- *             anything, so calls from several threads are safe on buffers that are apart. A C library of another make is called libffi too: give the
- *             linker this archive by its path, not as -lffi.
+ *  Machine    `./library` writes libwejdarox.a and libwejdarox.so for x86-64 or Arm Linux. They need `memset`, `memcpy` and `memmove` and nothing else. No call
+ *             allocates or keeps anything, so calls from several threads are safe on buffers that are apart.
  */
 #ifndef WEJDAROX_H
 #define WEJDAROX_H
@@ -61,12 +61,81 @@ extern "C" {
  */
 #define WEJDAROX_VERSION "0.8.0"
 
+/* The same as one number, 1000000 * 0 + 1000 * 8 + 0, to compare with what wejdarox_version answers. */
+#define WEJDAROX_VERSION_NUMBER 8000
+
 /* The most rows, columns, right-hand columns and loads; and the length of a swap store. */
 #define WEJDAROX_MOST 64
 #define WEJDAROX_SWAPS 128
 
 /* The most files of a season. */
 #define WEJDAROX_FILES 4000
+
+/* The length of the slice that a text is written to: no text is longer. */
+#define WEJDAROX_TEXT 1288
+
+/* The bytes of a panel file of n pads. */
+#define WEJDAROX_FILE_LENGTH(n) (6 + 8 * ((size_t)(n) * (size_t)(n) + (size_t)(n)))
+
+/* The answers of the calls by name. */
+enum wejdarox_refusal {
+    WEJDAROX_DONE = 0,
+    WEJDAROX_REFUSAL_SIZE = 1,
+    WEJDAROX_REFUSAL_NOT_SQUARE = 2,
+    WEJDAROX_REFUSAL_LENGTH = 3,
+    WEJDAROX_REFUSAL_SWAP_LIST = 4,
+    WEJDAROX_REFUSAL_NOT_FINITE = 5,
+    WEJDAROX_REFUSAL_SINGULAR = 6,
+    WEJDAROX_REFUSAL_OVERFLOW = 7,
+    WEJDAROX_REFUSAL_NOT_A_PANEL_FILE = 8,
+    WEJDAROX_REFUSAL_DEAD_COLUMNS = 9,
+    WEJDAROX_REFUSAL_SEASON_FULL = 10
+};
+
+/*
+ * wejdarox_words
+ *
+ *  Purpose
+ *  =======
+ *  An answer in words. It is a function of this header and not of the proved library.
+ *
+ *  Arguments
+ *  =========
+ *  number    (input) what a call answered.
+ *
+ *  Answer
+ *  ======
+ *  A text that stays for ever. A number that no call answers gives "no such refusal".
+ */
+static inline const char *wejdarox_words(size_t number) {
+    switch (number) {
+    case WEJDAROX_DONE: return "done";
+    case WEJDAROX_REFUSAL_SIZE: return "a size is outside its limits: 1 to 64 rows, right-hand columns or pads, 0 to 64 columns";
+    case WEJDAROX_REFUSAL_NOT_SQUARE: return "the matrix is not square";
+    case WEJDAROX_REFUSAL_LENGTH: return "a length differs from what the sizes ask for";
+    case WEJDAROX_REFUSAL_SWAP_LIST: return "the swap list has a pair of equal numbers, a number that is not a row's, or too many pairs";
+    case WEJDAROX_REFUSAL_NOT_FINITE: return "a number is not finite";
+    case WEJDAROX_REFUSAL_SINGULAR: return "the matrix is singular: a zero on the diagonal of its factors";
+    case WEJDAROX_REFUSAL_OVERFLOW: return "a result is too large for a finite number";
+    case WEJDAROX_REFUSAL_NOT_A_PANEL_FILE: return "this is no panel file of version 1: under 6 bytes, another mark or another version";
+    case WEJDAROX_REFUSAL_DEAD_COLUMNS: return "the number of dead columns is not that of the factors";
+    case WEJDAROX_REFUSAL_SEASON_FULL: return "the season is full: it has 4,000 files";
+    default: return "no such refusal";
+    }
+}
+
+/*
+ * wejdarox_version
+ *
+ *  Purpose
+ *  =======
+ *  The version of the library that is linked, to compare with WEJDAROX_VERSION_NUMBER of the header that was compiled.
+ *
+ *  Answer
+ *  ======
+ *  1000000 times its first number, 1000 times its second, and its third, added.
+ */
+size_t wejdarox_version(void);
 
 /*
  * wejdarox_factor
@@ -144,6 +213,54 @@ size_t wejdarox_add_column(double *factors, size_t factors_len, const double *co
                            size_t swaps_len, size_t m, size_t n, size_t *pairs, size_t *dead, size_t *toss_ups);
 
 /*
+ * wejdarox_remove_column
+ *
+ *  Purpose
+ *  =======
+ *  Takes the last column off the factors of an m by n matrix. What it leaves is, bit for bit, what factoring the m by (n - 1) matrix gives, pairs and dead
+ *  columns too, where the factors came from accepted calls of wejdarox_factor, wejdarox_add_column and this one. It undoes an adding.
+ *
+ *  Arguments
+ *  =========
+ *  factors   (input/output) double array, dimension (m * n)
+ *            On entry the m by n factors. On exit those of m by (n - 1), and +0.0 in the slot of the last column.
+ *  factors_len (input) the length of factors: m * n.
+ *  swaps     (input/output) array of numbers, dimension (128)
+ *            The exchanged rows; at most the last pair is taken off, and 0 stands in its place.
+ *  swaps_len (input) the length of swaps: 128.
+ *  m         (input) the number of rows, 1 to 64.
+ *  n         (input) the number of columns before the call, 1 to 64.
+ *  pairs     (input/output) the number of pairs. Refused: as it was.
+ *  dead      (input/output) the number of dead columns; one less where the last column has a diagonal and is dead. Refused: as it was.
+ *
+ *  Answer
+ *  ======
+ *  0  done: the matrix now has n - 1 columns
+ *  1  m or n is not 1 to 64                              factors and swaps as they were
+ *  3  factors_len is not m * n, or swaps_len is not 128  factors and swaps as they were
+ *  4  the swap list is bad: also where more than min(m, n - 1) pairs would remain, or the pair to be undone has its second number below its first
+ *                                                        factors and swaps as they were
+ *  5  a number of factors is not finite                  factors and swaps as they were
+ *  9  dead is not the number of dead columns of factors  factors and swaps as they were
+ */
+size_t wejdarox_remove_column(double *factors, size_t factors_len, size_t *swaps, size_t swaps_len, size_t m, size_t n,
+                              size_t *pairs, size_t *dead);
+
+/*
+ * wejdarox_build_up
+ *
+ *  Purpose
+ *  =======
+ *  Factors the m by n matrix a by adding one column after another. It answers and leaves, bit for bit, what wejdarox_factor does, and is slower.
+ *
+ *  Arguments and answer
+ *  ====================
+ *  As those of wejdarox_factor.
+ */
+size_t wejdarox_build_up(const double *a, size_t a_len, size_t m, size_t n, double *factors, size_t factors_len,
+                         size_t *swaps, size_t swaps_len, size_t *pairs, size_t *dead, size_t *toss_ups);
+
+/*
  * wejdarox_solve
  *
  *  Purpose
@@ -185,6 +302,92 @@ size_t wejdarox_add_column(double *factors, size_t factors_len, const double *co
  */
 size_t wejdarox_solve(const double *factors, size_t factors_len, const size_t *swaps, size_t swaps_len, size_t m, size_t n,
                       size_t pairs, size_t dead, const double *b, size_t b_len, size_t k, double *x, size_t x_len);
+
+/*
+ * wejdarox_tr_solve
+ *
+ *  Purpose
+ *  =======
+ *  Solves A^T * X = B by the factors of the square matrix A.
+ *
+ *  Arguments and answer
+ *  ====================
+ *  As those of wejdarox_solve.
+ */
+size_t wejdarox_tr_solve(const double *factors, size_t factors_len, const size_t *swaps, size_t swaps_len, size_t m, size_t n,
+                         size_t pairs, size_t dead, const double *b, size_t b_len, size_t k, double *x, size_t x_len);
+
+/*
+ * wejdarox_l
+ *
+ *  Purpose
+ *  =======
+ *  L of the factors of an m by n matrix: what lies below their diagonal, ones on it, +0.0 above.
+ *
+ *  Arguments
+ *  =========
+ *  factors   (input) double array, dimension (m * n)
+ *            The factors, as wejdarox_factor or wejdarox_add_column left them.
+ *  factors_len (input) the length of factors: m * n.
+ *  swaps     (input) array of numbers, dimension (128)
+ *            The exchanged rows.
+ *  swaps_len (input) the length of swaps: 128.
+ *  m         (input) the number of rows, 1 to 64.
+ *  n         (input) the number of columns, 0 to 64.
+ *  pairs     (input) the number of pairs.
+ *  dead      (input) the number of dead columns.
+ *  x         (output) double array, dimension (m * min(m, n))
+ *            L, of m rows and min(m, n) columns. It may hold anything before.
+ *  x_len     (input) the length of x: m * min(m, n).
+ *
+ *  Answer
+ *  ======
+ *  0  done
+ *  1  m is not 1 to 64, or n is not 0 to 64              x as it was
+ *  3  factors_len is not m * n, swaps_len is not 128, or x_len is not m * min(m, n)   x as it was
+ *  4  the swap list is bad                               x as it was
+ *  5  a number of factors is not finite                  x as it was
+ *  9  dead is not the number of dead columns of factors  x as it was
+ *  factors and swaps are never changed.
+ */
+size_t wejdarox_l(const double *factors, size_t factors_len, const size_t *swaps, size_t swaps_len, size_t m, size_t n,
+                  size_t pairs, size_t dead, double *x, size_t x_len);
+
+/*
+ * wejdarox_u
+ *
+ *  Purpose
+ *  =======
+ *  U of the factors of an m by n matrix: what lies on and above their diagonal, +0.0 below.
+ *
+ *  Arguments
+ *  =========
+ *  factors   (input) double array, dimension (m * n)
+ *            The factors, as wejdarox_factor or wejdarox_add_column left them.
+ *  factors_len (input) the length of factors: m * n.
+ *  swaps     (input) array of numbers, dimension (128)
+ *            The exchanged rows.
+ *  swaps_len (input) the length of swaps: 128.
+ *  m         (input) the number of rows, 1 to 64.
+ *  n         (input) the number of columns, 0 to 64.
+ *  pairs     (input) the number of pairs.
+ *  dead      (input) the number of dead columns.
+ *  x         (output) double array, dimension (min(m, n) * n)
+ *            U, of min(m, n) rows and n columns. It may hold anything before.
+ *  x_len     (input) the length of x: min(m, n) * n.
+ *
+ *  Answer
+ *  ======
+ *  0  done
+ *  1  m is not 1 to 64, or n is not 0 to 64              x as it was
+ *  3  factors_len is not m * n, swaps_len is not 128, or x_len is not min(m, n) * n   x as it was
+ *  4  the swap list is bad                               x as it was
+ *  5  a number of factors is not finite                  x as it was
+ *  9  dead is not the number of dead columns of factors  x as it was
+ *  factors and swaps are never changed.
+ */
+size_t wejdarox_u(const double *factors, size_t factors_len, const size_t *swaps, size_t swaps_len, size_t m, size_t n,
+                  size_t pairs, size_t dead, double *x, size_t x_len);
 
 /*
  * wejdarox_inverse
@@ -334,6 +537,144 @@ size_t wejdarox_is_invertible(const double *factors, size_t factors_len, const s
                               size_t n, size_t pairs, size_t dead, bool *invertible);
 
 /*
+ * wejdarox_solve_lower_triangular
+ *
+ *  Purpose
+ *  =======
+ *  Solves T * X = B by the lower triangle of the n by n matrix t, its diagonal too. What lies above the diagonal is not used, but has to be finite.
+ *
+ *  Arguments
+ *  =========
+ *  t         (input) double array, dimension (n * n)
+ *            The matrix.
+ *  t_len     (input) the length of t: n * n.
+ *  n         (input) the number of rows and of columns, 1 to 64.
+ *  b         (input) double array, dimension (n * k)
+ *            The k right-hand columns.
+ *  b_len     (input) the length of b: n * k.
+ *  k         (input) the number of right-hand columns, 1 to 64.
+ *  x         (output) double array, dimension (n * k)
+ *            The k solution columns. It may hold anything before.
+ *  x_len     (input) the length of x: n * k.
+ *
+ *  Answer
+ *  ======
+ *  0  done
+ *  1  n or k is not 1 to 64                              x as it was
+ *  3  t_len is not n * n, or b_len or x_len is not n * k  x as it was
+ *  5  a number of t or b is not finite                   x as it was
+ *  6  a zero of either sign on the diagonal of t         x as it was
+ *  7  a number of the solution is not finite             x all +0.0
+ *  t and b are never changed.
+ */
+size_t wejdarox_solve_lower_triangular(const double *t, size_t t_len, size_t n, const double *b, size_t b_len, size_t k, double *x,
+                                       size_t x_len);
+
+/* wejdarox_solve_upper_triangular: the same by the upper triangle of t. What lies below the diagonal is not used, but has to be finite. */
+size_t wejdarox_solve_upper_triangular(const double *t, size_t t_len, size_t n, const double *b, size_t b_len, size_t k, double *x,
+                                       size_t x_len);
+
+/* wejdarox_tr_solve_lower_triangular: the same by the transposed lower triangle of t. */
+size_t wejdarox_tr_solve_lower_triangular(const double *t, size_t t_len, size_t n, const double *b, size_t b_len, size_t k, double *x,
+                                          size_t x_len);
+
+/* wejdarox_tr_solve_upper_triangular: the same by the transposed upper triangle of t. */
+size_t wejdarox_tr_solve_upper_triangular(const double *t, size_t t_len, size_t n, const double *b, size_t b_len, size_t k, double *x,
+                                          size_t x_len);
+
+/*
+ * wejdarox_solve_lower_triangular_with_diag
+ *
+ *  Purpose
+ *  =======
+ *  The lower triangle of t with diag in place of each number of its diagonal, as nalgebra 0.35.0 does it: a row divided by diag drives the rows below it, and
+ *  the rows themselves are not divided. For diag equal to 1 it is the solution; else wejdarox_solve_lower_triangular_with_diag_corrected has it.
+ *
+ *  Arguments
+ *  =========
+ *  As those of wejdarox_solve_lower_triangular, and
+ *  diag      (input) the number that stands for each of the diagonal.
+ *
+ *  Answer
+ *  ======
+ *  As that of wejdarox_solve_lower_triangular, but 5 also where diag is not finite, and 6 where diag is a zero of either sign; t's diagonal does not count.
+ */
+size_t wejdarox_solve_lower_triangular_with_diag(const double *t, size_t t_len, size_t n, const double *b, size_t b_len, size_t k,
+                                                 double *x, size_t x_len, double diag);
+
+/* wejdarox_solve_lower_triangular_with_diag_corrected: the same, and each row is divided by diag: the solution for every diag. */
+size_t wejdarox_solve_lower_triangular_with_diag_corrected(const double *t, size_t t_len, size_t n, const double *b, size_t b_len,
+                                                           size_t k, double *x, size_t x_len, double diag);
+
+/*
+ * wejdarox_append_permutation
+ *
+ *  Purpose
+ *  =======
+ *  Appends the pair (i, i2) to a swap list for dimension d. Two equal numbers append nothing, and are no refusal.
+ *
+ *  Arguments
+ *  =========
+ *  swaps     (input/output) array of numbers, dimension (128)
+ *            The list, pair after pair.
+ *  swaps_len (input) the length of swaps: 128.
+ *  pairs     (input/output) the number of pairs. Refused: as it was.
+ *  d         (input) the dimension, 1 to 64: the most pairs.
+ *  i         (input) a number below 64.
+ *  i2        (input) a number below 64.
+ *
+ *  Answer
+ *  ======
+ *  0  done
+ *  1  d is not 1 to 64                                   swaps as it was
+ *  3  swaps_len is not 128                               swaps as it was
+ *  4  the list is bad, for 64 rows and at most d pairs; i or i2 is not below 64; or the list is full and i is not i2   swaps as it was
+ */
+size_t wejdarox_append_permutation(size_t *swaps, size_t swaps_len, size_t *pairs, size_t d, size_t i, size_t i2);
+
+/*
+ * wejdarox_permute_rows
+ *
+ *  Purpose
+ *  =======
+ *  Exchanges rows of the m by n matrix a by a swap list, the first pair first.
+ *
+ *  Arguments
+ *  =========
+ *  a         (input/output) double array, dimension (m * n)
+ *            The matrix.
+ *  a_len     (input) the length of a: m * n.
+ *  m         (input) the number of rows, 1 to 64.
+ *  n         (input) the number of columns, 0 to 64.
+ *  swaps     (input) array of numbers, dimension (128)
+ *            The list, pair after pair.
+ *  swaps_len (input) the length of swaps: 128.
+ *  pairs     (input) the number of pairs, at most 64.
+ *
+ *  Answer
+ *  ======
+ *  0  done
+ *  1  m is not 1 to 64, or n is not 0 to 64              a as it was
+ *  3  a_len is not m * n, or swaps_len is not 128        a as it was
+ *  4  the list is bad: a pair of equal numbers, a number not below m, or more than 64 pairs   a as it was
+ *  5  a number of a is not finite                        a as it was
+ *  swaps is never changed.
+ */
+size_t wejdarox_permute_rows(double *a, size_t a_len, size_t m, size_t n, const size_t *swaps, size_t swaps_len, size_t pairs);
+
+/* wejdarox_inv_permute_rows: the same, the last pair first. It undoes wejdarox_permute_rows, bit for bit. */
+size_t wejdarox_inv_permute_rows(double *a, size_t a_len, size_t m, size_t n, const size_t *swaps, size_t swaps_len, size_t pairs);
+
+/* wejdarox_permute_columns: the same for the columns of a, so that 4 asks for numbers below n. */
+size_t wejdarox_permute_columns(double *a, size_t a_len, size_t m, size_t n, const size_t *swaps, size_t swaps_len, size_t pairs);
+
+/* wejdarox_inv_permute_columns: the columns, the last pair first. */
+size_t wejdarox_inv_permute_columns(double *a, size_t a_len, size_t m, size_t n, const size_t *swaps, size_t swaps_len, size_t pairs);
+
+/* wejdarox_permutation_sign: the sign of a swap list of so many pairs, 1.0 where they are even and -1.0 where they are odd. It has no refusal. */
+double wejdarox_permutation_sign(size_t pairs);
+
+/*
  * wejdarox_rank
  *
  *  Purpose
@@ -435,6 +776,135 @@ size_t wejdarox_pad_order(const uint8_t *file, size_t file_len, size_t ranks[64]
  *  8 is tested first, then 1, 3 and 5; 7 is the factoring's. file is never changed.
  */
 size_t wejdarox_stiffness(const uint8_t *file, size_t file_len, double *significand, int32_t *exponent, size_t *toss_ups);
+
+/*
+ * wejdarox_moves
+ *
+ *  Purpose
+ *  =======
+ *  How the load of one pad of a panel file moves with each reading: the transposed solve of that pad's unit column.
+ *
+ *  Arguments
+ *  =========
+ *  file      (input) bytes, dimension (file_len)
+ *            The panel file, as wejdarox_pad_order takes it.
+ *  file_len  (input) how many bytes the file has: 6 + 8 * (n * n + n).
+ *  pad       (input) the number of the pad, 1 to n.
+ *  moves     (output) double array, dimension (64)
+ *            The first n are the changes of that load by one more of each reading; the others are as they were.
+ *  pads      (output) the number of pads n. Refused: 0.
+ *  toss_ups  (output) at how many columns of the matrix another row had the pivot's magnitude, so that the first was taken. Refused: 0.
+ *
+ *  Answer
+ *  ======
+ *  0  done
+ *  1  the number of pads is not 1 to 64; or, tested behind 5, pad is not 1 to n   moves as it was
+ *  3  the file has not the length that its number of pads asks for   moves as it was
+ *  5  a number of the file is not finite                 moves as it was
+ *  6  the matrix is singular                             moves as it was
+ *  7  a factor or a change is not finite                 the first n of moves +0.0, the others as they were
+ *  8  under 6 bytes, another mark or another version     moves as it was
+ *  8 is tested first, then 1, 3 and 5; 7 of the factoring before 6, and 7 of the solve behind it. file is never changed.
+ */
+size_t wejdarox_moves(const uint8_t *file, size_t file_len, size_t pad, double moves[64], size_t *pads, size_t *toss_ups);
+
+/*
+ * wejdarox_read_panel
+ *
+ *  Purpose
+ *  =======
+ *  Reads a panel file: its matrix and its readings.
+ *
+ *  Arguments
+ *  =========
+ *  file      (input) bytes, dimension (file_len)
+ *            The panel file, as wejdarox_pad_order takes it.
+ *  file_len  (input) how many bytes the file has: 6 + 8 * (n * n + n).
+ *  matrix    (output) double array, dimension (4096)
+ *            The first n * n are the matrix, column after column; the others are as they were.
+ *  matrix_len (input) the length of matrix: 4096, whatever n is.
+ *  readings  (output) double array, dimension (64)
+ *            The first n are the readings; the others are as they were.
+ *  readings_len (input) the length of readings: 64, whatever n is.
+ *  pads      (output) the number of pads n. Refused: 0.
+ *
+ *  Answer
+ *  ======
+ *  0  done
+ *  1  the number of pads is not 1 to 64                  matrix and readings as they were
+ *  3  the file has not the length that its number of pads asks for, matrix_len is not 4096, or readings_len is not 64   both as they were
+ *  5  a number of the file is not finite                 matrix and readings as they were
+ *  8  under 6 bytes, another mark or another version     matrix and readings as they were
+ *  8 is tested first, then 1, 3 and 5. file is never changed.
+ */
+size_t wejdarox_read_panel(const uint8_t *file, size_t file_len, double *matrix, size_t matrix_len, double *readings,
+                           size_t readings_len, size_t *pads);
+
+/*
+ * wejdarox_write_panel
+ *
+ *  Purpose
+ *  =======
+ *  Writes the panel file of a crossing. wejdarox_read_panel reads the same bits from it.
+ *
+ *  Arguments
+ *  =========
+ *  n         (input) the number of pads, 1 to 64.
+ *  matrix    (input) double array, dimension (n * n)
+ *            The matrix, column after column.
+ *  matrix_len (input) the length of matrix: n * n.
+ *  readings  (input) double array, dimension (n)
+ *            The readings.
+ *  readings_len (input) the length of readings: n.
+ *  out       (output) bytes, dimension (at least 6 + 8 * (n * n + n), which is WEJDAROX_FILE_LENGTH(n))
+ *            The file; bytes behind it are as they were.
+ *  out_len   (input) the length of out.
+ *  count     (output) how many bytes the file has. Refused: 0.
+ *
+ *  Answer
+ *  ======
+ *  0  done
+ *  1  n is not 1 to 64                                   out as it was
+ *  3  matrix_len is not n * n, readings_len is not n, or out_len is less than the file needs   out as it was
+ *  5  a number of matrix or readings is not finite       out as it was
+ *  matrix and readings are never changed.
+ */
+size_t wejdarox_write_panel(size_t n, const double *matrix, size_t matrix_len, const double *readings, size_t readings_len,
+                            uint8_t *out, size_t out_len, size_t *count);
+
+/*
+ * wejdarox_text
+ *
+ *  Purpose
+ *  =======
+ *  What the program prints for a panel file: `pads N` and a line for each pad in the order to lift them, its number and the 16 hex digits of its load; or
+ *  `refused K`. Each line ends with a newline; no zero byte stands behind the last.
+ *
+ *  Arguments
+ *  =========
+ *  file      (input) bytes, dimension (file_len)
+ *            The file. It may be anything: one that wejdarox_pad_order refuses has the text of its refusal.
+ *  file_len  (input) how many bytes the file has.
+ *  out       (output) bytes, dimension (1288)
+ *            The text at the front; bytes behind it are as they were.
+ *
+ *  Answer
+ *  ======
+ *  How many bytes the text has, 10 to 1288. There is no refusal. file is never changed.
+ */
+size_t wejdarox_text(const uint8_t *file, size_t file_len, uint8_t out[1288]);
+
+/* wejdarox_moves_text: the same of what wejdarox_moves answers for one pad: a line for each reading, its number and the 16 hex digits of the change. */
+size_t wejdarox_moves_text(const uint8_t *file, size_t file_len, size_t pad, uint8_t out[1288]);
+
+/* wejdarox_stiffness_text: the same of what wejdarox_stiffness answers: 16 hex digits of the significand, a space and the exponent in decimal. */
+size_t wejdarox_stiffness_text(const uint8_t *file, size_t file_len, uint8_t out[1288]);
+
+/*
+ * wejdarox_why_text: the same of why wejdarox_pad_order refuses a file: `no reason`; or `refused K` and, for 6, the lowest dead column, for 7 the place of the
+ * first number that is not finite, each counted from 1.
+ */
+size_t wejdarox_why_text(const uint8_t *file, size_t file_len, uint8_t out[1288]);
 
 /*
  * The figures of a season: sixteen counts, and the number of files handed over. A season of no file is all zeros.
