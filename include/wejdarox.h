@@ -56,8 +56,8 @@ extern "C" {
 /*
  * The version of this header and of the archive that it was packed with: the same number as in the file VERSION.
  * Since 0.7.0: a record has a fourth number, the dead columns. The six calls on matrices take it behind the pairs (wejdarox_factor and
- * wejdarox_add_column through a pointer, the others as it is), and those that take factors can answer 9. wejdarox_scaled_determinant, wejdarox_stiffness
- * and wejdarox_with_file are new.
+ * wejdarox_add_column through a pointer, the others as it is), and those that take factors can answer 9. wejdarox_scaled_determinant, wejdarox_stiffness,
+ * wejdarox_with_file, wejdarox_why_factor and wejdarox_why_solve are new.
  */
 #define WEJDAROX_VERSION "0.8.0"
 
@@ -185,6 +185,57 @@ size_t wejdarox_add_column(double *factors, size_t factors_len, const double *co
  */
 size_t wejdarox_solve(const double *factors, size_t factors_len, const size_t *swaps, size_t swaps_len, size_t m, size_t n,
                       size_t pairs, size_t dead, const double *b, size_t b_len, size_t k, double *x, size_t x_len);
+
+/*
+ * wejdarox_why_factor
+ *
+ *  Purpose
+ *  =======
+ *  Tells why wejdarox_factor would refuse the same arguments: its number and, for 7, where the first result stands that is not finite. It leaves factors
+ *  and swaps as wejdarox_factor leaves them.
+ *
+ *  Arguments
+ *  =========
+ *  a to swaps_len: as for wejdarox_factor.
+ *  step      (output) for 7 the step of the elimination that stored the result, counted from 0; else 0.
+ *  column    (output) for 7 the column that it was stored in; else 0.
+ *  row       (output) for 7 the row that it was stored in, as the rows stood after that step's exchange; else 0.
+ *
+ *  Answer
+ *  ======
+ *  0  no reason: wejdarox_factor accepts the arguments
+ *  1, 3, 5, 7  the number with which it refuses them     factors and swaps as it leaves them
+ *  The results are those of the original, in its order: step by step; the multipliers of the step's own column, then each column to the right; in each the
+ *  rows below the step, from the top.
+ */
+size_t wejdarox_why_factor(const double *a, size_t a_len, size_t m, size_t n, double *factors, size_t factors_len,
+                           size_t *swaps, size_t swaps_len, size_t *step, size_t *column, size_t *row);
+
+/*
+ * wejdarox_why_solve
+ *
+ *  Purpose
+ *  =======
+ *  Tells why wejdarox_solve would refuse the same arguments: its number; for 6 the dead column; for 7 where the first result stands that is not finite. It
+ *  leaves x as wejdarox_solve leaves it.
+ *
+ *  Arguments
+ *  =========
+ *  factors to x_len: as for wejdarox_solve.
+ *  pass      (output) for 7 the pass that stored the result: 1 the unit lower one, 2 the upper one; else 0.
+ *  column    (output) for 7 the right-hand column, counted from 0; for 6 the lowest column with a zero on the diagonal; else 0.
+ *  row       (output) for 7 the row; else 0.
+ *
+ *  Answer
+ *  ======
+ *  0  no reason: wejdarox_solve accepts the arguments
+ *  1 to 5, 9, 6, 7  the number with which it refuses them   x as it leaves it
+ *  The results are those of the original, in its order: the lower pass over all right-hand columns, then the upper pass over all. In each column it goes
+ *  row by row: downward, and for each the rows below it; upward, and for each its quotient, then the rows above it from 0 on.
+ */
+size_t wejdarox_why_solve(const double *factors, size_t factors_len, const size_t *swaps, size_t swaps_len, size_t m, size_t n,
+                          size_t pairs, size_t dead, const double *b, size_t b_len, size_t k, double *x, size_t x_len,
+                          size_t *pass, size_t *column, size_t *row);
 
 /*
  * wejdarox_inverse

@@ -45,6 +45,37 @@ mod c {
             x: *mut f64,
             x_len: usize,
         ) -> usize;
+        pub fn wejdarox_why_factor(
+            a: *const f64,
+            a_len: usize,
+            m: usize,
+            n: usize,
+            factors: *mut f64,
+            factors_len: usize,
+            swaps: *mut usize,
+            swaps_len: usize,
+            step: *mut usize,
+            column: *mut usize,
+            row: *mut usize,
+        ) -> usize;
+        pub fn wejdarox_why_solve(
+            factors: *const f64,
+            factors_len: usize,
+            swaps: *const usize,
+            swaps_len: usize,
+            m: usize,
+            n: usize,
+            pairs: usize,
+            dead: usize,
+            b: *const f64,
+            b_len: usize,
+            k: usize,
+            x: *mut f64,
+            x_len: usize,
+            pass: *mut usize,
+            column: *mut usize,
+            row: *mut usize,
+        ) -> usize;
         pub fn wejdarox_inverse(
             factors: *const f64,
             factors_len: usize,
@@ -134,6 +165,27 @@ pub(crate) fn solve(held: Held, b: &[f64], k: usize, x: &mut [f64]) -> usize {
     let Held { factors: f, swaps: s, rows: m, columns: n, pairs, dead } = held;
     let (xp, xl) = (x.as_mut_ptr(), x.len());
     unsafe { c::wejdarox_solve(f.as_ptr(), f.len(), s.as_ptr(), s.len(), m, n, pairs, dead, b.as_ptr(), b.len(), k, xp, xl) }
+}
+
+/// The place that an explanation tells: step or pass, column, row.
+#[derive(Clone, Copy, Debug, Default)]
+pub(crate) struct Place {
+    pub first: usize,
+    pub column: usize,
+    pub row: usize,
+}
+
+pub(crate) fn why_factor(a: &[f64], m: usize, n: usize, factors: &mut [f64], swaps: &mut [usize], place: &mut Place) -> usize {
+    let (fp, fl, sp, sl) = (factors.as_mut_ptr(), factors.len(), swaps.as_mut_ptr(), swaps.len());
+    let Place { first, column, row } = place;
+    unsafe { c::wejdarox_why_factor(a.as_ptr(), a.len(), m, n, fp, fl, sp, sl, first, column, row) }
+}
+
+pub(crate) fn why_solve(held: Held, b: &[f64], k: usize, x: &mut [f64], place: &mut Place) -> usize {
+    let Held { factors: f, swaps: s, rows: m, columns: n, pairs, dead } = held;
+    let (xp, xl) = (x.as_mut_ptr(), x.len());
+    let Place { first, column, row } = place;
+    unsafe { c::wejdarox_why_solve(f.as_ptr(), f.len(), s.as_ptr(), s.len(), m, n, pairs, dead, b.as_ptr(), b.len(), k, xp, xl, first, column, row) }
 }
 
 pub(crate) fn inverse(held: Held, x: &mut [f64]) -> usize {

@@ -6,10 +6,12 @@
 #![warn(missing_docs)]
 
 mod calls;
+mod why;
 
 use calls::Counts;
 use std::error::Error;
 use std::fmt;
+pub use why::{Pass, WhyFactor, WhySolve};
 
 #[cfg(not(target_pointer_width = "64"))]
 compile_error!("the library counts in 64-bit numbers");
