@@ -8,3 +8,4 @@ pub mod WrongSwaps
 pub mod WrongRecords
 pub mod WrongScaled
 pub mod WrongPrograms
+pub mod WrongReasons
