@@ -3,6 +3,7 @@
 -- no pads (1), at a matrix of no numbers (3) and at one pad. Assumes nothing.
 use mathlib.Core.Path.{_≡_, refl, sym, ap, _∙_}
 use mathlib.Core.Bool.{false≢true}
+use mathlib.Core.Option.{Option, none as absent, some}
 use mathlib.Core.List.{List, [], _∷_, _++_}
 use Prim.Native.Nat.{ℕ, zero, suc}
 use native.Mathlib.Omega.{arith}
@@ -38,6 +39,12 @@ use Rattle.crossing.specs.Ordering.{loadsOf, ranksLeft, Ranks, ordering}
 use Rattle.crossing.specs.Moving.{movesRefusal, movesOf, moving}
 use Rattle.panel_text.specs.Text.{written as writtenOver, decimal, lineOf, linesOf, padsText, refusedText, digitsIn, signed, scaledText}
 use Rattle.panel_text.specs.Printed.{orderText, textOf, changeText, movesTextOf, checkText, stiffnessTextOf}
+use Rattle.panel_text.specs.Why.{placeText, spotText, passWord, columnLine, stageLine, reasonText, whyTextOf}
+use Rattle.why.specs.Results.{firstOverflow, rowsFrom, inTurn}
+use Rattle.why.specs.Solving.{turnsResults, solvingResults}
+use Rattle.why.specs.Why.{Told, toldNumber, overflowed, explainSolving}
+use Rattle.why_file.specs.Explaining.{Stage, explainLoads, explainedBy, explainFile}
+use Rattle.solve.specs.Triangular.{solvedFrom}
 
 -- a name for all that has to unfold for a file to be read, factored and solved
 answers : Type 0
@@ -231,4 +238,44 @@ stiffness-text =
     strong printsStiffness (onePadFile, blank) (empty, blank) (differs 0 (λ d. omega (arith, d))) (
       shut-out printsStiffness (λ x. x .1) (onePadFile, blank) (differs 0 (λ d. omega (arith, d))),
       (λ number. shut-out printsStiffness (λ x. writtenOver 0 (refusedText (number x)) (x .1)) (onePadFile, blank) (differs 0 (λ d. omega (arith, d)))),
+    )
+
+-- ---- why a file is refused: the same always; and the number alone
+
+-- one pad, its matrix 2^-1000, its reading 2^100: the load overflows
+abbrev overflowing : List ℕ
+overflowing = 76 ∷ 88 ∷ 80 ∷ 1 ∷ 0 ∷ 1 ∷ 0 ∷ 0 ∷ 0 ∷ 0 ∷ 0 ∷ 0 ∷ 112 ∷ 1 ∷ 0 ∷ 0 ∷ 0 ∷ 0 ∷ 0 ∷ 0 ∷ 48 ∷ 70 ∷ []
+
+-- a name for all that has to unfold for a reason to be told
+reasons : Type 0
+unfolding answers firstOverflow rowsFrom inTurn turnsResults solvingResults overflowed explainSolving solvedFrom explainLoads explainedBy explainFile
+reasons = Unit {0}
+
+abbrev numberAlone : List ℕ → Told Stage
+numberAlone x = toldNumber (explainFile x .number)
+
+-- whether a place is told
+abbrev places : Told Stage → ℕ
+places t = count (t .place)
+  where
+    count : Option Stage → ℕ
+    count absent = 0
+    count (some p) = 1
+
+pub why-file : Strong explainFile (ShutsOut explainFile numberAlone)
+unfolding reasons
+why-file =
+    strong explainFile onePadFile overflowing (λ d. omega (arith, ap (λ (t : Told Stage). t .number) d))
+    (shut-out explainFile numberAlone overflowing (λ d. omega (arith, ap places d)))
+
+-- its text: `no reason`, or `refused 7` and a line with the place
+abbrev printsWhy : List ℕ × List ℕ → List ℕ
+printsWhy x = writtenOver 0 (whyTextOf (x .0)) (x .1)
+
+pub why-text : Strong printsWhy (ShutsOut printsWhy (λ x. x .1) × Refusing printsWhy (λ x. x .1))
+unfolding reasons writtenOver decimal refusedText placeText spotText passWord columnLine stageLine reasonText whyTextOf
+why-text =
+    strong printsWhy (onePadFile, blank) (overflowing, blank) (differs 0 (λ d. omega (arith, d))) (
+      shut-out printsWhy (λ x. x .1) (onePadFile, blank) (differs 0 (λ d. omega (arith, d))),
+      (λ number. shut-out printsWhy (λ x. writtenOver 0 (refusedText (number x)) (x .1)) (onePadFile, blank) (differs 0 (λ d. omega (arith, d)))),
     )
