@@ -1,9 +1,11 @@
--- A number that is known: what holds of its value holds of it. Each number below three. The four entries of a list by name. Assumes nothing.
-use mathlib.Core.Path.{_≡_, refl, sym, ap, ap₂}
-use mathlib.Core.List.{List, [], _∷_}
+-- A number that is known: what holds of its value holds of it. Each number below three. A list by its entries. Assumes nothing.
+use mathlib.Core.Path.{_≡_, refl, sym, ap, ap₂, _∙_}
+use mathlib.Core.List.{List}
 use Prim.Native.Nat.{ℕ, zero, suc, _<_}
 use native.Mathlib.Omega.{arith}
 use lib.ListN.{length, getD}
+use Rattle.numbers.specs.Each.{listOf}
+use Rattle.numbers.proofs.Each.{each-list, each-over}
 
 pub at : {A : Type 0} (f : ℕ → A) (i k : ℕ) → i ≡ k → f k ≡ f i
 at f i k h = ap f (sym h)
@@ -17,10 +19,5 @@ by-three P a b c (suc zero) h = b
 by-three P a b c (suc (suc zero)) h = c
 by-three P a b c (suc (suc (suc i))) h = absurd (omega arith)
 
-pub four-named : {A : Type 0} (d : A) (l : List A) → length l ≡ 4 → (getD l 0 d ∷ getD l 1 d ∷ getD l 2 d ∷ getD l 3 d ∷ []) ≡ l
-four-named d [] h = absurd (omega (arith, h))
-four-named d (x ∷ []) h = absurd (omega (arith, h))
-four-named d (x ∷ y ∷ []) h = absurd (omega (arith, h))
-four-named d (x ∷ y ∷ z ∷ []) h = absurd (omega (arith, h))
-four-named d (x ∷ y ∷ z ∷ w ∷ []) h = refl
-four-named d (x ∷ y ∷ z ∷ w ∷ v ∷ l) h = absurd (omega (arith, h))
+pub named : {A : Type 0} (d : A) (n : ℕ) (l : List A) → length l ≡ n → listOf n (λ k. getD l k d) ≡ l
+named d n l e = ap (λ (k : ℕ). listOf k (λ i. getD l i d)) (sym e) ∙ sym (each-list (λ k. getD l k d) l) ∙ each-over l l d refl

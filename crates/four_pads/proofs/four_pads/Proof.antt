@@ -2,15 +2,17 @@
 use borrow.Author.Needs.{needs}
 use mathlib.Core.Path.{ap₂, _∙_}
 use mathlib.Core.List.{[], _∷_}
+use Rattle.numbers.specs.Each.{listOf}
 use Rattle.numbers.specs.Column.{Column}
 use Rattle.store.specs.Columns.{flat}
 use Rattle.store.specs.Steps.{Matrix}
 use Rattle.four_pads.specs.Profile.{fourOf}
-use Rattle.four_pads.proofs.Cases.{four-named}
+use Rattle.four_pads.proofs.Cases.{named}
 use Rattle.four_pads.proofs.four_pads.Statement.{statement}
 use Rattle.four_pads.proofs.four_pads.Tie as tie
 
 returns : tie.Need-returns
+unfolding listOf
 returns c =
     let at-5 = c .before in
     let at-4 = at-5 .before in
@@ -21,7 +23,7 @@ returns c =
     c .solved .ensures
     ∙ ap₂ (λ (m : Matrix) (b : Column). fourOf (flat m) b)
     ((λ i. at-1 .entries .ensures i ∷ at-2 .entries2 .ensures i ∷ at-3 .entries3 .ensures i ∷ at-4 .entries4 .ensures i ∷ [])
-    ∙ four-named [] (start .args .t1) (start .good .0 .1 .0 .1))
+    ∙ named [] 4 (start .args .t1) (start .good .0 .1 .0 .1))
     (at-5 .entries5 .ensures)
 
 pub four-pads-spec : {M : Type 1} → statement M
