@@ -6,7 +6,7 @@ use four_pads::FourPads;
 use panel_file::Panel;
 
 // Sixteen numbers as four columns of four.
-fn by_columns(a: [f64; 16]) -> [[f64; 4]; 4]
+pub fn by_columns(a: [f64; 16]) -> [[f64; 4]; 4]
     ensures { λ r. ⌜ flat r ≡ a ⌝ }
 {
     [
