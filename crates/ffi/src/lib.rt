@@ -15,6 +15,9 @@ ghost use Rattle.crossing.specs.Factors.{factorsIn, tossUpsIn, tossesGiven, sti
 ghost use Rattle.crossing.specs.Ordering.{ordering};
 ghost use Rattle.season.specs.Season.{handing, countsOf, seasonFrom};
 ghost use Rattle.ffi.specs.Exports.{valueAfter, resultAfter, padsIn, countIn};
+
+mod four;
+
 use adding::Added;
 use crossing::Order;
 use factors::Record;
