@@ -25,6 +25,26 @@ fn tell_profile(
     answer.number
 }
 
+// The profile of a crossing, told. The one place that calls it, so that it is put in its place: called at two, each call takes 22 ns longer.
+fn tell_crossing(
+    columns: [[f64; 4]; 4],
+    readings: [f64; 4],
+    factors: &mut [f64; 16],
+    pairs: &mut usize,
+    swaps: &mut [usize; 8],
+    loads: &mut [f64; 4],
+) -> usize
+    ensures { λ r. ⌜ profile r (now (factors .exit)) (now (pairs .exit)) (now (swaps .exit)) (now (loads .exit)) ≡ fourPads columns readings ⌝ }
+{
+    tell_profile(
+        four_pads::four_pads(columns, readings),
+        factors,
+        pairs,
+        swaps,
+        loads,
+    )
+}
+
 // The factors, swaps and loads of a crossing of four pads. Refused: zeros.
 #[no_mangle]
 pub extern "C" fn wejdarox_four_pads(
@@ -40,13 +60,7 @@ pub extern "C" fn wejdarox_four_pads(
 {
     let columns = *matrix;
     let sides = *readings;
-    tell_profile(
-        four_pads::four_pads(columns, sides),
-        factors,
-        pairs,
-        swaps,
-        loads,
-    )
+    tell_crossing(columns, sides, factors, pairs, swaps, loads)
 }
 
 // The same for a panel file of four pads. Refused, also for another size: zeros.
@@ -60,8 +74,21 @@ pub extern "C" fn wejdarox_four_pads_of(
 ) -> usize
     ensures { λ r. ⌜ profile r (now (factors .exit)) (now (pairs .exit)) (now (swaps .exit)) (now (loads .exit)) ≡ fourPadsIn (now (file .entry)) ⌝ }
 {
-    tell_profile(
-        four_pads_file::four_pads_of(file),
+    let read = four_pads_file::numbers_of(file);
+    if read.number != 0 {
+        return tell_profile(
+            four_pads::refused(read.number),
+            factors,
+            pairs,
+            swaps,
+            loads,
+        );
+    }
+    let matrix = read.matrix;
+    let readings = read.readings;
+    tell_crossing(
+        four_pads_file::by_columns(matrix),
+        readings,
         factors,
         pairs,
         swaps,

@@ -14,16 +14,15 @@ use Rattle.finite.specs.Finite.{allFinite}
 use Rattle.finite.proofs.Finite.{finite-append}
 use Rattle.store.specs.Columns.{columns, flat}
 use Rattle.store.proofs.Columns.{is-matrix}
-use Rattle.refusals.specs.Outcome.{Outcome, done, refused, firstOf, tested, andThen, Call, leaving}
+use Rattle.refusals.specs.Outcome.{done, refused, numberOf, firstOf, tested, andThen, Call, leaving}
 use Rattle.refusals.proofs.Outcomes.{Numbered, first-none, none-first, tested-none, tested-some, tested-cases, then-then}
-use Rattle.refusals.proofs.Cases.{first-behind, refused-same, never-both}
+use Rattle.refusals.proofs.Cases.{first-behind}
 use Rattle.factors.specs.Factors.{Factors, storeOf, recordFor}
 use Rattle.elimination.specs.Elimination.{eliminate}
 use Rattle.lu.specs.Factoring.{settled, factoring}
 use Rattle.lu.proofs.Told.{passes, worked}
 use Rattle.from_factors.specs.Solving.{solving}
 use Rattle.panel_file.specs.declared.Panel.{Panel}
-use Rattle.panel_file.specs.declared.Panel.the-variants.{Pads, Refused}
 use Rattle.panel_file.specs.File.{padsOf, matrixOf, readingsOf}
 use Rattle.panel_file.specs.Reading.{fileTests, fileRefusal, Stores, stores, filled, sizedRefusal, readingSized, padsRead}
 use Rattle.panel_file.proofs.Reading.{file-whole}
@@ -31,7 +30,8 @@ use Rattle.panel_file.proofs.Files.{numbers-parts}
 use Rattle.crossing.specs.Below.{factorsOf, solutionBy}
 use Rattle.crossing.specs.Factors.{factorsIn}
 use Rattle.four_pads.specs.Profile.{Solution, generalPath, refusedWith, profileOf, fourTests, fourOf}
-use Rattle.four_pads_file.specs.FileProfile.{withLoads, generalPathIn, sizeTests, fourPadsIn}
+use Rattle.four_pads_file.specs.FileProfile.{numbersIn, withLoads, generalPathIn, sizeTests, fourPadsIn}
+use Rattle.four_pads_file.specs.declared.FourNumbers.{FourNumbers}
 
 -- ---- a matrix of sixteen finite numbers
 module _ (a b : Column) (size : length a ≡ 16) (fine : allFinite a ≡ true) where
@@ -128,22 +128,41 @@ module _ (bytes : List ℕ) where
         rw (tested-none size refused (generalPathIn bytes) (parts .0), tested-none (fileRefusal bytes) refused (factorsOf n (matrixOf n bytes)) (parts .1))
         (at-four n four finite-parts)
 
--- ---- the two ends of the call, from what the reader answers and leaves
-module _ (bytes : List ℕ) (answer : Panel) (matrix readings : Column) (told : padsRead answer ≡ readingSized bytes 4 lent .answer)
-    (left : stores matrix readings ≡ readingSized bytes 4 lent .left) where
-  read-cases : (P : Call ℕ Stores → Type 0) → (sizedRefusal bytes 4 lent ≡ 0 → P (record { answer = done (padsOf bytes); left = filled bytes lent }))
-      → ((sizedRefusal bytes 4 lent ≡ 0 → ⊥) → P (leaving lent (sizedRefusal bytes 4 lent))) → P (readingSized bytes 4 lent)
-  unfolding readingSized
-  read-cases = tested-cases (sizedRefusal bytes 4 lent) (leaving lent) (record { answer = done (padsOf bytes); left = filled bytes lent })
+-- ---- what was read, and what becomes of it
+module _ (bytes : List ℕ) where
+  read-cases : (P : FourNumbers → Type 0)
+      → (sizedRefusal bytes 4 lent ≡ 0 → P (record { number = 0; matrix = filled bytes lent .matrix; readings = filled bytes lent .readings }))
+      → ((sizedRefusal bytes 4 lent ≡ 0 → ⊥) → P (record { number = sizedRefusal bytes 4 lent; matrix = zeros 16; readings = zeros 4 }))
+      → P (numbersIn bytes)
+  unfolding numbersIn readingSized numberOf
+  read-cases P accepts refuses =
+      tested-cases (sizedRefusal bytes 4 lent) (leaving lent) (record { answer = done (padsOf bytes); left = filled bytes lent })
+      (λ o. P (record { number = numberOf (o .answer); matrix = o .left .matrix; readings = o .left .readings })) accepts refuses
 
-  pub refused-end : (number : ℕ) → answer ≡ Refused number → refusedWith number ≡ fourPadsIn bytes
-  unfolding padsRead
-  refused-end number e =
-      read-cases (λ o. refused number ≡ o .answer → refusedWith number ≡ fourPadsIn bytes) (λ z d. never-both (padsOf bytes) number (sym d))
-      (λ some d. let is = refused-same number _ d in file-refused bytes number is (λ z. some (sym is ∙ z))) (ap padsRead (sym e) ∙ told)
+  refused-as : (numbersIn bytes .number ≡ 0 → ⊥) → refusedWith (numbersIn bytes .number) ≡ fourPadsIn bytes
+  refused-as =
+      read-cases (λ r. (r .number ≡ 0 → ⊥) → refusedWith (r .number) ≡ fourPadsIn bytes) (λ z some. absurd (some refl))
+      (λ some _. file-refused bytes (sizedRefusal bytes 4 lent) refl some)
 
-  pub loaded-end : (k : ℕ) → answer ≡ Pads k → fourOf matrix readings ≡ fourPadsIn bytes
-  unfolding padsRead
-  loaded-end k e =
-      read-cases (λ o. done k ≡ o .answer → stores matrix readings ≡ o .left → fourOf matrix readings ≡ fourPadsIn bytes)
-      (λ z _ l. ap (λ (s : Stores). fourOf (s .matrix) (s .readings)) l ∙ file-loaded bytes z) (λ some d _. never-both k _ d) (ap padsRead (sym e) ∙ told) left
+  loaded-as : numbersIn bytes .number ≡ 0 → fourOf (numbersIn bytes .matrix) (numbersIn bytes .readings) ≡ fourPadsIn bytes
+  loaded-as =
+      read-cases (λ r. r .number ≡ 0 → fourOf (r .matrix) (r .readings) ≡ fourPadsIn bytes) (λ z _. file-loaded bytes z) (λ some z. absurd (some z))
+
+  -- THEOREM. Where the file is refused by the reader, the profile is that refusal; else it is the profile of the numbers that were read.
+  module _ (r : FourNumbers) (is : r ≡ numbersIn bytes) where
+    pub refused-end : (r .number ≡ 0 → ⊥) → refusedWith (r .number) ≡ fourPadsIn bytes
+    refused-end some =
+        ap (λ (r : FourNumbers). refusedWith (r .number)) is ∙ refused-as (λ z. some (ap (λ (r : FourNumbers). r .number) is ∙ z))
+
+    pub loaded-end : r .number ≡ 0 → (a : Column) → a ≡ r .matrix → fourOf a (r .readings) ≡ fourPadsIn bytes
+    loaded-end none a e =
+        ap (λ (a : Column). fourOf a (r .readings)) e ∙ ap (λ (r : FourNumbers). fourOf (r .matrix) (r .readings)) is
+        ∙ loaded-as (ap (λ (r : FourNumbers). r .number) (sym is) ∙ none)
+
+-- what the reader answers and leaves, as the code has it
+pub read-numbers : (bytes : List ℕ) (answer : Panel) (matrix readings : Column) → padsRead answer ≡ readingSized bytes 4 lent .answer
+    → stores matrix readings ≡ readingSized bytes 4 lent .left → (number : ℕ) → number ≡ numberOf (padsRead answer)
+    → _≡_ {A = FourNumbers} (record { number = number; matrix = matrix; readings = readings }) (numbersIn bytes)
+unfolding numbersIn
+read-numbers bytes answer matrix readings told left number is =
+    λ i. record { number = (is ∙ ap numberOf told) i; matrix = left i .matrix; readings = left i .readings }

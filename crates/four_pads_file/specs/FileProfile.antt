@@ -4,13 +4,21 @@ use mathlib.Core.Bool.{Bool, false, not}
 use mathlib.Core.List.{List, [], _∷_}
 use Prim.Native.Nat.{ℕ}
 use lib.Dec.{eqb}
-use Rattle.numbers.specs.Column.{Column}
-use Rattle.refusals.specs.Outcome.{Outcome, done, refused, firstOf, tested, andThen}
+use Rattle.numbers.specs.Column.{Column, zeros}
+use Rattle.refusals.specs.Outcome.{Outcome, done, refused, numberOf, firstOf, tested, andThen}
 use Rattle.panel_file.specs.File.{headed, padsOf, readingsOf}
+use Rattle.panel_file.specs.Reading.{stores, readingSized}
 use Rattle.crossing.specs.Below.{Packed, solutionBy}
 use Rattle.crossing.specs.Factors.{factorsIn}
 use Rattle.four_pads.specs.declared.FourPads.{FourPads}
 use Rattle.four_pads.specs.Profile.{Solution, profileOf}
+use Rattle.four_pads_file.specs.declared.FourNumbers.{FourNumbers}
+
+-- what is read of a file of four pads; refused, the numbers are zeros, as the stores were
+unfoldable pub numbersIn : List ℕ → FourNumbers
+numbersIn bytes =
+    let o = readingSized bytes 4 (stores (zeros 16) (zeros 4)) in
+    record { number = numberOf (o .answer); matrix = o .left .matrix; readings = o .left .readings }
 
 -- factors and loads together
 abbrev pub withLoads : Packed → Outcome Column → Outcome Solution
