@@ -27,17 +27,20 @@ fn tell_profile(
 
 // The profile of a crossing, told. The one place that calls it, so that it is put in its place: called at two, each call takes 22 ns longer.
 fn tell_crossing(
-    columns: [[f64; 4]; 4],
-    readings: [f64; 4],
+    matrix: &[[f64; 4]; 4],
+    readings: &[f64; 4],
     factors: &mut [f64; 16],
     pairs: &mut usize,
     swaps: &mut [usize; 8],
     loads: &mut [f64; 4],
 ) -> usize
-    ensures { λ r. ⌜ profile r (now (factors .exit)) (now (pairs .exit)) (now (swaps .exit)) (now (loads .exit)) ≡ fourPads columns readings ⌝ }
+    ensures { λ r. ⌜ profile r (now (factors .exit)) (now (pairs .exit)) (now (swaps .exit)) (now (loads .exit))
+        ≡ fourPads (now (matrix .entry)) (now (readings .entry)) ⌝ }
 {
+    let columns = *matrix;
+    let sides = *readings;
     tell_profile(
-        four_pads::four_pads(columns, readings),
+        four_pads::four_pads(columns, sides),
         factors,
         pairs,
         swaps,
@@ -58,9 +61,7 @@ pub extern "C" fn wejdarox_four_pads(
     ensures { λ r. ⌜ profile r (now (factors .exit)) (now (pairs .exit)) (now (swaps .exit)) (now (loads .exit))
         ≡ fourPads (now (matrix .entry)) (now (readings .entry)) ⌝ }
 {
-    let columns = *matrix;
-    let sides = *readings;
-    tell_crossing(columns, sides, factors, pairs, swaps, loads)
+    tell_crossing(matrix, readings, factors, pairs, swaps, loads)
 }
 
 // The same for a panel file of four pads. Refused, also for another size: zeros.
@@ -84,14 +85,8 @@ pub extern "C" fn wejdarox_four_pads_of(
             loads,
         );
     }
-    let matrix = read.matrix;
+    let numbers = read.matrix;
+    let matrix = four_pads_file::by_columns(numbers);
     let readings = read.readings;
-    tell_crossing(
-        four_pads_file::by_columns(matrix),
-        readings,
-        factors,
-        pairs,
-        swaps,
-        loads,
-    )
+    tell_crossing(&matrix, &readings, factors, pairs, swaps, loads)
 }

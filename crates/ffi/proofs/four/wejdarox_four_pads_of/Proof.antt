@@ -15,8 +15,9 @@ returns c =
 
 returns-2 : tie.Need-returns-2
 returns-2 c =
-    let at-columns = c .before .before .before .before .before in
-    let at-if = at-columns .before .before .before in
+    let at-readings = c .before .before .before .before .before .before .before in
+    let at-columns = at-readings .before in
+    let at-if = at-columns .before .before in
     let at-read = at-if .before .before in
     c .tell-crossing .ensures
     ∙ loaded-end (at-read .before .before .args .file .now) (at-read .numbers-of .result) (at-read .numbers-of .ensures) (at-if .if1 .left) _
