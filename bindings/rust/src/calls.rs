@@ -96,22 +96,8 @@ mod c {
         pub fn wejdarox_pad_order(file: *const u8, file_len: usize, ranks: *mut usize, loads: *mut f64, pads: *mut usize, toss_ups: *mut usize) -> usize;
         pub fn wejdarox_stiffness(file: *const u8, file_len: usize, significand: *mut f64, exponent: *mut i32, toss_ups: *mut usize) -> usize;
         pub fn wejdarox_with_file(file: *const u8, file_len: usize, season: *mut usize) -> usize;
-        pub fn wejdarox_four_pads(
-            matrix: *const f64,
-            readings: *const f64,
-            factors: *mut f64,
-            pairs: *mut usize,
-            swaps: *mut usize,
-            loads: *mut f64,
-        ) -> usize;
-        pub fn wejdarox_four_pads_of(
-            file: *const u8,
-            file_len: usize,
-            factors: *mut f64,
-            pairs: *mut usize,
-            swaps: *mut usize,
-            loads: *mut f64,
-        ) -> usize;
+        pub fn wejdarox_four_pads(matrix: *const f64, readings: *const f64, factors: *mut f64, pairs: *mut usize, swaps: *mut usize, loads: *mut f64) -> usize;
+        pub fn wejdarox_four_pads_of(file: *const u8, file_len: usize, factors: *mut f64, pairs: *mut usize, swaps: *mut usize, loads: *mut f64) -> usize;
     }
 }
 

@@ -25,7 +25,7 @@ fn tell_profile(
     answer.number
 }
 
-// The profile of a crossing, told. The one place that calls it, so that it is put in its place: called at two, each call takes 22 ns longer.
+// The profile of a crossing, told. The one place that calls it, so that it is put in its place: called at two, a call takes 79 ns instead of 56.
 fn tell_crossing(
     matrix: &[[f64; 4]; 4],
     readings: &[f64; 4],
