@@ -25,11 +25,12 @@
  *             9  the number of dead columns is not that of the factors; it is tested after 5 and before 6
  *             10 the season is full: wejdarox_with_file alone
  *             1 to 6, 8 to 10 are answered before the work: every slice is left as it was. 7 is answered after it: results are +0.0, as each call says.
+ *             The two calls of four pads alone leave zeros in all of their results by any refusal.
  *
  *  A caller   owes that
  *             - a pointer beside a length n points to n elements of its type, aligned, for the time of the call; where n is 0 nothing is read or written
  *               through it, and it is still no null pointer;
- *             - a pointer to one number, or to an array of 64, points to it in the same way;
+ *             - a pointer to one number, or to an array whose length stands here, points to it in the same way;
  *             - all of these hold values of their type when the call begins, outputs too: any bytes are a double, a size_t or an int32_t, so that an output
  *               need not be set; a `bool` holds false or true;
  *             - what a call may change (a pointer without `const`) is apart from every other slice and number of that call;
@@ -520,6 +521,64 @@ struct wejdarox_season {
  *  file is never changed. In whatever order up to 4000 files are handed over, the counts are the same.
  */
 size_t wejdarox_with_file(const uint8_t *file, size_t file_len, struct wejdarox_season *season);
+
+/*
+ * wejdarox_four_pads
+ *
+ *  Purpose
+ *  =======
+ *  Factors and solves a crossing of exactly four pads: bit for bit what wejdarox_factor and then wejdarox_solve give, in less time.
+ *
+ *  Arguments
+ *  =========
+ *  matrix    (input) double array, dimension (4 * 4)
+ *            The matrix, column after column.
+ *  readings  (input) double array, dimension (4)
+ *  factors   (output) double array, dimension (4 * 4)
+ *            L and U packed, as wejdarox_factor leaves them. Refused: +0.0.
+ *  pairs     (output) the number of pairs, at most 3. Refused: 0.
+ *  swaps     (output) array of numbers, dimension (8)
+ *            The exchanged rows, pair after pair; what follows the last pair is 0. Refused: 0.
+ *  loads     (output) double array, dimension (4)
+ *            The loads, in the order of the pads. Refused: +0.0.
+ *
+ *  Answer
+ *  ======
+ *  0  done
+ *  5  a number of matrix or readings is not finite
+ *  7  a factor is not finite
+ *  6  the matrix is singular: a zero of either sign on the diagonal of its factors
+ *  7  a load is not finite
+ *  They are tested in this order. matrix and readings are never changed.
+ */
+size_t wejdarox_four_pads(const double matrix[16], const double readings[4], double factors[16], size_t *pairs, size_t swaps[8],
+                          double loads[4]);
+
+/*
+ * wejdarox_four_pads_of
+ *
+ *  Purpose
+ *  =======
+ *  The same for a panel file of four pads.
+ *
+ *  Arguments
+ *  =========
+ *  file      (input) bytes, dimension (file_len)
+ *            The file, as wejdarox_pad_order takes it.
+ *  file_len  (input) how many bytes the file has: 166.
+ *  factors, pairs, swaps, loads (output) as in wejdarox_four_pads.
+ *
+ *  Answer
+ *  ======
+ *  0  done
+ *  8  under 6 bytes, another mark or another version
+ *  1  the number of pads is not 4
+ *  3  the file has not 166 bytes
+ *  5  a number of the file is not finite
+ *  7, 6, 7  as in wejdarox_four_pads
+ *  They are tested in this order: on a file of four pads the number is that of wejdarox_pad_order. file is never changed.
+ */
+size_t wejdarox_four_pads_of(const uint8_t *file, size_t file_len, double factors[16], size_t *pairs, size_t swaps[8], double loads[4]);
 
 #ifdef __cplusplus
 }

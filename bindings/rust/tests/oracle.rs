@@ -3,7 +3,7 @@ use std::fs;
 use std::io::Write;
 use std::path::{Path, PathBuf};
 use std::process::{Command, Stdio};
-use wejdarox::{pad_order, rank, rank_all, stiffness, Lu, Pad, PadOrder, Refusal, Scaled, Season, Stiffness};
+use wejdarox::{four_pads, four_pads_of, pad_order, rank, rank_all, stiffness, Lu, Pad, PadOrder, Refusal, Scaled, Season, Stiffness};
 
 // ---- random inputs, the same in every run
 
@@ -328,6 +328,30 @@ fn panel_files() {
         };
         assert_eq!(stiffness(&whole), quick());
         assert_eq!(stiffness(&whole[..whole.len() - 1]), Err(Refusal::Length));
+    }
+}
+
+/// Four pads at once are factoring and solving; a file of another size is refused.
+#[test]
+fn four_pads_at_once() {
+    let mut random = Random(7);
+    for turn in 0..400 {
+        let (a, b) = (random.matrix(4, 4), random.numbers(4, 1));
+        let parts = || -> Result<(Vec<f64>, Vec<(usize, usize)>, Vec<f64>), Refusal> {
+            let lu = Lu::factor(&a, 4, 4)?;
+            Ok((lu.factors().to_vec(), lu.swaps().collect(), lu.solve(&b, 1)?))
+        };
+        let whole = file(4, &a, &b);
+        let matrix = std::array::from_fn(|j| std::array::from_fn(|i| a[4 * j + i]));
+        let readings = std::array::from_fn(|i| b[i]);
+        for made in [four_pads(&matrix, &readings), four_pads_of(&whole)] {
+            assert_eq!(made.map(|f| (f.factors.to_vec(), f.swaps().collect(), f.loads.to_vec())), parts());
+        }
+        let n = 1 + turn % 9;
+        if n != 4 {
+            assert_eq!(four_pads_of(&file(n, &random.matrix(n, n), &random.numbers(n, 1))), Err(Refusal::Size));
+        }
+        assert_eq!(four_pads_of(&whole[..whole.len() - 1]), Err(Refusal::Length));
     }
 }
 

@@ -3,6 +3,7 @@ pub mod WrongAnswers
 pub mod WrongRankings
 pub mod WrongColumns
 pub mod WrongFiles
+pub mod WrongFourPads
 pub mod WrongSeasons
 pub mod WrongSwaps
 pub mod WrongRecords

@@ -20,8 +20,8 @@ use Rattle.finite.proofs.Finite.{finite-zeros}
 use Rattle.refusals.specs.Outcome.{Outcome, done, refused, numberOf, firstOf, tested, andThen, Call}
 use Rattle.refusals.specs.Refusals.{outside}
 use Rattle.refusals.proofs.Strength.{ShutsOut, shut-out, BothShutOut, both, Strong, strong, Keeps, StrongBy, strong-by, done-refused}
-use Rattle.panel_file.specs.File.{littleEndian, fieldAt, headed, numberAt}
-use Rattle.panel_file.specs.Reading.{fileTests, fileRefusal, Stores, stores, readingRefusal, filled, reading}
+use Rattle.panel_file.specs.File.{littleEndian, fieldAt, headed, padsOf, numberAt}
+use Rattle.panel_file.specs.Reading.{fileTests, fileRefusal, Stores, stores, readingRefusal, filled, reading, sizedRefusal, readingSized}
 use Rattle.panel_file.specs.Writing.{writingRefusal, bytesWritten, written, Writing}
 use Rattle.panel_file.specs.declared.Written.the-variants.{Refused as NotWritten}
 use Rattle.panel_file.proofs.Writing.{Fit, not-refused, write-refused}
@@ -60,7 +60,7 @@ onePadFile = 76 ∷ 88 ∷ 80 ∷ 1 ∷ 0 ∷ 1 ∷ 0 ∷ 0 ∷ 0 ∷ 0 ∷ 0 �
 abbrev empty : List ℕ
 empty = []
 
-zero-one : (c d : Column) → n1 ∷ c ≡ n0 ∷ d → ⊥
+pub zero-one : (c d : Column) → n1 ∷ c ≡ n0 ∷ d → ⊥
 zero-one c d e = let z : _≡_ {A = ℕ} 0 1 = cc in omega arith
 
 zero-two : (c d : Column) → n2 ∷ c ≡ n0 ∷ d → ⊥
@@ -79,6 +79,27 @@ unfolding answers
 read =
     both reads (λ x. x .1) (onePadFile, fresh) {a = 1} {made = filled onePadFile fresh} refl
     (λ d. zero-one (drop 1 (zeros 4096)) (zeros 4095) (ap (λ (s : Stores). s .matrix) d))
+
+-- a file of n pads and of no other size
+abbrev readsSized : List ℕ × (ℕ × Stores) → Call ℕ Stores
+readsSized x = readingSized (x .0) (x .1 .0) (x .1 .1)
+
+abbrev own : Stores
+own = stores (zeros 1) (zeros 1)
+
+pub read-sized : BothShutOut readsSized (λ x. x .1 .1)
+unfolding answers sizedRefusal readingSized
+read-sized =
+    both readsSized (λ x. x .1 .1) (onePadFile, (1, own)) {a = 1} {made = filled onePadFile own} refl
+    (λ d. zero-one [] [] (ap (λ (s : Stores). s .matrix) d))
+
+-- any size that the stores fit
+abbrev anySize : List ℕ × (ℕ × Stores) → Call ℕ Stores
+anySize x = readsSized (x .0, (padsOf (x .0), x .1 .1))
+
+pub not-any-size : ShutsOut readsSized anySize
+unfolding answers sizedRefusal readingSized
+not-any-size = shut-out readsSized anySize (onePadFile, (2, own)) (λ d. done-refused (sym (ap (λ (o : Call ℕ Stores). o .answer) d)))
 
 -- a crossing of doubles, as every slice of `f64` holds, and the slice to write to
 pub record Crossing : Type 0 where

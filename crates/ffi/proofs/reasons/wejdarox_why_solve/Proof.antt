@@ -10,11 +10,16 @@ use Rattle.ffi.proofs.reasons.wejdarox_why_solve.Tie as tie
 returns : tie.Need-returns
 returns c =
     let told = c .of-solving .ensures in
-    let call = c .before .before .before .why-solve .ensures in
-    (told .0 .0 ∙ ap (λ (t : Told Spot). t .number) (call .0), (call .1, (
-      told .0 .1 ∙ ap (λ (t : Told Spot). spotTold t .pass) (call .0),
-      (told .1 .0 ∙ ap (λ (t : Told Spot). spotTold t .column) (call .0), told .1 .1 ∙ ap (λ (t : Told Spot). spotTold t .row) (call .0)),
-    )))
+    let call = c .before .before .before .why-solve .ensures in (
+      told .0 .0 ∙ ap (λ (t : Told Spot). t .number) (call .0),
+      (
+        call .1,
+        (
+          told .0 .1 ∙ ap (λ (t : Told Spot). spotTold t .pass) (call .0),
+          (told .1 .0 ∙ ap (λ (t : Told Spot). spotTold t .column) (call .0), told .1 .1 ∙ ap (λ (t : Told Spot). spotTold t .row) (call .0)),
+        ),
+      ),
+    )
 
 pub wejdarox-why-solve-spec : {M : Type 1} → statement M
 wejdarox-why-solve-spec =
