@@ -28,7 +28,7 @@ class Stop(Exception):
 
 def say(*lines: str) -> None:
     """Says something on standard error."""
-    for line in lines:
+    for line in lines if sys.stderr is not None else ():
         print("panel-order: " + files.shown(line), file=sys.stderr)
 
 
@@ -43,7 +43,7 @@ def main(words: List[str]) -> int:
     except (Stop, Failed, files.Unreadable, files.Unwritable) as why:
         say(*why.args)
     except KeyboardInterrupt:
-        os._exit(130)
+        return 130
     return 2
 
 
@@ -99,7 +99,7 @@ def sheets_of(programs: Programs, found: Asked) -> int:
     progress = Progress(len(names))
     for sheet in in_order(programs, names, found.moves):
         if found.out is None:
-            progress.clear()
+            progress.make_way()
             put_text(("\n" if shown else "") + night.text(sheet))
         shown.append(sheet)
         progress.at(len(shown))
@@ -115,7 +115,13 @@ def sheets_of(programs: Programs, found: Asked) -> int:
 def in_order(programs: Programs, names: List[str], moves: bool) -> Iterator[Sheet]:
     """The sheets in the order of the names, some at a time."""
     with ThreadPoolExecutor(max_workers=min(8, os.cpu_count() or 1)) as pool:
-        yield from pool.map(lambda name: sheet_of(programs, name, moves), names)
+        begun = [pool.submit(sheet_of, programs, name, moves) for name in names]
+        try:
+            for each in begun:
+                yield each.result()
+        finally:
+            for each in begun:
+                each.cancel()
 
 
 def sections(programs: Programs, found: Asked, sheets: List[Sheet]) -> List[str]:

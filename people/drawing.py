@@ -6,7 +6,9 @@ from typing import List, Optional
 
 BOX = '<svg class="box" viewBox="0 0 12 12" aria-hidden="true"><rect x="1" y="1" width="10" height="10" fill="#fff" stroke="#000"/></svg>'
 CELL = 10.0  # of the picture of moves; a circle fills it
-MARGIN = 16.0
+MARGIN = 20.0
+WIDEST = 180.0  # in millimetres, on A4
+LETTERS = 3.2  # in millimetres, where a cell has room for them
 SMALLEST = 0.5  # the radius of a circle that is drawn as a point
 
 
@@ -46,24 +48,35 @@ HOLLOW = ' fill="#fff" stroke="#000" stroke-width=".6"'
 
 
 def moves_picture(moves: List[Optional[List[float]]]) -> str:
-    """Which reading moves which pad: a row for each pad, a column for each reading. A pad without moves has a cross in its row."""
-    pads = len(moves)
+    """Which reading moves which pad: a row for each pad, a column for each reading. A pad without moves has a broken line."""
     most = max((abs(move) for row in moves for move in row or []), default=0.0)
-    size = MARGIN + CELL * pads
-    lines = "".join(f"M{short(MARGIN)} {short(at)}H{short(size)}M{short(at)} {short(MARGIN)}V{short(size)}"
-                    for at in (MARGIN + CELL * k for k in range(pads + 1)))
-    parts = [f'<path d="{lines}" fill="none" stroke="#bbb" stroke-width=".3"/>']
+    size = MARGIN + CELL * len(moves)
+    width = min(WIDEST, 1.2 * size)
+    parts = [grid(len(moves), size)]
     for k, row in enumerate(moves):
         middle = MARGIN + CELL * (k + 0.5)
-        parts.append(f'<text x="{short(MARGIN - 2)}" y="{short(middle + 1.6)}" text-anchor="end">{k + 1}</text>')
-        parts.append(f'<text x="{short(middle)}" y="{short(MARGIN - 2)}" text-anchor="middle">{k + 1}</text>')
         if row is None:
             parts.append(f'<path d="M{short(MARGIN)} {short(middle)}H{short(size)}" stroke="#000" stroke-width=".4" stroke-dasharray="2 2"/>')
         else:
             parts += [circle(MARGIN + CELL * (i + 0.5), middle, move, most) for i, move in enumerate(row)]
-    parts.append(f'<text x="{short((size + MARGIN) / 2)}" y="5" text-anchor="middle">reading</text>')
-    parts.append(f'<text x="5" y="{short((size + MARGIN) / 2)}" text-anchor="middle" '
-                 f'transform="rotate(-90 5 {short((size + MARGIN) / 2)})">pad</text>')
-    width = min(180.0, 12 * (pads + MARGIN / CELL))
-    return (f'<svg class="moves" viewBox="0 0 {short(size + 1)} {short(size + 1)}" style="width:{short(width)}mm" font-size="4.4" role="img" '
+    parts += labels(len(moves), size, min(7.0, LETTERS * size / width))
+    return (f'<svg class="moves" viewBox="0 0 {short(size + 1)} {short(size + 1)}" style="width:{short(width)}mm" role="img" '
             f'aria-label="A row for each pad, a column for each reading; the list below has the greatest of each row">{"".join(parts)}</svg>')
+
+
+def grid(pads: int, size: float) -> str:
+    """The lines between the cells."""
+    places = [MARGIN + CELL * k for k in range(pads + 1)]
+    lines = "".join(f"M{short(MARGIN)} {short(at)}H{short(size)}M{short(at)} {short(MARGIN)}V{short(size)}" for at in places)
+    return f'<path d="{lines}" fill="none" stroke="#bbb" stroke-width=".3"/>'
+
+
+def labels(pads: int, size: float, letters: float) -> List[str]:
+    """The numbers of the pads and of the readings, in letters of this height."""
+    middle, edge, far = short((size + MARGIN) / 2), short(MARGIN - 2), short(MARGIN - 4 - 1.3 * letters)
+    parts = [f'<g font-size="{short(letters)}" text-anchor="middle">', f'<text x="{middle}" y="{far}">reading</text>',
+             f'<text x="{far}" y="{middle}" transform="rotate(-90 {far} {middle})">pad</text>']
+    for k in range(pads):
+        at = MARGIN + CELL * (k + 0.5)
+        parts.append(f'<text x="{edge}" y="{short(at + 0.36 * letters)}" text-anchor="end">{k + 1}</text><text x="{short(at)}" y="{edge}">{k + 1}</text>')
+    return [*parts, "</g>"]

@@ -19,6 +19,8 @@ class Unwritable(Exception):
 
 def shown(name: str) -> str:
     """A name for people: on one line, whatever is in it."""
+    if name == "-":
+        return "standard input"
     clean = name.encode("utf-8", "backslashreplace").decode("utf-8")
     return "".join(c if c.isprintable() else c.encode("unicode_escape").decode("ascii") for c in clean)
 
@@ -44,6 +46,8 @@ def whole(name: str, most: int) -> bytes:
     """The bytes of a file, as many as `most` of them; `-` is standard input."""
     try:
         if name == "-":
+            if sys.stdin is None:
+                raise Unreadable("standard input is closed")
             return sys.stdin.buffer.read(most)
         with open(name, "rb") as held:
             return held.read(most)

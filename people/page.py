@@ -31,6 +31,7 @@ th { border-bottom: .5mm solid #000 }
 .box { display: block; width: 5mm; height: 5mm; margin-left: auto }
 .moves { display: block; max-width: 100%; height: auto; margin-bottom: 3mm; break-inside: avoid }
 .columns { columns: 3; list-style: none; padding: 0; margin: 0; font-size: 9.5pt }
+.counts td:first-child { width: 50% }
 .refused { border: .5mm solid #000; padding: 3mm }
 .sign { margin-top: 8mm }
 .sign span { display: inline-block; border-bottom: .2mm solid #000; width: 40mm; margin-right: 6mm }
@@ -115,7 +116,7 @@ def overview(sheets: List[Sheet], season: Optional[Season]) -> str:
     """The summary of several files, and their season's figures."""
     first, *others = summary(sheets)
     listed = "".join(f"<li>{escape(shown(line))}</li>\n" for line in others)
-    return (f"<section><h1>Night sheets</h1>\n<p>{first}.</p>\n" + (f"<ul>{listed}</ul>\n" if listed else "")
+    return (f"<section><h1>Crossings</h1>\n<p>{first}.</p>\n" + (f"<ul>{listed}</ul>\n" if listed else "")
             + (figures(season) if season else "") + "</section>")
 
 
@@ -137,4 +138,4 @@ def counts(told: List[Count]) -> str:
     most = max(each.count for each in told)
     rows = "".join(f'<tr><td>{escape(each.what)}</td><td class="n">{each.count:,}</td><td>{drawing.count_bar(each.count, most)}</td></tr>\n'
                    for each in told)
-    return f"<table><tbody>\n{rows}</tbody></table>\n"
+    return f'<table class="counts"><tbody>\n{rows}</tbody></table>\n'

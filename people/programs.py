@@ -5,7 +5,7 @@ import os
 import re
 import subprocess
 from dataclasses import dataclass
-from typing import List, Match, Sequence, Tuple, Union
+from typing import List, Sequence, Tuple, Union
 
 import doubles
 
@@ -74,7 +74,7 @@ class Programs:
             raise Failed(f"the program {name} could not be run to its end (status {done.returncode})")
         return done.stdout
 
-    def answer(self, pattern: str, name: str, given: bytes, *words: str) -> Union[Match[str], Refused]:
+    def answer(self, pattern: str, name: str, given: bytes, *words: str) -> Union[re.Match[str], Refused]:
         """The refusal that a program prints, or the match of its whole text with a pattern."""
         text = self.printed(name, given, *words).decode("ascii", "replace")
         refused = re.fullmatch(r"refused ([1-9])\n(?:([a-z][^\n]*)\n)?", text)

@@ -20,6 +20,11 @@ class Progress:
             sys.stderr.write(f"\r\033[Kpanel-order: {done:,} of {self.total:,} files")
             sys.stderr.flush()
 
+    def make_way(self) -> None:
+        """Takes the line away where what follows goes to the terminal too."""
+        if sys.stdout.isatty():
+            self.clear()
+
     def clear(self) -> None:
         """Takes the line away."""
         if self.shown:

@@ -62,7 +62,7 @@ class Sheets(Front):
         wanted = night.text(sheet_of(StandIns(), os.path.join(self.top, "crossings/four-pads.lxp"), False)).split("\n", 1)[1]
         self.assertEqual(self.run_front("--sheet", "crossings/four-pads.lxp"), (0, "Night sheet: crossings/four-pads.lxp\n" + wanted, ""))
         for words in (["--sheet"], ["--sheet", "-"]):
-            self.assertEqual(self.run_front(*words, given=crossing("four-pads.lxp")), (0, "Night sheet: -\n" + wanted, ""))
+            self.assertEqual(self.run_front(*words, given=crossing("four-pads.lxp")), (0, "Night sheet: standard input\n" + wanted, ""))
         self.assertIn("2 pads", self.run_front("--sheet", "--example")[1])
         status, out, err = self.run_front("crossings/singular.lxp", "--sheet")
         self.assertEqual((status, err), (1, ""))
@@ -114,6 +114,19 @@ class Sheets(Front):
             status, _, err = self.run_front(*words, stdout=writer)
             os.close(writer)
             self.assertEqual((status, "could not be written" in err, "Traceback" in err), (2, True, False), err)
+
+    def test_streams(self) -> None:
+        """An input that is closed or a folder, and a closed standard error: nothing of it gets into the answer."""
+        for words in (["--sheet"], ["--csv", "-"], ["--make", "-", "-"], ["--season", "--html", "-"]):
+            status, out, err = self.run_front(*words, stdin=None, preexec_fn=lambda: os.close(0))
+            self.assertEqual((status, out, "standard input is closed" in err or "no file given" in err), (2, "", True), err)
+            folder = os.open(self.top, os.O_RDONLY)
+            status, out, err = self.run_front(*words, stdin=folder)
+            os.close(folder)
+            self.assertEqual((status, out, err), (2, "", "panel-order: standard input is a folder\n"))
+        for words in (["--sheet", "nothing", "crossings/whole-case.lxp"], ["--csv", "nothing"], ["--sheet", "--html"]):
+            told = self.run_front(*words)[1]
+            self.assertEqual(self.run_front(*words, stderr=None, preexec_fn=lambda: os.close(2))[:2], (2, told))
 
     def test_progress(self) -> None:
         """On a terminal a long list shows how far it is, and the line is gone at the end."""
