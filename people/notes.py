@@ -12,7 +12,6 @@ from programs import Load, Pivots, Programs, Refused, Stiffness
 FAR = 6  # loads so many orders of magnitude apart are noted
 SMALL = 6  # a least pivot so many orders below the matrix's greatest number is noted
 GROWN = 3  # a greatest pivot so many orders above it is noted
-SOFT = "A small error in a reading, or in the effect of a pad, can then make a large one in the loads."
 
 
 def notes(programs: Programs, file: bytes, loads: List[Load]) -> List[str]:
@@ -20,10 +19,13 @@ def notes(programs: Programs, file: bytes, loads: List[Load]) -> List[str]:
     pivots = programs.pivots(file) if programs.has("panel_pivots") else None
     if isinstance(pivots, Refused):
         pivots = None
-    told = [toss_ups(pivots, len(loads)), far_apart(loads), nearly_singular(pivots), grown(pivots)]
-    if told[1] or told[2]:
+    soft = [far_apart(loads), small_pivot(pivots)]
+    if any(soft):
+        soft.append("The crossing may be nearly singular, or its pads may be given in different units: then a small error in a reading, or in "
+                    "the effect of a pad, makes a large one in the loads.")
         stiffness = programs.stiffness(file)
-        told.append("" if isinstance(stiffness, Refused) else determinant(stiffness))
+        soft.append("" if isinstance(stiffness, Refused) else determinant(stiffness))
+    told = [toss_ups(pivots, len(loads)), " ".join(filter(None, soft)), grown(pivots)]
     return [note for note in told if note]
 
 
@@ -31,8 +33,7 @@ def toss_ups(pivots: Optional[Pivots], pads: int) -> str:
     """At how many columns the pivot was a toss-up."""
     if not pivots or not pivots.toss_ups:
         return ""
-    columns = f"{pivots.toss_ups} of {pads} columns" if pads > 1 else "the column"
-    return (f"The pivot was a toss-up in {columns}: two readings answered equally there, and the order of the survey decided between "
+    return (f"The pivot was a toss-up in {pivots.toss_ups} of {pads} columns: two readings answered equally there, and the order of the survey decided between "
             "them. Surveyed in another order, the last digits of the loads may be others.")
 
 
@@ -46,15 +47,14 @@ def far_apart(loads: List[Load]) -> str:
     if orders < FAR:
         return ""
     return (f"The loads differ by {orders} orders of magnitude: pad {most.pad} carries {doubles.shortest(most.load)}, pad {least.pad} "
-            f"{doubles.shortest(least.load)}. The crossing may be nearly singular, or its pads may be given in different units. {SOFT}")
+            f"{doubles.shortest(least.load)}.")
 
 
-def nearly_singular(pivots: Optional[Pivots]) -> str:
+def small_pivot(pivots: Optional[Pivots]) -> str:
     """Where the least pivot is small beside the matrix."""
     if not pivots or not pivots.least or doubles.orders_between(pivots.matrix, pivots.least) < SMALL:
         return ""
-    return (f"The crossing may be nearly singular: its least pivot is {doubles.shortest(pivots.least)}, and the greatest number of the "
-            f"matrix {doubles.shortest(pivots.matrix)}. {SOFT}")
+    return f"The least pivot is {doubles.shortest(pivots.least)}, and the greatest number of the matrix {doubles.shortest(pivots.matrix)}."
 
 
 def grown(pivots: Optional[Pivots]) -> str:
