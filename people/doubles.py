@@ -22,11 +22,6 @@ def shortest(number: float) -> str:
     return digits[:-2] if digits.endswith(".0") else digits
 
 
-def power_of_ten(number: Decimal) -> int:
-    """The exponent of a number that is not zero, written with one digit before the point."""
-    return number.adjusted()
-
-
 def orders_between(greater: float, less: float) -> int:
     """How many whole orders of magnitude lie between two positive numbers."""
-    return power_of_ten(Decimal(greater) / Decimal(less))
+    return (Decimal(greater) / Decimal(less)).adjusted()

@@ -30,7 +30,7 @@ th { border-bottom: .5mm solid #000 }
 .bar { display: block; width: 62mm; height: 4.34mm }
 .box { display: block; width: 5mm; height: 5mm; margin-left: auto }
 .moves { display: block; max-width: 100%; height: auto; margin-bottom: 3mm; break-inside: avoid }
-.columns { columns: 3; list-style: none; padding: 0; margin: 0; font-size: 9.5pt }
+.columns { columns: 2; list-style: none; padding: 0; margin: 0; font-size: 9.5pt }
 .counts td:first-child { width: 50% }
 .refused { border: .5mm solid #000; padding: 3mm }
 .sign { margin-top: 8mm }
