@@ -2,8 +2,12 @@
 import sys
 
 if sys.version_info < (3, 8):
-    sys.exit("panel-order: this needs Python 3.8 or later; python3 is %d.%d here" % sys.version_info[:2])
+    sys.stderr.write("panel-order: this needs Python 3.8 or later, and python3 is %d.%d here\n" % sys.version_info[:2])
+    sys.exit(2)
 
-from answers import main
+try:
+    from answers import main
 
-sys.exit(main(sys.argv[1:]))
+    sys.exit(main(sys.argv[1:]))
+except KeyboardInterrupt:
+    sys.exit(130)

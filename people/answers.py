@@ -42,8 +42,8 @@ def main(words: List[str]) -> int:
         say(f"{why}; panel-order --help says how it is used")
     except (Stop, Failed, files.Unreadable, files.Unwritable) as why:
         say(*why.args)
-    except KeyboardInterrupt:
-        return 130
+    except Exception as why:  # no answer must look like a refusal, which has status 1
+        say(f"this should not happen, and nothing more is answered: {type(why).__name__}: {why}")
     return 2
 
 
@@ -152,9 +152,8 @@ def put_text(text: str) -> None:
 
 def put_page(found: Asked, title: str, parts: List[str]) -> None:
     """Writes the page that was asked for."""
-    with open(os.path.join(TOP, "VERSION"), encoding="ascii") as held:
-        whole_page = page.page(title, parts, held.read().strip())
+    version = files.whole(os.path.join(TOP, "VERSION"), 100).decode("ascii", "replace").strip()
     name = found.out or "-"
-    files.put(name, whole_page.encode("utf-8", "backslashreplace"))
+    files.put(name, page.page(title, parts, version).encode("utf-8", "backslashreplace"))
     if name != "-":
         say(f"{name}: a page to print on A4")

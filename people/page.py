@@ -75,8 +75,8 @@ def night(sheet: Sheet) -> str:
         f"<td>{drawing.load_bar(each.load, most)}</td><td>{drawing.BOX}</td></tr>\n" for rank, each in enumerate(sheet.loads, 1))
     notes = "".join(f"<li>{escape(note)}</li>\n" for note in sheet.notes)
     return (f"<section>{head}\n<p>{counted(len(sheet.loads), 'pad')}, the greatest load first. A filled bar acts one way, a hollow one the "
-            'other.</p>\n<table><thead><tr><th class="n">rank</th><th class="n">pad</th><th>load</th><th>beside the greatest</th>'
-            f'<th class="n">done</th></tr></thead>\n<tbody>\n{rows}</tbody></table>\n' + (f"<h2>Notes</h2>\n<ul>{notes}</ul>\n" if notes else "")
+            'other.</p>\n<table><thead><tr><th scope="col" class="n">rank</th><th scope="col" class="n">pad</th><th scope="col">load</th>'
+            f'<th scope="col">beside the greatest</th><th scope="col" class="n">done</th></tr></thead>\n<tbody>\n{rows}</tbody></table>\n' + (f"<h2>Notes</h2>\n<ul>{notes}</ul>\n" if notes else "")
             + '<p class="sign">Date <span></span> Gang <span></span> Signed <span></span></p></section>')
 
 

@@ -4,10 +4,12 @@ from __future__ import annotations
 import os
 import pty
 import shutil
+import signal
 import stat
 import subprocess
 import sys
 import tempfile
+import time
 import unittest
 from typing import Dict, List, Optional, Tuple
 
@@ -67,6 +69,32 @@ class Sheets(Front):
         status, out, err = self.run_front("crossings/singular.lxp", "--sheet")
         self.assertEqual((status, err), (1, ""))
         self.assertIn("No order: refused 6.", out)
+
+    def test_alone(self) -> None:
+        """Modules of the user's, in the folder or on Python's path, are not taken for ours; nothing is left behind."""
+        for name in ("files", "page", "csv", "struct"):
+            put(f"{self.top}/{name}.py", "raise SystemExit(9)\n", 0o644)
+        before = self.names()
+        self.variables["PYTHONPATH"] = self.top
+        self.assertEqual(self.run_front("--sheet", "--example")[0], 0)
+        self.assertEqual((self.names(), os.path.exists(self.top + "/people/__pycache__")), (before, False))
+
+    def test_stopped(self) -> None:
+        """Stopped from the keyboard it ends at once, and without a trace of Python."""
+        os.unlink(self.top + "/bin/panel_order")
+        put(self.top + "/bin/panel_order", f"#!/bin/sh\n: >>'{self.work}/begun'\nsleep 2\n")
+        started = subprocess.Popen(["./panel-order", "--sheet", *["crossings/whole-case.lxp"] * 500], cwd=self.top, env=self.variables,
+                                   stdin=subprocess.DEVNULL, stdout=subprocess.PIPE, stderr=subprocess.PIPE, start_new_session=True)
+        while not os.path.exists(self.work + "/begun"):
+            time.sleep(0.02)
+        os.killpg(started.pid, signal.SIGINT)
+        out, err = started.communicate(timeout=60)
+        self.assertEqual((out, err, started.returncode), (b"", b"", 130))
+
+    def test_what_should_not_happen(self) -> None:
+        """An error of ours has status 2, and not that of a refusal."""
+        put(self.top + "/people/night.py", "def text(sheet):\n    raise ValueError('x')\n", 0o644)
+        self.assertEqual(self.run_front("--sheet", "--example"), (2, "", "panel-order: this should not happen, and nothing more is answered: ValueError: x\n"))
 
     def test_many(self) -> None:
         """A folder and names; the order of the names; a summary; a file that is not there does not stop the others."""
