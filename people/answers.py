@@ -33,11 +33,15 @@ def say(*lines: str) -> None:
 
 
 def main(words: List[str]) -> int:
-    """Answers the words of the front command: the folder of the programs, how to run one, `--`, and what the user typed."""
+    """Answers the words of the front command: the folder of the programs, how to run one, `--`, and what the user typed.
+
+    With no folder yet, where the programs are still to be built, it only looks for what is wrong with the question."""
     ends = words.index("--")
     sys.stdout.reconfigure(encoding="utf-8", errors="surrogateescape", newline="\n")  # type: ignore[union-attr]
     try:
-        return answered(Programs(words[0], words[1:ends]), asked(words[ends + 1:]))
+        found = asked(words[ends + 1:])
+        look_over(found)
+        return answered(Programs(words[0], words[1:ends]), found) if ends else 0
     except Usage as why:
         say(f"{why}; panel-order --help says how it is used")
     except (Stop, Failed, files.Unreadable, files.Unwritable) as why:
@@ -47,10 +51,37 @@ def main(words: List[str]) -> int:
     return 2
 
 
-def answered(programs: Programs, found: Asked) -> int:
-    """Answers the question; the status."""
+def look_over(found: Asked) -> None:
+    """Finds what is wrong with the files of a question, without the programs; standard input is not read yet."""
     if found.out is not None:
         files.leave(found.out, page.is_page, "page of panel-order")
+    if found.question == "--make":
+        sheet, name = found.names
+        if name == "-" and sys.stdout.isatty():
+            raise Usage("a panel file is no text, and is not written to a terminal")
+        files.leave(name, lambda front: front.startswith(b"LXP"), "panel file")
+        if sheet != "-":
+            read_sheet(sheet)
+    elif found.question in ("--csv", "--season"):
+        if found.names != ["-"]:
+            files.whole(found.names[0], 1)
+    else:
+        names = files.named(found.names)
+        missing = [f"{name}: no such file" for name in names if name != "-" and not os.path.lexists(name)]
+        if len(missing) == len(names):
+            raise Stop(*missing)
+
+
+def read_sheet(name: str) -> spreadsheet.Crossing:
+    """The crossing of a spreadsheet."""
+    try:
+        return spreadsheet.read(files.whole(name, spreadsheet.MOST_BYTES + 1))
+    except spreadsheet.BadSheet as why:
+        raise Stop(*(f"{name}: {fault}" for fault in why.faults), "nothing was written") from None
+
+
+def answered(programs: Programs, found: Asked) -> int:
+    """Answers the question; the status."""
     if found.question == "--make":
         return made(programs, *found.names)
     if found.question == "--csv":
@@ -64,14 +95,7 @@ def answered(programs: Programs, found: Asked) -> int:
 
 def made(programs: Programs, sheet: str, name: str) -> int:
     """Writes the panel file of a spreadsheet."""
-    if name == "-" and sys.stdout.isatty():
-        raise Usage("a panel file is no text, and is not written to a terminal")
-    data = files.whole(sheet, spreadsheet.MOST_BYTES + 1)
-    files.leave(name, lambda front: front.startswith(b"LXP"), "panel file")
-    try:
-        crossing = spreadsheet.read(data)
-    except spreadsheet.BadSheet as why:
-        raise Stop(*(f"{sheet}: {fault}" for fault in why.faults), "nothing was written") from None
+    crossing = read_sheet(sheet)
     pads = len(crossing.readings)
     files.put(name, programs.write(crossing.numbers(), pads))
     if name != "-":

@@ -152,7 +152,7 @@ class Sheets(Front):
             status, out, err = self.run_front(*words, stdin=folder)
             os.close(folder)
             self.assertEqual((status, out, err), (2, "", "panel-order: standard input is a folder\n"))
-        for words in (["--sheet", "nothing", "crossings/whole-case.lxp"], ["--csv", "nothing"], ["--sheet", "--html"]):
+        for words in (["--sheet", "nothing", "crossings/whole-case.lxp"], ["--sheet", "nothing"], ["--csv", "nothing"]):
             told = self.run_front(*words)[1]
             self.assertEqual(self.run_front(*words, stderr=None, preexec_fn=lambda: os.close(2))[:2], (2, told))
 
@@ -357,6 +357,13 @@ class Words(Front):
             put(f"{self.top}/crates/{crate}/src/main.rt", "source\n", 0o644)
         put(self.work + "/tools/rt", RT)
         self.variables.update(CALLS=self.work + "/calls", STAND_INS=self.stand_ins)
+        put(self.top + "/bad.csv", "1,x\n")
+        put(self.top + "/crates/panel_write/src/main.rt", "source\n", 0o644)
+        for words in (["--sheet", "-x"], ["--sheet", "people"], ["--sheet", "nothing", "no more"], ["--csv", "nothing"], ["--make", "bad.csv", "new.lxp"], ["--make", "nothing", "new.lxp"],
+                      ["--sheet", "--example", "--html", "VERSION"], ["--season", "--html", "out.html", "nothing"]):
+            self.assertEqual(self.run_front(*words)[:2], (2, ""), words)
+            self.assertEqual(os.path.exists(self.work + "/calls"), False, "a bad question builds nothing")
+        shutil.rmtree(self.top + "/crates/panel_write")
         self.assertEqual(self.run_front("--csv", "crossings/whole-case.lxp")[:2], (0, "pad 1,pad 2,reading\n0,1,5\n2,0,8\n"))
         self.assertEqual(held(self.work + "/calls").split(), [b"panel_stiffness"])
         self.assertEqual(self.run_front("--sheet", "crossings/whole-case.lxp")[0], 0)
