@@ -128,7 +128,7 @@ def season_page(season: Season) -> str:
 def figures(season: Season) -> str:
     """A season's figures."""
     full = f"<p>The season is full: it has {FULL:,} files, and files behind the last of them are not counted.</p>\n" * (season.all_files >= FULL)
-    return (f"<h2>{counted(season.all_files, 'file')}</h2>\n{full}{counts(season.files)}"
+    return (f"<h2>{counted(season.all_files, 'file')} by their answer</h2>\n{full}{counts(season.files)}"
             f"<p>{counted(season.pads, 'pad')} of the accepted files carry something; idle ones are left off.</p>\n"
             f"<h2>Accepted crossings by the least magnitude on the diagonal of their factors</h2>\n{counts(season.bands)}")
 
