@@ -147,6 +147,7 @@ class Bad(unittest.TestCase):
             ("1,2,3\n4,5\n", "row 2 has 2 cells, and row 1 has 3"), ("1,2,3\n4,5,6,7\n", "row 2 has 4 cells, and row 1 has 3"),
             ("1,2,3,4\n4,5,6\n", "row 2 has 3 cells, and row 1 has 4"),
             ("1,2\n3,4\n", "there are 2 rows of numbers with 2 cells each, parted by commas: 2 rows ask for 3 cells"),
+            ("1,2,3,4\n5,6,7,8\n", "there are 2 rows of numbers with 4 cells each"), ("a,b,c,d\n1,2,3,4\n5,6,7,8\n", "2 rows ask for 3 cells"),
             ("1,2,3\n4,5,6\n7,8,9\n", "there are 3 rows of numbers with 3 cells each"), ("a,b,c,d\n1,2,3\n4,5,6\n7,8,9\n", "(row 1 is taken as the head row)"),
             ("1 2 3\n4 5 6\n", "with 1 cells each"), ("1|2|3\n4|5|6\n", "there are 1 rows of numbers with 1 cells each"), ("5\n", "1 rows ask for 2 cells"),
             ("a;b;c\n1;2\n3;4\n", "there are 2 rows of numbers with 2 cells each, parted by semicolons"),
