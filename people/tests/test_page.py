@@ -85,6 +85,16 @@ class Page(unittest.TestCase):
         self.assertIn("<li>A note.</li>", made)
         self.assertEqual(made.count('class="box"'), 4)
 
+    def test_bars(self) -> None:
+        """From the middle to the right or to the left, as long as the load beside the greatest; a count's bar from the left."""
+        for load, left, right in [(2.0, 100, 197), (-2.0, 3, 100), (1.0, 100, 148.5), (-0.5, 75.75, 100), (1e-9, 100, 100.5)]:
+            found = re.search(r'<rect x="([\d.]+)" y="2" width="([\d.]+)"', drawing.load_bar(load, 2.0))
+            assert found
+            self.assertAlmostEqual(float(found[1]), left, delta=0.01)
+            self.assertAlmostEqual(float(found[1]) + float(found[2]), right, delta=0.01)
+        self.assertEqual([drawing.load_bar(0.0, most).count("<rect") for most in (1.0, 0.0)], [0, 0])
+        self.assertEqual([re.findall(r'width="([\d.]+)"', drawing.count_bar(count, 8)) for count in (8, 2, 0)], [["196"], ["49"], []])
+
     def test_names(self) -> None:
         """A name is text, whatever is in it."""
         made = self.page(page.night(four("<b>&\"'\n\udcff.lxp")), page.moves(four("</title><script>")))
