@@ -4,8 +4,9 @@ from __future__ import annotations
 import os
 import struct
 import sys
-from concurrent.futures import ThreadPoolExecutor
-from typing import Iterator, List
+from collections import deque
+from concurrent.futures import Future, ThreadPoolExecutor
+from typing import Deque, Iterator, List
 
 import files
 import night
@@ -19,6 +20,7 @@ from progress import Progress
 from sheets import Sheet, counted, sheet_of, status
 
 MOST_LIST = 64 * 1024 * 1024
+AHEAD = 64  # files that are begun before the first of them is shown
 LONGEST_NAME = 255  # of the names that `panel_season` takes
 
 
@@ -137,12 +139,16 @@ def sheets_of(programs: Programs, found: Asked) -> int:
 
 
 def in_order(programs: Programs, names: List[str], moves: bool) -> Iterator[Sheet]:
-    """The sheets in the order of the names, some at a time."""
+    """The sheets in the order of the names, some at a time; whoever stops waits for no more than those at work."""
+    begun: Deque[Future[Sheet]] = deque()
     with ThreadPoolExecutor(max_workers=min(8, os.cpu_count() or 1)) as pool:
-        begun = [pool.submit(sheet_of, programs, name, moves) for name in names]
         try:
-            for each in begun:
-                yield each.result()
+            for name in names:
+                begun.append(pool.submit(sheet_of, programs, name, moves))
+                if len(begun) > AHEAD:
+                    yield begun.popleft().result()
+            while begun:
+                yield begun.popleft().result()
         finally:
             for each in begun:
                 each.cancel()
