@@ -1,4 +1,4 @@
-// The peer Eigen for the program in C: PartialPivLU with run-time sizes, over stores that are allocated once.
+// The peer Eigen for the program in C: PartialPivLU with run-time sizes, over stores that are allocated once; and for four pads with sizes that the compiler knows.
 #include <Eigen/Dense>
 #include <cstddef>
 
@@ -15,4 +15,9 @@ extern "C" void eigen_factor(void *e, const double *a) {
 extern "C" void eigen_solve(void *e, const double *b, double *x) {
     const auto *lu = static_cast<const Factored *>(e);
     Eigen::Map<Eigen::VectorXd>(x, lu->rows()).noalias() = lu->solve(Eigen::Map<const Eigen::VectorXd>(b, lu->rows()));
+}
+
+extern "C" void eigen_four(const double *a, const double *b, double *x) {
+    Eigen::Map<Eigen::Vector4d> solution(x);
+    solution = Eigen::Matrix4d(Eigen::Map<const Eigen::Matrix4d>(a)).partialPivLu().solve(Eigen::Map<const Eigen::Vector4d>(b));
 }

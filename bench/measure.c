@@ -21,6 +21,7 @@ _Bool original_solve_vector(struct original *o, const double *b);
 const double *original_solution(const struct original *o);
 const double *original_factors(const struct original *o);
 size_t original_pairs(const struct original *o, size_t *swaps);
+_Bool original_four(const double *a, const double *b, double *x);
 // original/src/by_hand.rs
 void by_hand_add_column(double *factors, const double *raw, size_t *swaps, size_t m, size_t n, size_t *pairs, size_t *dead);
 size_t by_hand_tested_add_column(double *factors, size_t factors_length, const double *raw, size_t raw_length, size_t *swaps,
@@ -123,6 +124,10 @@ static void its_solve(struct input *p) { p->wrong |= !original_solve(p->original
 static void its_solve_vector(struct input *p) { p->wrong |= !original_solve_vector(p->original, p->b); }
 static void its_both(struct input *p) { its_factor(p); its_solve(p); }
 
+// Four pads: one call that factors and solves. Our profile and the general calls tell the factors and the swaps too; the others only the loads.
+static void our_four(struct input *p) { p->wrong |= wejdarox_four_pads(p->a, p->b, p->factors, &p->pairs, p->swaps, p->x); }
+static void its_four(struct input *p) { p->wrong |= !original_four(p->a, p->b, p->x); }
+
 static void hand_add(struct input *p) {
     by_hand_add_column(p->narrow, p->last, p->narrow_swaps, p->n, p->n - 1, &p->narrow_pairs, &p->narrow_dead);
 }
@@ -134,9 +139,11 @@ static void hand_tested_add(struct input *p) {
 void *eigen_new(size_t n);
 void eigen_factor(void *e, const double *a);
 void eigen_solve(void *e, const double *b, double *x);
+void eigen_four(const double *a, const double *b, double *x);
 static void eigens_factor(struct input *p) { eigen_factor(p->eigen, p->a); }
 static void eigens_solve(struct input *p) { eigen_solve(p->eigen, p->b, p->x); }
 static void eigens_both(struct input *p) { eigens_factor(p); eigens_solve(p); }
+static void eigens_four(struct input *p) { eigen_four(p->a, p->b, p->x); }
 #else
 static void *eigen_new(size_t n) { return n ? NULL : NULL; }
 #endif
@@ -160,21 +167,24 @@ static void lapacks_solve(struct input *p) {
 static void lapacks_both(struct input *p) { lapacks_factor(p); lapacks_solve(p); }
 #endif
 
-// In a round each is timed once, in this order. Factoring comes first: solving uses its factors.
-static const struct contender { const char *work, *who; void (*call)(struct input *); } contenders[] = {
+// In a round each is timed once, in this order. Factoring comes first: solving uses its factors. `only` is the one size that a call is for, 0 for every size.
+static const struct contender { const char *work, *who; void (*call)(struct input *); size_t only; } contenders[] = {
     {"factor", "ours", our_factor}, {"factor", "original", its_factor}, {"factor", "refused", refused_factor},
     {"solve", "ours", our_solve}, {"solve", "original", its_solve}, {"solve", "vector", its_solve_vector}, {"solve", "refused", refused_solve},
     {"both", "ours", our_both}, {"both", "original", its_both},
     {"add", "ours", our_add}, {"add", "by-hand", hand_add}, {"add", "by-hand-tested", hand_tested_add},
     {"add", "refused", refused_add},
+    {"four", "ours", our_four, 4}, {"four", "general", our_both, 4}, {"four", "original", its_four, 4},
 #ifdef EIGEN
-    {"factor", "eigen", eigens_factor}, {"solve", "eigen", eigens_solve}, {"both", "eigen", eigens_both},
+    {"factor", "eigen", eigens_factor}, {"solve", "eigen", eigens_solve}, {"both", "eigen", eigens_both}, {"four", "eigen", eigens_four, 4},
 #endif
 #ifdef LAPACK
     {"factor", "lapack", lapacks_factor}, {"solve", "lapack", lapacks_solve}, {"both", "lapack", lapacks_both},
 #endif
 };
 enum { CONTENDERS = sizeof contenders / sizeof *contenders };
+
+static int is_for(const struct contender *c, size_t n) { return c->only == 0 || c->only == n; }
 
 // ---- the bits
 
@@ -229,6 +239,21 @@ static void check_add(const double *a, const struct original *o, size_t m, size_
     }
 }
 
+// Four pads at once: the number, or the factors, swaps and loads of factoring and solving.
+static void check_four(const double *a, enum kind kind) {
+    struct factored f = {.factors = (double[16]){0}}, g = {.factors = (double[16]){0}};
+    double b[4], x[4] = {0}, y[4], z[4];
+    fill(b, 4, kind);
+    size_t right = factor(a, 4, 4, f.factors, f.swaps, &f.pairs, &f.dead, &f.toss_ups);
+    if (!right) right = solve(f.factors, f.swaps, 4, f.pairs, f.dead, b, x);
+    size_t answer = wejdarox_four_pads(a, b, g.factors, &g.pairs, g.swaps, y);
+    if (answer != right) stop("four pads", "another number than the general path's", 4, 4);
+    if (right) return;
+    if (g.pairs != f.pairs || !same(g.swaps, f.swaps, 8) || !same(g.factors, f.factors, 16) || !same(x, y, 4))
+        stop("four pads", "other factors, swaps or loads than the general path's", 4, 4);
+    if (!original_four(a, b, z) || !same(z, x, 4)) stop("four pads", "the original with known sizes gives another solution", 4, 4);
+}
+
 static void check(const double *a, size_t m, size_t n, enum kind kind) {
     struct factored f = {.factors = numbers(m * n)};
     struct original *o = original_new(m, n);
@@ -241,6 +266,7 @@ static void check(const double *a, size_t m, size_t n, enum kind kind) {
         if (m == n) check_solve(&f, o, n, kind);
         check_add(a, o, m, n);
     }
+    if (m == 4 && n == 4) check_four(a, kind);
     compared++;
     free(f.factors);
     original_free(o);
@@ -248,7 +274,7 @@ static void check(const double *a, size_t m, size_t n, enum kind kind) {
 
 static void check_random(void) {
     for (int k = 0; k < RANDOM_MATRICES; k++) {
-        size_t m = 1 + draw() % 64, n = k % 2 ? m : 1 + draw() % 64;
+        size_t m = k % 10 == 1 ? 4 : 1 + draw() % 64, n = k % 2 ? m : 1 + draw() % 64;
         double *a = numbers(m * n);
         enum kind kind = k / 2 % KINDS;
         fill(a, m * n, kind);
@@ -262,8 +288,9 @@ static void try_all(struct input *p) {
     its_both(p);
     const double *its = original_solution(p->original);
     for (int c = 0; c < CONTENDERS; c++) {
+        if (!is_for(&contenders[c], p->n)) continue;
         contenders[c].call(p);
-        if (strcmp(contenders[c].work, "both") != 0) continue;
+        if (strcmp(contenders[c].work, "both") != 0 && strcmp(contenders[c].work, "four") != 0) continue;
         for (size_t i = 0; i < p->n; i++)
             if (!(fabs(p->x[i] - its[i]) <= 1e-6 * (1 + fabs(its[i])))) stop(contenders[c].who, "another solution than the original's", p->n, p->n);
     }
@@ -314,13 +341,15 @@ static void measure(struct input *inputs, int rounds) {
     double least[CONTENDERS];
     size_t turns[CONTENDERS];
     for (int c = 0; c < CONTENDERS; c++) {
-        turns[c] = turns_for(contenders[c].call, inputs);
+        if (is_for(&contenders[c], inputs->n)) turns[c] = turns_for(contenders[c].call, inputs);
         least[c] = INFINITY;
     }
     for (int r = 0; r < rounds; r++)
-        for (int c = 0; c < CONTENDERS; c++) least[c] = fmin(least[c], time_of(contenders[c].call, inputs, turns[c]));
+        for (int c = 0; c < CONTENDERS; c++)
+            if (is_for(&contenders[c], inputs->n)) least[c] = fmin(least[c], time_of(contenders[c].call, inputs, turns[c]));
     for (int c = 0; c < CONTENDERS; c++)
-        printf("%s %zu %s %.2f\n", contenders[c].work, inputs->n, contenders[c].who, least[c] / (double)(turns[c] * INPUTS));
+        if (is_for(&contenders[c], inputs->n))
+            printf("%s %zu %s %.2f\n", contenders[c].work, inputs->n, contenders[c].who, least[c] / (double)(turns[c] * INPUTS));
     fflush(stdout);
 }
 

@@ -1,4 +1,4 @@
-// Prints the bytes of stack that the calls take at 64 pads: the stack below the caller is painted, the call is made, and what it wrote over is
+// Prints the bytes of stack that the calls take at 64 pads, and those of four pads at four: the stack below the caller is painted, the call is made, and what it wrote over is
 // counted, less what an empty call writes. A program for x86-64 that needs no C library, so that an emulator can run it.
 #include "wejdarox.h"
 
@@ -45,6 +45,8 @@ APART void is_invertible(void) { answer = wejdarox_is_invertible(factors, FULL, 
 APART void rank(void) { answer = wejdarox_rank(x, 64, 64, ranks, 64, &listed); __asm__ volatile(""); }
 APART void order(void) { answer = wejdarox_pad_order(file, sizeof file, ranks, loads, &pads, &toss_ups); __asm__ volatile(""); }
 APART void stiffness(void) { answer = wejdarox_stiffness(file, sizeof file, &value, &exponent, &toss_ups); __asm__ volatile(""); }
+APART void four_pads(void) { answer = wejdarox_four_pads(a, column, factors, &pairs, swaps, x); __asm__ volatile(""); }
+APART void four_pads_of(void) { answer = wejdarox_four_pads_of(file, HEAD + 20 * 8, factors, &pairs, swaps, x); __asm__ volatile(""); }
 APART void with_file(void) { answer = wejdarox_with_file(file, sizeof file, &season); __asm__ volatile(""); }
 
 static size_t taken(void (*call)(void)) {
@@ -96,5 +98,9 @@ __attribute__((used)) void start(void) {
     memset(a, 0, 64 * sizeof *a); // the first step is skipped
     wejdarox_factor(a, FULL - 64, 64, 63, factors, FULL - 64, swaps, 128, &pairs, &dead, &toss_ups);
     say("add_skipped", add);
+    numbers(a, 16);
+    memcpy(file, "LXP\1\0\4", HEAD);
+    say("four_pads", four_pads);
+    say("four_pads_of", four_pads_of);
     leave(0);
 }

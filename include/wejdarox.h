@@ -26,11 +26,12 @@
  *             9  the number of dead columns is not that of the factors; it is tested after 5 and before 6
  *             10 the season is full: wejdarox_with_file alone
  *             1 to 6, 8 to 10 are answered before the work: every slice is left as it was. 7 is answered after it: results are +0.0, as each call says.
+ *             The two calls of four pads alone leave zeros in all of their results by any refusal.
  *
  *  A caller   owes that
  *             - a pointer beside a length n points to n elements of its type, aligned, for the time of the call; where n is 0 nothing is read or written
  *               through it, and it is still no null pointer;
- *             - a pointer to one number, or to an array of 64 or 1288, points to it in the same way;
+ *             - a pointer to one number, or to an array whose length stands here, points to it in the same way;
  *             - all of these hold values of their type when the call begins, outputs too: any bytes are a double, a size_t or an int32_t, so that an output
  *               need not be set; a `bool` holds false or true;
  *             - what a call may change (a pointer without `const`) is apart from every other slice and number of that call;
@@ -56,8 +57,8 @@ extern "C" {
 /*
  * The version of this header and of the archive that it was packed with: the same number as in the file VERSION.
  * Since 0.7.0: a record has a fourth number, the dead columns. The six calls on matrices take it behind the pairs (wejdarox_factor and
- * wejdarox_add_column through a pointer, the others as it is), and those that take factors can answer 9. wejdarox_scaled_determinant, wejdarox_stiffness
- * and wejdarox_with_file are new.
+ * wejdarox_add_column through a pointer, the others as it is), and those that take factors can answer 9. wejdarox_scaled_determinant, wejdarox_stiffness,
+ * wejdarox_with_file, wejdarox_why_factor and wejdarox_why_solve are new.
  */
 #define WEJDAROX_VERSION "0.8.0"
 
@@ -307,7 +308,8 @@ size_t wejdarox_solve(const double *factors, size_t factors_len, const size_t *s
  * wejdarox_tr_solve
  *
  *  Purpose
- *  =======
+ *  
+/*
  *  Solves A^T * X = B by the factors of the square matrix A.
  *
  *  Arguments and answer
@@ -388,6 +390,56 @@ size_t wejdarox_l(const double *factors, size_t factors_len, const size_t *swaps
  */
 size_t wejdarox_u(const double *factors, size_t factors_len, const size_t *swaps, size_t swaps_len, size_t m, size_t n,
                   size_t pairs, size_t dead, double *x, size_t x_len);
+=======
+ * wejdarox_why_factor
+ *
+ *  Purpose
+ *  =======
+ *  Tells why wejdarox_factor would refuse the same arguments: its number and, for 7, where the first result stands that is not finite. It leaves factors
+ *  and swaps as wejdarox_factor leaves them.
+ *
+ *  Arguments
+ *  =========
+ *  a to swaps_len: as for wejdarox_factor.
+ *  step      (output) for 7 the step of the elimination that stored the result, counted from 0; else 0.
+ *  column    (output) for 7 the column that it was stored in; else 0.
+ *  row       (output) for 7 the row that it was stored in, as the rows stood after that step's exchange; else 0.
+ *
+ *  Answer
+ *  ======
+ *  0  no reason: wejdarox_factor accepts the arguments
+ *  1, 3, 5, 7  the number with which it refuses them     factors and swaps as it leaves them
+ *  The results are those of the original, in its order: step by step; the multipliers of the step's own column, then each column to the right; in each the
+ *  rows below the step, from the top.
+ */
+size_t wejdarox_why_factor(const double *a, size_t a_len, size_t m, size_t n, double *factors, size_t factors_len,
+                           size_t *swaps, size_t swaps_len, size_t *step, size_t *column, size_t *row);
+
+/*
+ * wejdarox_why_solve
+ *
+ *  Purpose
+ *  =======
+ *  Tells why wejdarox_solve would refuse the same arguments: its number; for 6 the dead column; for 7 where the first result stands that is not finite. It
+ *  leaves x as wejdarox_solve leaves it.
+ *
+ *  Arguments
+ *  =========
+ *  factors to x_len: as for wejdarox_solve.
+ *  pass      (output) for 7 the pass that stored the result: 1 the unit lower one, 2 the upper one; else 0.
+ *  column    (output) for 7 the right-hand column, counted from 0; for 6 the lowest column with a zero on the diagonal; else 0.
+ *  row       (output) for 7 the row; else 0.
+ *
+ *  Answer
+ *  ======
+ *  0  no reason: wejdarox_solve accepts the arguments
+ *  1 to 5, 9, 6, 7  the number with which it refuses them   x as it leaves it
+ *  The results are those of the original, in its order: the lower pass over all right-hand columns, then the upper pass over all. In each column it goes
+ *  row by row: downward, and for each the rows below it; upward, and for each its quotient, then the rows above it from 0 on.
+ */
+size_t wejdarox_why_solve(const double *factors, size_t factors_len, const size_t *swaps, size_t swaps_len, size_t m, size_t n,
+                          size_t pairs, size_t dead, const double *b, size_t b_len, size_t k, double *x, size_t x_len,
+                          size_t *pass, size_t *column, size_t *row);
 
 /*
  * wejdarox_inverse
@@ -939,6 +991,64 @@ struct wejdarox_season {
  *  file is never changed. In whatever order up to 4000 files are handed over, the counts are the same.
  */
 size_t wejdarox_with_file(const uint8_t *file, size_t file_len, struct wejdarox_season *season);
+
+/*
+ * wejdarox_four_pads
+ *
+ *  Purpose
+ *  =======
+ *  Factors and solves a crossing of exactly four pads: bit for bit what wejdarox_factor and then wejdarox_solve give, in less time.
+ *
+ *  Arguments
+ *  =========
+ *  matrix    (input) double array, dimension (4 * 4)
+ *            The matrix, column after column.
+ *  readings  (input) double array, dimension (4)
+ *  factors   (output) double array, dimension (4 * 4)
+ *            L and U packed, as wejdarox_factor leaves them. Refused: +0.0.
+ *  pairs     (output) the number of pairs, at most 3. Refused: 0.
+ *  swaps     (output) array of numbers, dimension (8)
+ *            The exchanged rows, pair after pair; what follows the last pair is 0. Refused: 0.
+ *  loads     (output) double array, dimension (4)
+ *            The loads, in the order of the pads. Refused: +0.0.
+ *
+ *  Answer
+ *  ======
+ *  0  done
+ *  5  a number of matrix or readings is not finite
+ *  7  a factor is not finite
+ *  6  the matrix is singular: a zero of either sign on the diagonal of its factors
+ *  7  a load is not finite
+ *  They are tested in this order. matrix and readings are never changed.
+ */
+size_t wejdarox_four_pads(const double matrix[16], const double readings[4], double factors[16], size_t *pairs, size_t swaps[8],
+                          double loads[4]);
+
+/*
+ * wejdarox_four_pads_of
+ *
+ *  Purpose
+ *  =======
+ *  The same for a panel file of four pads.
+ *
+ *  Arguments
+ *  =========
+ *  file      (input) bytes, dimension (file_len)
+ *            The file, as wejdarox_pad_order takes it.
+ *  file_len  (input) how many bytes the file has: 166.
+ *  factors, pairs, swaps, loads (output) as in wejdarox_four_pads.
+ *
+ *  Answer
+ *  ======
+ *  0  done
+ *  8  under 6 bytes, another mark or another version
+ *  1  the number of pads is not 4
+ *  3  the file has not 166 bytes
+ *  5  a number of the file is not finite
+ *  7, 6, 7  as in wejdarox_four_pads
+ *  They are tested in this order: on a file of four pads the number is that of wejdarox_pad_order. file is never changed.
+ */
+size_t wejdarox_four_pads_of(const uint8_t *file, size_t file_len, double factors[16], size_t *pairs, size_t swaps[8], double loads[4]);
 
 #ifdef __cplusplus
 }

@@ -111,10 +111,11 @@ put('dimension.rs',
     '// ADDED header\nuse std::any::{Any, TypeId};\nuse std::cmp;\nuse std::fmt::Debug;\n'
     '#[derive(Clone, Copy, Eq, PartialEq, Debug)]\npub struct Dyn(pub usize);\n',
     '// CUT dimension.rs 68-108 (Dim, Dim for Dyn)\n', cut(B + 'dimension.rs', 68, 108),
-    '// ADDED: the DimMin lines of the dim_ops! macro, for Dyn alone\n'
+    '// ADDED: the DimMin lines of the dim_ops! macro, for Dyn and for equal sizes\n'
     'pub type DimMinimum<D1, D2> = <D1 as DimMin<D2>>::Output;\n'
     'pub trait DimMin<D: Dim>: Dim { type Output: Dim; fn min(self, other: D) -> Self::Output; }\n'
     'impl<D: Dim> DimMin<D> for Dyn { type Output = Dyn; fn min(self, other: D) -> Dyn { Dyn(cmp::min(self.value(), other.value())) } }\n'
+    'impl<const N: usize> DimMin<Const<N>> for Const<N> { type Output = Const<N>; fn min(self, _: Const<N>) -> Const<N> { self } }\n'
     '#[derive(Debug, Copy, Clone, PartialEq, Eq, Hash)]\n',
     '// CUT dimension.rs 223-235, 265-297\n', cut(B + 'dimension.rs', 223, 235), cut(B + 'dimension.rs', 265, 297),
     '// ADDED\npub type U2 = Const<2>; pub type U3 = Const<3>; pub type U4 = Const<4>;\n')

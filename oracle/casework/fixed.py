@@ -1,5 +1,6 @@
 """The cases that every list begins with: document 01's table, one fault at a time in every place, the largest sizes; and the
 bad cases, of which a list can hold one, at its end."""
+import itertools
 import random
 import struct
 from array import array
@@ -561,7 +562,7 @@ def faults_of(case):
             yield bad
     for at, (name, kind) in enumerate(op.slices):
         items = case.slices[at]
-        if name not in ('pairs', 'diagonal', 'two numbers'):
+        if name not in ('pairs', 'diagonal', 'two numbers') and case.op != 32:
             yield changed(case, at, items[:-1])
             yield changed(case, at, items + items[:1])
         if kind == FLOATS:
@@ -611,6 +612,7 @@ def good(op):
         25: lambda: Case(25, 3, 3, 2, [matrix, *told, b, x]),
         27: lambda: Case(27, 4, 3, 0, [tall, wide, swap_store(9, 9)]),
         28: lambda: Case(28, 3, 3, 2, [matrix, *told, b, x]),
+        32: lambda: four(doubles(*FOUR), doubles(1.0, -2.0, 3.0, -4.0)),
         35: lambda: Case(35, 4, 3, 0, [tall, wide, swap_store(9, 9)]),
     }.get(op, lambda: Case(op, 0, 3, 2, [matrix, b, x]) if op < 14 else Case(op, 4, 3, 0, [*list_, tall]))()
 
@@ -711,6 +713,77 @@ def moves():
         yield moves_case(n + 1, file)
 
 
+# ---- four pads
+
+FOUR = (4.0, 1.0, -2.0, 0.5, 6.0, 1.0, 3.0, 8.0, 1.0, 2.0, -1.0, 0.25, 1.0, -3.0, 5.0, 7.0)
+LEAST, MOST = 2.0 ** -1074, (2.0 - 2.0 ** -52) * 2.0 ** 1023
+
+
+def four(matrix, readings):
+    return Case(32, 0, 0, 0, [matrix, readings])
+
+
+def by_permutation(*rows):
+    """Column j has a number in one row alone, so every list of swaps comes."""
+    return doubles(*(float(j + 2) if r == row else 0.0 for j, row in enumerate(rows) for r in range(4)))
+
+
+def crossings_of_four():
+    """Every order of the rows; toss-ups; a dead column in each place; factoring's 7 and the solve's, each step and row of them; two at once."""
+    readings = doubles(1.0, -2.0, 3.0, -4.0)
+    for rows in itertools.permutations(range(4)):
+        yield by_permutation(*rows), readings
+    yield doubles(*FOUR), doubles(0.0, -0.0, 0.0, -0.0)
+    yield doubles(*[1.0, -1.0, 1.0, -1.0] * 4), readings
+    yield doubles(1.0, -1.0, 1.0, -1.0, 2.0, 2.0, -2.0, 2.0, 1.0, 2.0, 2.0, -2.0, 1.0, 1.0, 1.0, 5.0), readings
+    yield doubles(*[0.0] * 16), readings
+    yield doubles(*[-0.0] * 16), readings
+    for dead in range(4):
+        for zero in (0.0, -0.0):
+            columns = [list(by_permutation(0, 1, 2, 3)[4 * j:4 * j + 4]) for j in range(4)]
+            columns[dead] = [zero] * 4
+            yield doubles(*(x for c in columns for x in c)), readings
+            yield doubles(*(x for c in columns for x in c)), doubles(1.0, -2.0, floats.NOT_FINITE[0], 1.0)        # 5 before 6
+    for step in range(4):
+        for small in (2.0 ** -1024, 2.0 ** -1023, LEAST):                            # below the last step no reciprocal is used
+            diagonal = [1.0] * 4
+            diagonal[step] = small
+            matrix = doubles(*(diagonal[i] if i == j else 0.0 for i in range(4) for j in range(4)))
+            yield matrix, doubles(0.0, 0.0, 0.0, 0.0)
+            yield matrix, doubles(1.0, 1.0, 1.0, 1.0)                                 # of the last: the solve's 7
+            yield matrix, doubles(floats.NOT_FINITE[1], 1.0, 1.0, 1.0)                # 5 before 7
+    yield doubles(1.0, -1.0, 0.0, 0.0, MOST, MOST, 0.0, 0.0, 0.0, 0.0, 1.0, 0.0, 0.0, 0.0, 0.0, 1.0), readings     # an update overflows
+    yield doubles(1.0, 1.0, 0.0, 0.0, 0.0, 1.0, 1.0, 0.0, 0.0, 0.0, 1.0, 1.0, 0.0, 0.0, 0.0, 1.0), doubles(-MOST, MOST, 0.0, 0.0)   # lower pass
+    yield doubles(1.0, 0.0, 0.0, 0.0, MOST, 1.0, 0.0, 0.0, 0.0, 0.0, 1.0, 0.0, 0.0, 0.0, 0.0, 1.0), doubles(1.0, 2.0, 0.0, 0.0)     # upper pass
+    yield doubles(*[MOST] * 16), readings
+    yield doubles(*[LEAST] * 16), readings
+    for at in range(16):
+        for value in floats.NOT_FINITE[:3]:
+            yield with_item(doubles(*FOUR), at, value), readings
+    for at in range(4):
+        for value in floats.NOT_FINITE[:3]:
+            yield doubles(*FOUR), with_item(readings, at, value)
+
+
+def four_files():
+    """Each of those as a file; one of them damaged; files of other sizes, and the heads of some alone."""
+    for matrix, readings in crossings_of_four():
+        yield panel(4, matrix + readings)
+    whole = panel(4, doubles(*FOUR, 1.0, -2.0, 3.0, -4.0))
+    for length in (0, 1, 5, 6, 7, 134, len(whole) - 8, len(whole) - 1):
+        yield whole[:length]
+    yield from (whole + b'\0', whole + bytes(8), whole * 2)
+    for at in range(5):
+        yield whole[:at] + bytes([whole[at] ^ 1]) + whole[at + 1:]
+    for pads in (0, 1, 2, 3, 5, 6, 8, 12, 20, 36, 63, 64, 65, 68, 132, 255):
+        yield whole[:5] + bytes([pads])                                               # 1 before 3
+    for pads in (1, 2, 3, 5, 6, 9, 63, 64):
+        r = random.Random(f'{pads} pads, not four')
+        yield panel(pads, floats.unit(r, pads * (pads + 1)))
+    yield b'M' + panel(3, doubles(*[1.0] * 12))[1:]                                   # 8 before 1
+    yield panel(3, doubles(floats.NOT_FINITE[0], *[1.0] * 11))                        # 1 before 5
+
+
 def one_pad(x):
     """A file of one pad with this number on the diagonal; its load is 1."""
     return panel(1, doubles(x, x))
@@ -756,7 +829,7 @@ def largest():
     for op, make in MAKERS.items():
         r = random.Random(f'largest {op}')
         if op in SQUARE:
-            if op not in (20, 21, 26, 29, 31, 34):
+            if op not in (20, 21, 26, 29, 31, 32, 33, 34):
                 yield make(r, op, 64, 1)
             if op in (3, 12, 25, 28):
                 yield make(r, op, 63, 2)
@@ -781,7 +854,7 @@ def fixed():
     """All of them, as generators: makers ask the oracle."""
     for _, case, _ in table():
         yield done(case)
-    for case in (*added(), *given(), *tossed(), *removed(), *transposed(), *dead(), *kept(), *explained(), *scaled()):
+    for case in (*(four(*numbers) for numbers in crossings_of_four()), *added(), *given(), *tossed(), *removed(), *transposed(), *dead(), *kept(), *explained(), *scaled()):
         yield done(case)
     for op in OPS:
         if op in (20, 29):
@@ -793,6 +866,9 @@ def fixed():
         elif op == 31:
             for case in stiff():
                 yield done(case)
+        elif op == 33:
+            for file in four_files():
+                yield done(file_case(file, op))
         elif op == 34:
             for case in seasons():
                 yield done(case)
@@ -824,6 +900,8 @@ def bad_cases():
     for op in HELD:                                                                     # other than two numbers of pairs and dead columns
         for told in (pairs(2), array('Q'), array('Q', [2, 0, 0])):
             yield encode(changed(good(op), good(op).at('pairs'), told))
+    for at, items in ((0, doubles(*FOUR[:15])), (0, doubles(*FOUR, 1.0)), (1, doubles(1.0, 2.0, 3.0)), (1, doubles(*[1.0] * 5)), (0, doubles())):
+        yield encode(changed(good(32), at, items))                                    # other than sixteen numbers and four
     season = season_case([one_pad(4.0)] * 2)
     for lengths in ((24, 25), (49,), (2 ** 63, 2 ** 63), (44, 2 ** 64 - 1)):          # more bytes than are there
         yield encode(changed(season, 0, array('Q', lengths)))

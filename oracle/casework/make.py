@@ -10,7 +10,7 @@ from .wire import Case, FLOATS, HELD, LONGEST, OPS, hexes, unhex
 
 # how often each op comes in a round
 TURNS = {1: 4, 2: 4, 3: 3, 4: 2, 5: 2, 6: 2, 7: 4, 8: 4, 9: 2, 10: 2, 11: 2, 12: 3, 13: 3,
-         14: 4, 15: 4, 16: 4, 17: 4, 18: 2, 19: 2, 20: 2, 21: 2, 22: 4, 23: 2, 24: 2, 25: 3, 26: 2, 27: 4, 28: 4, 29: 3, 30: 3, 31: 2, 34: 2, 35: 4}
+         14: 4, 15: 4, 16: 4, 17: 4, 18: 2, 19: 2, 20: 2, 21: 2, 22: 4, 23: 2, 24: 2, 25: 3, 26: 2, 27: 4, 28: 4, 29: 3, 30: 3, 31: 2, 32: 3, 33: 3, 34: 2, 35: 4}
 ROUND = [(op, turn) for turn in range(max(TURNS.values())) for op in TURNS if turn < TURNS[op]]
 
 JUNK = [0, 1, 63, 64, 65, 255, 2 ** 32, 2 ** 63, 2 ** 64 - 1]
@@ -277,6 +277,32 @@ def stiffness_case(file):
     return Case(31, 0, 0, whole.k, whole.slices)
 
 
+def four_numbers(r):
+    """The matrix and the readings of four pads: one in ten is made to overflow when it is factored, one when it is solved; one in twenty is singular."""
+    how = r.random()
+    if how < 0.1:
+        return overflow.overflowing_matrix(r, 4, 4), floats.matrix(r, 4, 1)
+    if how < 0.25:
+        return (overflow.overflowing_crossing if how < 0.2 else overflow.singular_crossing)(r, 4)
+    matrix = floats.matrix(r, 4, 4)
+    if how < 0.6:
+        floats.without_zero_diagonal(r, 4, matrix)
+    return matrix, floats.matrix(r, 4, 1)
+
+
+def make_four(r, op, n, k):
+    return Case(op, 0, 0, 0, [*four_numbers(r)])
+    yield
+
+
+def make_four_file(r, op, n, k):
+    """One in ten has another size."""
+    if r.random() < 0.1:
+        return file_case((yield from make_file(r, op, n, k)).slices[0], op)
+    matrix, readings = four_numbers(r)
+    return file_case(panel(4, matrix + readings), op)
+
+
 def season_case(files):
     """As many of the files as the slice of bytes can hold."""
     held, joined = [], b''
@@ -316,9 +342,10 @@ MAKERS = {1: make_factor, 2: make_add, 3: make_solve, 4: make_square, 5: make_sq
           9: make_triangular, 10: make_triangular, 11: make_triangular, 12: make_triangular, 13: make_triangular,
           14: make_permute, 15: make_permute, 16: make_permute, 17: make_permute, 18: make_append, 19: make_rank, 20: make_file,
           21: make_write, 22: make_remove, 23: make_search, 24: make_triangular, 25: make_solve, 26: make_moves,
-          27: make_why_factor, 28: make_why_solve, 29: make_why_file, 30: make_scaled, 31: make_stiffness, 34: make_season,
+          27: make_why_factor, 28: make_why_solve, 29: make_why_file, 30: make_scaled, 31: make_stiffness, 32: make_four,
+          33: make_four_file, 34: make_season,
           35: make_factor}
-SQUARE = (3, 4, 5, 6, 9, 10, 11, 12, 13, 19, 20, 21, 24, 25, 26, 28, 29, 30, 31, 34)      # ops whose two sizes are the matrix's and the right-hand columns'
+SQUARE = (3, 4, 5, 6, 9, 10, 11, 12, 13, 19, 20, 21, 24, 25, 26, 28, 29, 30, 31, 32, 33, 34)      # ops whose two sizes are the matrix's and the right-hand columns'
 
 
 # ---- faults: each changes a good case in place; the rules say what the changed case gives
@@ -430,7 +457,7 @@ def append_fault(r, c):
 
 def faults_of(op):
     names = [name for name, _ in OPS[op].slices]
-    kinds = [size_fault, length_fault]
+    kinds = [size_fault, length_fault] if op != 32 else []      # 32 has no sizes, and takes no other lengths
     if 'pairs' in names:
         kinds += [list_fault, list_fault]
     if any(kind == FLOATS for _, kind in OPS[op].slices):
@@ -446,7 +473,7 @@ def faults_of(op):
     return kinds
 
 
-FAULTS = {op: faults_of(op) for op in OPS if op not in (20, 26, 34)}
+FAULTS = {op: faults_of(op) for op in OPS if op not in (20, 26, 33, 34)}
 
 
 def damaged(r, c):
@@ -505,7 +532,7 @@ def spoiled(r, c):
     """The case with one fault, or two or three at once: the order of the tests then shows."""
     times = r.choice((1, 1, 1, 2, 2, 3))
     for _ in range(times):
-        if c.op in (20, 29):
+        if c.op in (20, 29, 33):
             c = damaged(r, c)
         elif c.op == 26:
             c = damaged_moves(r, c)

@@ -7,10 +7,10 @@ import math
 import struct
 import sys
 
-# F: floats, W: whole numbers, T: two of them
+# F: floats, W: whole numbers, T: two of them; M, R: sixteen and four floats
 TAKES = {1: 'FFW', 2: 'FFWT', 3: 'FWTFF', 4: 'FWTF', 5: 'FWT', 6: 'FWT', 7: 'FWTF', 8: 'FWTF', 9: 'FFF', 10: 'FFF', 11: 'FFFF', 12: 'FFF',
          13: 'FFF', 14: 'WWF', 15: 'WWF', 16: 'WWF', 17: 'WWF', 18: 'WWW', 19: 'FW', 20: 'W', 21: 'FFW', 22: 'FWT', 23: 'F', 24: 'FFFF',
-         25: 'FWTFF', 26: 'W', 27: 'FFW', 28: 'FWTFF', 29: 'W', 30: 'FWT', 31: 'W', 34: 'WW', 35: 'FFW'}
+         25: 'FWTFF', 26: 'W', 27: 'FFW', 28: 'FWTFF', 29: 'W', 30: 'FWT', 31: 'W', 32: 'MR', 33: 'W', 34: 'WW', 35: 'FFW'}
 
 
 class Refused(Exception):
@@ -45,9 +45,9 @@ class Input:
 
     def slice(self, kind):
         count, = self.take('<H')
-        if count > 4168 or kind == 'T' and count != 2:
+        if count > 4168 or count != {'T': 2, 'M': 16, 'R': 4}.get(kind, count):
             raise BadCase
-        return list(self.take(f'<{count}d' if kind == 'F' else f'<{count}Q'))
+        return list(self.take(f'<{count}d' if kind in 'FMR' else f'<{count}Q'))
 
 
 def text(items):
@@ -643,6 +643,27 @@ def stiffness(m, n, k, items):
     return scaled_number(pads, t, pairs)
 
 
+def four_pads(m, n, k, matrix, readings):
+    numbers(matrix), numbers(readings)
+    t, pairs = factored_panel(4, matrix)
+    loads = readings[:]
+    solved(4, t, pairs, [loads])
+    overflow(loads)
+    return flat_of(4, 4, t), [len(pairs)], [row for pair in pairs for row in pair], loads
+
+
+def four_pads_file(m, n, k, items):
+    data = struct.pack(f'<{len(items)}Q', *items)[:k]
+    refuse(8, k < 6 or data[:5] != b'LXP\x01\x00')
+    refuse(1, data[5] != 4)
+    _, values = read_panel(k, items)
+    return four_pads(m, n, k, values[:16], values[16:])
+
+
+def four_left(number, *case):
+    return [0.0] * 16, [0], [], [0.0] * 4
+
+
 def exponent_of(x):
     bits, = struct.unpack('<Q', struct.pack('<d', x))
     return bits // 2 ** 52 % 2048
@@ -707,7 +728,7 @@ CALLS = {
     23: (search, None), 24: (given_diagonal(corrected), last_left), 25: (solving(transposed_solved), last_left),
     26: (moves, lambda *case: ('-',)), 27: (why_factor, lambda *case: ('-',)), 28: (why_solve, lambda *case: ('-',)),
     29: (why_panel_file, lambda number, *case: (f'refused {number}\n',)), 30: (scaled, lambda *case: '--'), 31: (stiffness, lambda *case: '--'),
-    34: (season, season_left),
+    32: (four_pads, four_left), 33: (four_pads_file, four_left), 34: (season, season_left),
     35: (factor, factor_left),
 }
 

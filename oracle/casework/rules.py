@@ -684,6 +684,46 @@ def stiffness_made(c):
     return 0, scaled(n, factors, pairs)
 
 
+# ---- 32 and 33: the four-pad profile (document 02, request 11)
+
+def four_tests(c):
+    yield 5, not_finite(*c.slices)
+
+
+def four_file_tests(c):
+    """The reader's refusals, with 1 for every other size."""
+    file = c.slices[0]
+    yield next(file_tests(c))
+    yield 1, file[5] != 4
+    yield from file_tests(c)
+
+
+def four_left(c, number):
+    """Any refusal returns zeros."""
+    return [hexes(array('d', bytes(8 * 16))), '0', '', hexes(array('d', bytes(8 * 4)))]
+
+
+def four_made(c, matrix, readings):
+    """Factoring's 7, then the solve's 6, then its 7; else the crate's factors, swaps and loads."""
+    pairs, factors, swaps = (yield request_factoring(4, 4, matrix)).split(' | ')
+    if not finite(factors):
+        return 7, four_left(c, 7)
+    packed = unhex(factors)
+    loads = yield from file_solved(4, [packed, array('Q', map(int, swaps.split())), array('Q', [int(pairs), dead_columns(4, 4, packed)])], readings)
+    if loads == 'none':
+        return 6, four_left(c, 6)
+    return (0, [factors, pairs, swaps, loads]) if finite(loads) else (7, four_left(c, 7))
+
+
+def four_matrix_made(c):
+    return (yield from four_made(c, *c.slices))
+
+
+def four_file_made(c):
+    numbers = array('d', c.slices[0][6:])
+    return (yield from four_made(c, numbers[:16], numbers[16:]))
+
+
 # ---- 34: a season (document 02, request 13)
 
 FULL = 4000
@@ -755,6 +795,8 @@ RULES = {
     29: (file_tests, refused_left, why_file_made),
     30: (square_tests, two_dashes, scaled_made),
     31: (file_tests, two_dashes, stiffness_made),
+    32: (four_tests, four_left, four_matrix_made),
+    33: (four_file_tests, four_left, four_file_made),
     34: (lambda c: [], None, season_made),
     35: (factor_tests, factor_left, factor_made),
 }

@@ -56,6 +56,8 @@ OPS = {
     29: Op('why a panel file is refused', 'k', 'file'),
     30: Op('scaled determinant', 'mn', 'factors', 'swaps', 'pairs'),
     31: Op('stiffness of a panel file', 'k', 'file'),
+    32: Op('four pads', '', 'matrix', 'readings'),
+    33: Op('four pads of a panel file', 'k', 'file'),
     34: Op('season', '', 'lengths', 'files'),
     35: Op('build up', 'mn', 'matrix', 'out0', 'swaps'),
 }

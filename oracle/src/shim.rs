@@ -1,7 +1,7 @@
 // SHIM (ours): Matrix over VecStorage / views, and the plumbing methods that the crate keeps in
 // files that are not at hand (matrix_view.rs, edition.rs, ops.rs, construction.rs, indexing.rs).
 use crate::base::allocator::{Allocator, Reallocator};
-use crate::base::dimension::{Dim, Dyn, U1};
+use crate::base::dimension::{Const, Dim, Dyn, U1};
 use crate::base::scalar::Scalar;
 use crate::base::storage::*;
 use num::{One, Zero};
@@ -108,23 +108,65 @@ unsafe impl<'a, T, R: Dim, C: Dim, RS: Dim, CS: Dim> RawStorageMut<T, R, C> for 
     }
 }
 
-impl<R: Dim, C: Dim> Allocator<R, C> for DefaultAllocator {
-    type Buffer<T: Scalar> = VecStorage<T, R, C>;
-    type BufferUninit<T: Scalar> = VecStorage<MaybeUninit<T>, R, C>;
-    fn allocate_uninit<T: Scalar>(nrows: R, ncols: C) -> Self::BufferUninit<T> {
-        let n = nrows.value() * ncols.value();
-        VecStorage { data: (0..n).map(|_| MaybeUninit::uninit()).collect(), nrows, ncols }
+macro_rules! vec_allocator {
+    ($R:ty, $C:ty, $($bound:tt)*) => {
+        impl<$($bound)*> Allocator<$R, $C> for DefaultAllocator {
+            type Buffer<T: Scalar> = VecStorage<T, $R, $C>;
+            type BufferUninit<T: Scalar> = VecStorage<MaybeUninit<T>, $R, $C>;
+            fn allocate_uninit<T: Scalar>(nrows: $R, ncols: $C) -> Self::BufferUninit<T> {
+                let n = nrows.value() * ncols.value();
+                VecStorage { data: (0..n).map(|_| MaybeUninit::uninit()).collect(), nrows, ncols }
+            }
+            unsafe fn assume_init<T: Scalar>(u: Self::BufferUninit<T>) -> Self::Buffer<T> {
+                VecStorage { data: u.data.into_iter().map(|x| x.assume_init()).collect(), nrows: u.nrows, ncols: u.ncols }
+            }
+            fn allocate_from_iterator<T: Scalar, I: IntoIterator<Item = T>>(nrows: $R, ncols: $C, iter: I) -> Self::Buffer<T> {
+                let data: Vec<T> = iter.into_iter().collect();
+                assert_eq!(data.len(), nrows.value() * ncols.value());
+                VecStorage { data, nrows, ncols }
+            }
+        }
+    };
+}
+vec_allocator!(Dyn, C, C: Dim);
+vec_allocator!(Const<R>, Dyn, const R: usize);
+
+// ---------- sizes that the compiler knows: an array, as the crate has it ----------
+#[derive(Clone, Copy, Debug)]
+pub struct ArrayStorage<T, const R: usize, const C: usize>(pub [[T; R]; C]);
+unsafe impl<T, const R: usize, const C: usize> RawStorage<T, Const<R>, Const<C>> for ArrayStorage<T, R, C> {
+    type RStride = U1;
+    type CStride = Const<R>;
+    fn ptr(&self) -> *const T { self.0.as_flattened().as_ptr() }
+    fn shape(&self) -> (Const<R>, Const<C>) { (Const, Const) }
+    fn strides(&self) -> (U1, Const<R>) { (Const, Const) }
+    fn is_contiguous(&self) -> bool { true }
+    unsafe fn as_slice_unchecked(&self) -> &[T] { self.0.as_flattened() }
+}
+unsafe impl<T, const R: usize, const C: usize> RawStorageMut<T, Const<R>, Const<C>> for ArrayStorage<T, R, C> {
+    fn ptr_mut(&mut self) -> *mut T { self.0.as_flattened_mut().as_mut_ptr() }
+    unsafe fn as_mut_slice_unchecked(&mut self) -> &mut [T] { self.0.as_flattened_mut() }
+}
+unsafe impl<T, const R: usize, const C: usize> IsContiguous for ArrayStorage<T, R, C> {}
+unsafe impl<T: Scalar, const R: usize, const C: usize> Storage<T, Const<R>, Const<C>> for ArrayStorage<T, R, C> {
+    fn into_owned(self) -> Owned<T, Const<R>, Const<C>> where DefaultAllocator: Allocator<Const<R>, Const<C>> { self.clone_owned() }
+    fn clone_owned(&self) -> Owned<T, Const<R>, Const<C>> where DefaultAllocator: Allocator<Const<R>, Const<C>> {
+        <DefaultAllocator as Allocator<Const<R>, Const<C>>>::allocate_from_iterator(Const, Const, self.0.as_flattened().iter().cloned())
     }
-    unsafe fn assume_init<T: Scalar>(u: Self::BufferUninit<T>) -> Self::Buffer<T> {
-        VecStorage { data: u.data.into_iter().map(|x| x.assume_init()).collect(), nrows: u.nrows, ncols: u.ncols }
-    }
-    fn allocate_from_iterator<T: Scalar, I: IntoIterator<Item = T>>(nrows: R, ncols: C, iter: I) -> Self::Buffer<T> {
-        let data: Vec<T> = iter.into_iter().collect();
-        assert_eq!(data.len(), nrows.value() * ncols.value());
-        VecStorage { data, nrows, ncols }
+    fn forget_elements(self) {}
+}
+impl<const R: usize, const C: usize> Allocator<Const<R>, Const<C>> for DefaultAllocator {
+    type Buffer<T: Scalar> = ArrayStorage<T, R, C>;
+    type BufferUninit<T: Scalar> = ArrayStorage<MaybeUninit<T>, R, C>;
+    fn allocate_uninit<T: Scalar>(_: Const<R>, _: Const<C>) -> Self::BufferUninit<T> { ArrayStorage([const { [const { MaybeUninit::uninit() }; R] }; C]) }
+    unsafe fn assume_init<T: Scalar>(u: Self::BufferUninit<T>) -> Self::Buffer<T> { ArrayStorage(std::mem::transmute_copy(&u.0)) }
+    fn allocate_from_iterator<T: Scalar, I: IntoIterator<Item = T>>(_: Const<R>, _: Const<C>, iter: I) -> Self::Buffer<T> {
+        let mut items = iter.into_iter();
+        ArrayStorage(std::array::from_fn(|_| std::array::from_fn(|_| items.next().expect("as many items as the matrix has"))))
     }
 }
-impl<T: Scalar, RF: Dim, CF: Dim, RT: Dim, CT: Dim> Reallocator<T, RF, CF, RT, CT> for DefaultAllocator {
+impl<T: Scalar, RF: Dim, CF: Dim, RT: Dim, CT: Dim> Reallocator<T, RF, CF, RT, CT> for DefaultAllocator
+where DefaultAllocator: Allocator<RF, CF, Buffer<T> = VecStorage<T, RF, CF>> + Allocator<RT, CT, BufferUninit<T> = VecStorage<MaybeUninit<T>, RT, CT>> {
     unsafe fn reallocate_copy(nrows: RT, ncols: CT, buf: VecStorage<T, RF, CF>) -> VecStorage<MaybeUninit<T>, RT, CT> {
         let n = nrows.value() * ncols.value();
         let mut data: Vec<MaybeUninit<T>> = buf.data.into_iter().map(MaybeUninit::new).collect();

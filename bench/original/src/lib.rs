@@ -1,6 +1,6 @@
 // The original for the program in C: the crate's own text, and beside it a hand-written update.
 mod by_hand;
-use rustoracle::base::{dimension::Dyn, OMatrix};
+use rustoracle::base::{dimension::{Const, Dyn}, ArrayStorage, OMatrix};
 use rustoracle::linalg::LU;
 use std::slice::{from_raw_parts, from_raw_parts_mut};
 
@@ -64,4 +64,13 @@ pub unsafe extern "C" fn original_pairs(o: &Original, swaps: *mut usize) -> usiz
         slot.copy_from_slice(&[pair.0, pair.1]);
     }
     pairs.len()
+}
+
+/// `LU::new` and `LU::solve_mut` with sizes that the compiler knows, all by value. Answers whether it could be solved.
+#[no_mangle]
+pub extern "C" fn original_four(a: &[[f64; 4]; 4], b: &[f64; 4], x: &mut [f64; 4]) -> bool {
+    let mut side = OMatrix::<f64, Const<4>, Const<1>>::from_data(ArrayStorage([*b]));
+    let solved = LU::new(OMatrix::<f64, Const<4>, Const<4>>::from_data(ArrayStorage(*a))).solve_mut(&mut side);
+    *x = side.data.0[0];
+    solved
 }

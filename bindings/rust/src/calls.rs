@@ -45,6 +45,37 @@ mod c {
             x: *mut f64,
             x_len: usize,
         ) -> usize;
+        pub fn wejdarox_why_factor(
+            a: *const f64,
+            a_len: usize,
+            m: usize,
+            n: usize,
+            factors: *mut f64,
+            factors_len: usize,
+            swaps: *mut usize,
+            swaps_len: usize,
+            step: *mut usize,
+            column: *mut usize,
+            row: *mut usize,
+        ) -> usize;
+        pub fn wejdarox_why_solve(
+            factors: *const f64,
+            factors_len: usize,
+            swaps: *const usize,
+            swaps_len: usize,
+            m: usize,
+            n: usize,
+            pairs: usize,
+            dead: usize,
+            b: *const f64,
+            b_len: usize,
+            k: usize,
+            x: *mut f64,
+            x_len: usize,
+            pass: *mut usize,
+            column: *mut usize,
+            row: *mut usize,
+        ) -> usize;
         pub fn wejdarox_inverse(
             factors: *const f64,
             factors_len: usize,
@@ -96,6 +127,8 @@ mod c {
         pub fn wejdarox_pad_order(file: *const u8, file_len: usize, ranks: *mut usize, loads: *mut f64, pads: *mut usize, toss_ups: *mut usize) -> usize;
         pub fn wejdarox_stiffness(file: *const u8, file_len: usize, significand: *mut f64, exponent: *mut i32, toss_ups: *mut usize) -> usize;
         pub fn wejdarox_with_file(file: *const u8, file_len: usize, season: *mut usize) -> usize;
+        pub fn wejdarox_four_pads(matrix: *const f64, readings: *const f64, factors: *mut f64, pairs: *mut usize, swaps: *mut usize, loads: *mut f64) -> usize;
+        pub fn wejdarox_four_pads_of(file: *const u8, file_len: usize, factors: *mut f64, pairs: *mut usize, swaps: *mut usize, loads: *mut f64) -> usize;
     }
 }
 
@@ -134,6 +167,27 @@ pub(crate) fn solve(held: Held, b: &[f64], k: usize, x: &mut [f64]) -> usize {
     let Held { factors: f, swaps: s, rows: m, columns: n, pairs, dead } = held;
     let (xp, xl) = (x.as_mut_ptr(), x.len());
     unsafe { c::wejdarox_solve(f.as_ptr(), f.len(), s.as_ptr(), s.len(), m, n, pairs, dead, b.as_ptr(), b.len(), k, xp, xl) }
+}
+
+/// The place that an explanation tells: step or pass, column, row.
+#[derive(Clone, Copy, Debug, Default)]
+pub(crate) struct Place {
+    pub first: usize,
+    pub column: usize,
+    pub row: usize,
+}
+
+pub(crate) fn why_factor(a: &[f64], m: usize, n: usize, factors: &mut [f64], swaps: &mut [usize], place: &mut Place) -> usize {
+    let (fp, fl, sp, sl) = (factors.as_mut_ptr(), factors.len(), swaps.as_mut_ptr(), swaps.len());
+    let Place { first, column, row } = place;
+    unsafe { c::wejdarox_why_factor(a.as_ptr(), a.len(), m, n, fp, fl, sp, sl, first, column, row) }
+}
+
+pub(crate) fn why_solve(held: Held, b: &[f64], k: usize, x: &mut [f64], place: &mut Place) -> usize {
+    let Held { factors: f, swaps: s, rows: m, columns: n, pairs, dead } = held;
+    let (xp, xl) = (x.as_mut_ptr(), x.len());
+    let Place { first, column, row } = place;
+    unsafe { c::wejdarox_why_solve(f.as_ptr(), f.len(), s.as_ptr(), s.len(), m, n, pairs, dead, b.as_ptr(), b.len(), k, xp, xl, first, column, row) }
 }
 
 pub(crate) fn inverse(held: Held, x: &mut [f64]) -> usize {
@@ -178,6 +232,27 @@ pub(crate) fn with_file(file: &[u8], season: &mut [usize; 17]) -> usize {
     unsafe { c::wejdarox_with_file(file.as_ptr(), file.len(), season.as_mut_ptr()) }
 }
 
+/// The results of the four-pad calls.
+#[derive(Clone, Copy, Debug, Default, PartialEq)]
+pub(crate) struct Profile {
+    pub factors: [f64; 16],
+    pub pairs: usize,
+    pub swaps: [usize; 8],
+    pub loads: [f64; 4],
+}
+
+pub(crate) fn four_pads(matrix: &[[f64; 4]; 4], readings: &[f64; 4], out: &mut Profile) -> usize {
+    let Profile { factors, pairs, swaps, loads } = out;
+    let (fp, sp, lp) = (factors.as_mut_ptr(), swaps.as_mut_ptr(), loads.as_mut_ptr());
+    unsafe { c::wejdarox_four_pads(matrix.as_flattened().as_ptr(), readings.as_ptr(), fp, pairs, sp, lp) }
+}
+
+pub(crate) fn four_pads_of(file: &[u8], out: &mut Profile) -> usize {
+    let Profile { factors, pairs, swaps, loads } = out;
+    let (fp, sp, lp) = (factors.as_mut_ptr(), swaps.as_mut_ptr(), loads.as_mut_ptr());
+    unsafe { c::wejdarox_four_pads_of(file.as_ptr(), file.len(), fp, pairs, sp, lp) }
+}
+
 #[cfg(test)]
 mod tests {
     use super::*;
@@ -191,6 +266,23 @@ mod tests {
         assert_eq!((significand, exponent, toss_ups), (7.5, -3, 0));
         assert_eq!(stiffness(&seven, &mut significand, &mut exponent, &mut toss_ups), 7);
         assert_eq!((significand.to_bits(), exponent, toss_ups), (0, 0, 0));
+    }
+
+    /// Any refusal of four pads leaves zeros: a number that is not finite, a singular matrix, a load that overflows; of a file also its head, size and length.
+    #[test]
+    fn refused_four_pads() {
+        let held = Profile { factors: [7.5; 16], pairs: 9, swaps: [9; 8], loads: [7.5; 4] };
+        let identity = |x: f64| [[x, 0.0, 0.0, 0.0], [0.0, 1.0, 0.0, 0.0], [0.0, 0.0, 1.0, 0.0], [0.0, 0.0, 0.0, 1.0]];
+        for (x, reading, number) in [(f64::NAN, 1.0, 5), (1.0, f64::INFINITY, 5), (0.0, 1.0, 6), (1e-310, 1.0, 7), (1e-300, 1e300, 7)] {
+            let mut out = held;
+            assert_eq!(four_pads(&identity(x), &[reading, 1.0, 1.0, 1.0], &mut out), number);
+            assert_eq!(out, Profile::default());
+        }
+        for (file, number) in [(&b"LXQ\x01\x00\x04"[..], 8), (b"LXP\x01\x00\x01", 1), (b"LXP\x01\x00\x04", 3)] {
+            let mut out = held;
+            assert_eq!(four_pads_of(file, &mut out), number);
+            assert_eq!(out, Profile::default());
+        }
     }
 
     /// An `Lu` keeps its number of dead columns true, so 9 is met here alone: numbers that do not match, for two dead columns of either sign.

@@ -6,10 +6,12 @@
 #![warn(missing_docs)]
 
 mod calls;
+mod why;
 
-use calls::Counts;
+use calls::{Counts, Profile};
 use std::error::Error;
 use std::fmt;
+pub use why::{Pass, WhyFactor, WhySolve};
 
 #[cfg(not(target_pointer_width = "64"))]
 compile_error!("the library counts in 64-bit numbers");
@@ -283,6 +285,42 @@ pub fn stiffness(file: &[u8]) -> Result<Stiffness, Refusal> {
     let (mut determinant, mut toss_ups) = (Scaled { significand: 0.0, exponent: 0 }, 0);
     Refusal::told(calls::stiffness(file, &mut determinant.significand, &mut determinant.exponent, &mut toss_ups))?;
     Ok(Stiffness { determinant, toss_ups })
+}
+
+/// A crossing of exactly four pads, factored and solved: bit for bit what [`Lu::factor`] and [`Lu::solve`] give, in less time and with nothing allocated.
+#[derive(Clone, Copy, Debug, PartialEq)]
+pub struct FourPads {
+    /// L and U packed, column after column.
+    pub factors: [f64; 16],
+    /// The loads, in the order of the pads.
+    pub loads: [f64; 4],
+    swaps: [usize; 8],
+    pairs: usize,
+}
+
+impl FourPads {
+    /// The pairs of exchanged rows, first pair first, counted from 0: at most three.
+    pub fn swaps(&self) -> impl Iterator<Item = (usize, usize)> + '_ {
+        self.swaps.chunks_exact(2).take(self.pairs).map(|pair| (pair[0], pair[1]))
+    }
+
+    fn told(number: usize, out: Profile) -> Result<FourPads, Refusal> {
+        Refusal::told(number)?;
+        let Profile { factors, pairs, swaps, loads } = out;
+        Ok(FourPads { factors, loads, swaps, pairs })
+    }
+}
+
+/// Factors and solves a crossing of four pads: its matrix column by column, and its readings. Refusals: 5, 7 where a factor is not finite, 6, 7.
+pub fn four_pads(matrix: &[[f64; 4]; 4], readings: &[f64; 4]) -> Result<FourPads, Refusal> {
+    let mut out = Profile::default();
+    FourPads::told(calls::four_pads(matrix, readings, &mut out), out)
+}
+
+/// The same for a panel file of four pads. Refusals: 8, 1 (also for another size), 3, 5, 7, 6, 7.
+pub fn four_pads_of(file: &[u8]) -> Result<FourPads, Refusal> {
+    let mut out = Profile::default();
+    FourPads::told(calls::four_pads_of(file, &mut out), out)
 }
 
 /// The figures of a season: panel files are handed over one at a time, at most 4,000, and counted by what becomes of them. The order of the files does not matter.

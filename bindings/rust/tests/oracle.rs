@@ -3,7 +3,7 @@ use std::fs;
 use std::io::Write;
 use std::path::{Path, PathBuf};
 use std::process::{Command, Stdio};
-use wejdarox::{pad_order, rank, rank_all, stiffness, Lu, Pad, PadOrder, Refusal, Scaled, Season, Stiffness};
+use wejdarox::{four_pads, four_pads_of, pad_order, rank, rank_all, stiffness, Lu, Pad, PadOrder, Refusal, Scaled, Season, Stiffness};
 
 // ---- random inputs, the same in every run
 
@@ -331,6 +331,30 @@ fn panel_files() {
     }
 }
 
+/// Four pads at once are factoring and solving; a file of another size is refused.
+#[test]
+fn four_pads_at_once() {
+    let mut random = Random(7);
+    for turn in 0..400 {
+        let (a, b) = (random.matrix(4, 4), random.numbers(4, 1));
+        let parts = || -> Result<(Vec<f64>, Vec<(usize, usize)>, Vec<f64>), Refusal> {
+            let lu = Lu::factor(&a, 4, 4)?;
+            Ok((lu.factors().to_vec(), lu.swaps().collect(), lu.solve(&b, 1)?))
+        };
+        let whole = file(4, &a, &b);
+        let matrix = std::array::from_fn(|j| std::array::from_fn(|i| a[4 * j + i]));
+        let readings = std::array::from_fn(|i| b[i]);
+        for made in [four_pads(&matrix, &readings), four_pads_of(&whole)] {
+            assert_eq!(made.map(|f| (f.factors.to_vec(), f.swaps().collect(), f.loads.to_vec())), parts());
+        }
+        let n = 1 + turn % 9;
+        if n != 4 {
+            assert_eq!(four_pads_of(&file(n, &random.matrix(n, n), &random.numbers(n, 1))), Err(Refusal::Size));
+        }
+        assert_eq!(four_pads_of(&whole[..whole.len() - 1]), Err(Refusal::Length));
+    }
+}
+
 /// A season's counts are those of what becomes of each file.
 #[test]
 fn seasons() {
@@ -381,7 +405,8 @@ fn crossings() {
         assert_eq!(made, wanted, "{name}");
         names += 1;
     }
-    assert_eq!(names, 7);
+    let files = fs::read_dir(repository().join("crossings")).expect("the folder").flatten();
+    assert_eq!(names, files.filter(|file| file.path().extension().is_some_and(|e| e == "lxp")).count());
     let soft = fs::read(repository().join("crossings/soft-ground.lxp")).expect("the file");
     assert_eq!(stiffness(&soft).map(|s| s.determinant.to_string()), Ok("1.25 × 2^-1200".to_owned()));
 }

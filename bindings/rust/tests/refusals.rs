@@ -1,5 +1,5 @@
 //! Every refusal, with sizes and lengths that are anything; and a refused call leaves the type as it was.
-use wejdarox::{pad_order, rank, rank_all, stiffness, Lu, Refusal, Scaled, Season};
+use wejdarox::{pad_order, rank, rank_all, stiffness, Lu, Pass, Refusal, Scaled, Season, WhyFactor, WhySolve};
 
 /// All that can be seen of factors.
 fn seen(lu: &Lu) -> ([usize; 4], Vec<u64>, Vec<(usize, usize)>) {
@@ -195,4 +195,46 @@ fn words() {
     assert_eq!(Refusal::DeadColumns.to_string(), "refused 9: the number of dead columns is not that of the factors");
     let boxed: Box<dyn std::error::Error> = Box::new(Refusal::NotAPanelFile);
     assert!(boxed.to_string().starts_with("refused 8: "));
+}
+
+/// An explanation has the number of the call that it explains, and there is none where that is accepted.
+#[test]
+fn reasons_of_factoring() {
+    let matrices: [(&[f64], usize, usize); 6] = [
+        (&[2.0, 0.0, 0.0, 4.0], 2, 2),
+        (&[2.0, 0.0, 0.0], 2, 2),
+        (&[f64::NAN], 1, 1),
+        (&[], 0, 0),
+        (&[5e-324, 0.0], 2, 1),
+        (&[1.0, 2.0, 0.0, 1.5e308, -1.5e308, 0.0], 3, 2),
+    ];
+    for (a, rows, columns) in matrices {
+        let told = Lu::why_factor(a, rows, columns).map_or(0, |why| why.refusal().number());
+        assert_eq!(told, refused(Lu::factor(a, rows, columns)), "{a:?}");
+    }
+    assert_eq!(Lu::why_factor(&[f64::NAN], 1, 1), Some(WhyFactor::Refused(Refusal::NotFinite)));
+    // 1 / 2^-1074 overflows: 0 times it is a NaN, below the first pivot
+    assert_eq!(Lu::why_factor(&[5e-324, 0.0], 2, 1), Some(WhyFactor::Overflow { step: 0, column: 0, row: 1 }));
+    // the second column, after rows 0 and 1 were exchanged: 1.5e308 - 0.5 * -1.5e308
+    let overflow = Lu::why_factor(&[1.0, 2.0, 0.0, 1.5e308, -1.5e308, 0.0], 3, 2);
+    assert_eq!(overflow, Some(WhyFactor::Overflow { step: 0, column: 1, row: 1 }));
+    assert_eq!(overflow.map(|why| why.to_string()).as_deref(), Some("a number is too large after step 1, in column 2, row 2"));
+}
+
+#[test]
+fn reasons_of_a_solve() {
+    let lu = Lu::factor(&[1.0, 0.5, 0.0, 0.25], 2, 2).expect("finite");
+    assert_eq!(lu.why_solve(&[1.0, 2.0], 1), None);
+    assert_eq!(lu.why_solve(&[1.0], 1), Some(WhySolve::Refused(Refusal::Length)));
+    assert_eq!(lu.why_solve(&[1.0, f64::INFINITY], 1), Some(WhySolve::Refused(Refusal::NotFinite)));
+    // the upper pass divides 1.7e308 by 0.25 in the second right-hand column
+    let overflow = lu.why_solve(&[1.0, 1.0, 0.0, 1.7e308], 2);
+    assert_eq!(overflow, Some(WhySolve::Overflow { pass: Pass::Upper, column: 1, row: 1 }));
+    assert_eq!(overflow.map(|why| why.to_string()).as_deref(), Some("a number is too large in the upper pass, in right-hand column 2, row 2"));
+    // the lower pass takes half of -1.7e308 off 1.7e308
+    let down = lu.why_solve(&[-1.7e308, 1.7e308], 1);
+    assert_eq!(down, Some(WhySolve::Overflow { pass: Pass::Lower, column: 0, row: 1 }));
+    let dead = Lu::factor(&[1.0, 2.0, 2.0, 4.0], 2, 2).expect("finite");
+    assert_eq!(dead.why_solve(&[1.0, 2.0], 1), Some(WhySolve::Singular { column: 1 }));
+    assert_eq!(dead.why_solve(&[1.0, 2.0], 1).map(|why| why.to_string()).as_deref(), Some("column 2 is dead"));
 }

@@ -284,3 +284,12 @@ adding-changes r s c store e =
     test-cases (allFinite (column (swapInAll n p (columns m n s) ++ ownColumn n x ∷ []) n))
     (λ b. rw (w, b) (flat-snoc (swapInAll n p (columns m n s)) (ownColumn n x), written-record (r .pairs) n p store (next r s c store go)))
     (λ b. absurd (let seven : 7 ≡ 0 = (rw (w, b) at e) in omega arith))
+
+-- THEOREM. And the new column is finite.
+pub adding-finite : (r : Record) (s c : Column) (store : List ℕ) → numberOf (adding r s c store .answer) ≡ 0
+    → allFinite (ownColumn (r .columns) (reduced (r .rows) (olderFactors r s store) c)) ≡ true
+unfolding addingSettled numberOf
+adding-finite r s c store e =
+    let go = ready r s c store (no-refusal r s c store e) in
+    test-cases (allFinite (ownColumn (r .columns) (reduced (r .rows) (olderFactors r s store) c))) (λ t. t)
+    (λ t. absurd (let seven : 7 ≡ 0 = (rw (worked r s c store go, last-is r s c store go, t) at e) in omega arith))

@@ -55,8 +55,8 @@ struct Layout(u8, u8, u8, u8, u8);
 const NO: u8 = 0;
 
 // The slices that an op takes: a and b are floats that are read, x floats that are written, s whole numbers that are written,
-// p the number of pairs, r the pairs and the dead columns of a record, d a diagonal, t two whole numbers, f bytes, j the bytes of
-// files whose lengths are s. An unknown op has a slice of no kind.
+// p the number of pairs, r the pairs and the dead columns of a record, d a diagonal, t two whole numbers, m and q sixteen and
+// four floats, f bytes, j the bytes of files whose lengths are s. An unknown op has a slice of no kind.
 fn layout_of(op: u8) -> Layout {
     match op {
         1 | 27 | 35 => Layout(b'a', b'x', b's', NO, NO),
@@ -69,10 +69,11 @@ fn layout_of(op: u8) -> Layout {
         14..=17 => Layout(b's', b'p', b'x', NO, NO),
         18 => Layout(b's', b'p', b't', NO, NO),
         19 => Layout(b'a', b's', NO, NO, NO),
-        20 | 26 | 29 | 31 => Layout(b'f', NO, NO, NO, NO),
+        20 | 26 | 29 | 31 | 33 => Layout(b'f', NO, NO, NO, NO),
         21 => Layout(b'a', b'b', b'f', NO, NO),
         22 => Layout(b'x', b's', b'r', NO, NO),
         23 => Layout(b'a', NO, NO, NO, NO),
+        32 => Layout(b'm', b'q', NO, NO, NO),
         34 => Layout(b's', b'j', NO, NO, NO),
         _ => Layout(b'?', NO, NO, NO, NO),
     }
@@ -84,8 +85,8 @@ fn room(kind: u8) -> usize
 {
     match kind {
         b'f' | b'j' => 0,
-        b'a' => A,
-        b'b' => B,
+        b'a' | b'm' => A,
+        b'b' | b'q' => B,
         b'x' => X,
         b's' => SWAPS,
         b'p' | b'r' => 5,
@@ -101,6 +102,8 @@ fn may_have(kind: u8, count: usize, k: usize) -> bool {
         b'a' | b'b' | b'x' | b's' | b'j' => true,
         b'p' | b'd' => count == 1,
         b'r' | b't' => count == 2,
+        b'm' => count == 16,
+        b'q' => count == 4,
         b'f' => (k / 8 < count) | ((count == k / 8) & (k % 8 == 0)),
         _ => false,
     }

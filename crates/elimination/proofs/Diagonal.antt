@@ -20,7 +20,7 @@ abbrev pub diagonalAt : Factors → ℕ → Float
 diagonalAt f j = entry (column (f .columns) j) j
 
 -- a step leaves the diagonal to its left
-diagonal-left : (i j : ℕ) (f : Factors) → j < i → i < length (f .columns) → diagonalAt (step i f) j ≡ diagonalAt f j
+pub diagonal-left : (i j : ℕ) (f : Factors) → j < i → i < length (f .columns) → diagonalAt (step i f) j ≡ diagonalAt f j
 diagonal-left i j f h hi =
     step-cases i f (λ g. diagonalAt g j ≡ diagonalAt f j) (λ e. refl)
     (λ e.

@@ -118,6 +118,12 @@ module _ (i p : ℕ) (f : Factors) where
   unfolding pivotStep eliminated stepColumns before
   step-here hi = each-before _ (i + 1) before i [] (omega arith) ∙ before-here hi
 
+  pub step-right : (j : ℕ) → i < j → j < length (f .columns)
+      → column (pivotStep i p f .columns) j ≡ stepColumn i (packed i p f) (swapRows i p (column (f .columns) j))
+  unfolding pivotStep eliminated stepColumns before
+  step-right j h hj =
+      each-at _ (i + 1) before j [] (omega arith) (rw length-before hj) ∙ ap₂ (stepColumn i) (before-here (omega arith)) (before-other j hj (λ e. omega arith))
+
   -- one more column to the right
   pub pivotStep-snoc : (x : Column) → i < length (f .columns)
       → pivotStep i p (record { columns = f .columns ++ x ∷ []; swaps = f .swaps }) .columns
@@ -136,15 +142,15 @@ module _ (i p : ℕ) (f : Factors) where
       ∙ each-snoc (λ j d. stepColumn i (column before i) d) (i + 1) before y (omega arith)
       ∙ ap (λ (c : Column). eachFrom (λ j d. stepColumn i (column before i) d) (i + 1) before ++ stepColumn i c y ∷ []) (before-here h)
 
--- the packed diagonal of a step that is not skipped is the pivot
+-- the packed diagonal of a step that is not skipped is the pivot: of the column alone, and of a step
+pub multipliers-diagonal : (k p : ℕ) (x : Column) → k < length x → p < length x → entry (multipliers k (swapRows k p x)) k ≡ entry x p
+unfolding multipliers
+multipliers-diagonal k p x kx px =
+    entry-scale-before (k + 1) _ (swapRows k p x) k (omega arith) ∙ getD-exchanged nan k p x k kx px ∙ ap (entry x) (other-first k p)
+
 pub packed-diagonal : (m k p : ℕ) (f : Factors) → HasRows m (f .columns) → k < m → p < m → k < length (f .columns)
     → entry (packed k p f) k ≡ entry (column (f .columns) k) p
-unfolding multipliers
-packed-diagonal m k p f rows km pm kn =
-    let x = column (f .columns) k in
-    entry-scale-before (k + 1) _ (swapRows k p x) k (omega arith)
-    ∙ getD-exchanged nan k p x k (rw (rows k kn) km) (rw (rows k kn) pm)
-    ∙ ap (entry x) (other-first k p)
+packed-diagonal m k p f rows km pm kn = multipliers-diagonal k p (column (f .columns) k) (rw (rows k kn) km) (rw (rows k kn) pm)
 
 -- ---- the steps one after another
 -- c turns, then d more

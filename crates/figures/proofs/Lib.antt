@@ -3,8 +3,10 @@ pub mod WrongAnswers
 pub mod WrongRankings
 pub mod WrongColumns
 pub mod WrongFiles
+pub mod WrongFourPads
 pub mod WrongSeasons
 pub mod WrongSwaps
 pub mod WrongRecords
 pub mod WrongScaled
 pub mod WrongPrograms
+pub mod WrongReasons

@@ -3,6 +3,7 @@
 -- no pads (1), at a matrix of no numbers (3) and at one pad. Assumes nothing.
 use mathlib.Core.Path.{_≡_, refl, sym, ap, _∙_}
 use mathlib.Core.Bool.{false≢true}
+use mathlib.Core.Option.{Option, none as absent, some}
 use mathlib.Core.List.{List, [], _∷_, _++_}
 use Prim.Native.Nat.{ℕ, zero, suc}
 use native.Mathlib.Omega.{arith}
@@ -19,8 +20,8 @@ use Rattle.finite.proofs.Finite.{finite-zeros}
 use Rattle.refusals.specs.Outcome.{Outcome, done, refused, numberOf, firstOf, tested, andThen, Call}
 use Rattle.refusals.specs.Refusals.{outside}
 use Rattle.refusals.proofs.Strength.{ShutsOut, shut-out, BothShutOut, both, Strong, strong, Keeps, StrongBy, strong-by, done-refused}
-use Rattle.panel_file.specs.File.{littleEndian, fieldAt, headed, numberAt}
-use Rattle.panel_file.specs.Reading.{fileTests, fileRefusal, Stores, stores, readingRefusal, filled, reading}
+use Rattle.panel_file.specs.File.{littleEndian, fieldAt, headed, padsOf, numberAt}
+use Rattle.panel_file.specs.Reading.{fileTests, fileRefusal, Stores, stores, readingRefusal, filled, reading, sizedRefusal, readingSized}
 use Rattle.panel_file.specs.Writing.{writingRefusal, bytesWritten, written, Writing}
 use Rattle.panel_file.specs.declared.Written.the-variants.{Refused as NotWritten}
 use Rattle.panel_file.proofs.Writing.{Fit, not-refused, write-refused}
@@ -38,6 +39,12 @@ use Rattle.crossing.specs.Ordering.{loadsOf, ranksLeft, Ranks, ordering}
 use Rattle.crossing.specs.Moving.{movesRefusal, movesOf, moving}
 use Rattle.panel_text.specs.Text.{written as writtenOver, decimal, lineOf, linesOf, padsText, refusedText, digitsIn, signed, scaledText}
 use Rattle.panel_text.specs.Printed.{orderText, textOf, changeText, movesTextOf, checkText, stiffnessTextOf}
+use Rattle.panel_text.specs.Why.{placeText, spotText, passWord, columnLine, stageLine, reasonText, whyTextOf}
+use Rattle.why.specs.Results.{firstOverflow, rowsFrom, inTurn}
+use Rattle.why.specs.Solving.{turnsResults, solvingResults}
+use Rattle.why.specs.Why.{Told, toldNumber, overflowed, explainSolving}
+use Rattle.why_file.specs.Explaining.{Stage, explainLoads, explainedBy, explainFile}
+use Rattle.solve.specs.Triangular.{solvedFrom}
 
 -- a name for all that has to unfold for a file to be read, factored and solved
 answers : Type 0
@@ -53,7 +60,7 @@ onePadFile = 76 ∷ 88 ∷ 80 ∷ 1 ∷ 0 ∷ 1 ∷ 0 ∷ 0 ∷ 0 ∷ 0 ∷ 0 �
 abbrev empty : List ℕ
 empty = []
 
-zero-one : (c d : Column) → n1 ∷ c ≡ n0 ∷ d → ⊥
+pub zero-one : (c d : Column) → n1 ∷ c ≡ n0 ∷ d → ⊥
 zero-one c d e = let z : _≡_ {A = ℕ} 0 1 = cc in omega arith
 
 zero-two : (c d : Column) → n2 ∷ c ≡ n0 ∷ d → ⊥
@@ -72,6 +79,27 @@ unfolding answers
 read =
     both reads (λ x. x .1) (onePadFile, fresh) {a = 1} {made = filled onePadFile fresh} refl
     (λ d. zero-one (drop 1 (zeros 4096)) (zeros 4095) (ap (λ (s : Stores). s .matrix) d))
+
+-- a file of n pads and of no other size
+abbrev readsSized : List ℕ × (ℕ × Stores) → Call ℕ Stores
+readsSized x = readingSized (x .0) (x .1 .0) (x .1 .1)
+
+abbrev own : Stores
+own = stores (zeros 1) (zeros 1)
+
+pub read-sized : BothShutOut readsSized (λ x. x .1 .1)
+unfolding answers sizedRefusal readingSized
+read-sized =
+    both readsSized (λ x. x .1 .1) (onePadFile, (1, own)) {a = 1} {made = filled onePadFile own} refl
+    (λ d. zero-one [] [] (ap (λ (s : Stores). s .matrix) d))
+
+-- any size that the stores fit
+abbrev anySize : List ℕ × (ℕ × Stores) → Call ℕ Stores
+anySize x = readsSized (x .0, (padsOf (x .0), x .1 .1))
+
+pub not-any-size : ShutsOut readsSized anySize
+unfolding answers sizedRefusal readingSized
+not-any-size = shut-out readsSized anySize (onePadFile, (2, own)) (λ d. done-refused (sym (ap (λ (o : Call ℕ Stores). o .answer) d)))
 
 -- a crossing of doubles, as every slice of `f64` holds, and the slice to write to
 pub record Crossing : Type 0 where
@@ -231,4 +259,44 @@ stiffness-text =
     strong printsStiffness (onePadFile, blank) (empty, blank) (differs 0 (λ d. omega (arith, d))) (
       shut-out printsStiffness (λ x. x .1) (onePadFile, blank) (differs 0 (λ d. omega (arith, d))),
       (λ number. shut-out printsStiffness (λ x. writtenOver 0 (refusedText (number x)) (x .1)) (onePadFile, blank) (differs 0 (λ d. omega (arith, d)))),
+    )
+
+-- ---- why a file is refused: the same always; and the number alone
+
+-- one pad, its matrix 2^-1000, its reading 2^100: the load overflows
+abbrev overflowing : List ℕ
+overflowing = 76 ∷ 88 ∷ 80 ∷ 1 ∷ 0 ∷ 1 ∷ 0 ∷ 0 ∷ 0 ∷ 0 ∷ 0 ∷ 0 ∷ 112 ∷ 1 ∷ 0 ∷ 0 ∷ 0 ∷ 0 ∷ 0 ∷ 0 ∷ 48 ∷ 70 ∷ []
+
+-- a name for all that has to unfold for a reason to be told
+reasons : Type 0
+unfolding answers firstOverflow rowsFrom inTurn turnsResults solvingResults overflowed explainSolving solvedFrom explainLoads explainedBy explainFile
+reasons = Unit {0}
+
+abbrev numberAlone : List ℕ → Told Stage
+numberAlone x = toldNumber (explainFile x .number)
+
+-- whether a place is told
+abbrev places : Told Stage → ℕ
+places t = count (t .place)
+  where
+    count : Option Stage → ℕ
+    count absent = 0
+    count (some p) = 1
+
+pub why-file : Strong explainFile (ShutsOut explainFile numberAlone)
+unfolding reasons
+why-file =
+    strong explainFile onePadFile overflowing (λ d. omega (arith, ap (λ (t : Told Stage). t .number) d))
+    (shut-out explainFile numberAlone overflowing (λ d. omega (arith, ap places d)))
+
+-- its text: `no reason`, or `refused 7` and a line with the place
+abbrev printsWhy : List ℕ × List ℕ → List ℕ
+printsWhy x = writtenOver 0 (whyTextOf (x .0)) (x .1)
+
+pub why-text : Strong printsWhy (ShutsOut printsWhy (λ x. x .1) × Refusing printsWhy (λ x. x .1))
+unfolding reasons writtenOver decimal refusedText placeText spotText passWord columnLine stageLine reasonText whyTextOf
+why-text =
+    strong printsWhy (onePadFile, blank) (overflowing, blank) (differs 0 (λ d. omega (arith, d))) (
+      shut-out printsWhy (λ x. x .1) (onePadFile, blank) (differs 0 (λ d. omega (arith, d))),
+      (λ number. shut-out printsWhy (λ x. writtenOver 0 (refusedText (number x)) (x .1)) (onePadFile, blank) (differs 0 (λ d. omega (arith, d)))),
     )

@@ -32,7 +32,7 @@ factoringRefusal m n a out store = firstOf (factoringTests m n a out store)
 abbrev pub acceptedAs : ℕ → ℕ → Factors → Factoring
 acceptedAs m n f = record { answer = done (recordFor m n f); left = slices (flat (f .columns)) (storeOf (f .swaps)) }
 
--- refusal 7: "result slices +0.0; when factoring, also swap store zero and no pairs"
+-- refusal 7: "result slices +0.0; when factoring, also swap store zero, no pairs and no dead columns"
 unfoldable pub settled : ℕ → ℕ → Factors → Factoring
 settled m n f = cond (allFinite (flat (f .columns))) (acceptedAs m n f) (leaving (slices (zeros (n * m)) (storeOf [])) 7)
 

@@ -56,7 +56,7 @@ pub pow-back : (a b : ℕ) → 2 ^ a ≤ 2 ^ b → a ≤ b
 pow-back a b h = le-of-suc-le-suc (lt-of-not-le (λ (g : suc b ≤ a). lt-irrefl (2 ^ b) (lt-of-lt-of-le (pow-lt g) h)))
 
 -- 2 ^ e is 2 ^ j times the smallest value
-place : (e : ℤ) → down e ≤ 2 ^ 1074 → (j : ℕ) × (up e * 2 ^ 1074 ≡ 2 ^ j * down e)
+pub place : (e : ℤ) → down e ≤ 2 ^ 1074 → (j : ℕ) × (up e * 2 ^ 1074 ≡ 2 ^ j * down e)
 place (pos k) h = (k + 1074, sym (pow-add 2 k 1074) ∙ sym (mul-one (2 ^ (k + 1074))))
 place (negsuc k) h =
     let l : suc k ≤ 1074 = pow-back (suc k) 1074 h in

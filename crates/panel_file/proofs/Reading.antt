@@ -13,7 +13,7 @@ use lib.Ieee.Scale.{finite}
 use Rattle.numbers.specs.Each.{listOf}
 use Rattle.numbers.specs.Column.{Column}
 use Rattle.finite.specs.Finite.{allFinite}
-use Rattle.numbers.proofs.Choice.{and-first, and-second}
+use Rattle.numbers.proofs.Choice.{test-cases, and-first, and-second}
 use Rattle.refusals.specs.Outcome.{done, refused, firstOf, tested, Call, leaving}
 use Rattle.refusals.specs.Refusals.{outside}
 use Rattle.refusals.proofs.Outcomes.{Numbered, first-none, tested-none, tested-some}
@@ -21,6 +21,8 @@ use Rattle.refusals.proofs.Tests.{Inside, inside, not-outside}
 use Rattle.panel_file.specs.declared.Panel.the-variants.{Pads, Refused}
 use Rattle.panel_file.specs.File.{headed, padsOf, fileLength, numberAt, numbersOf, matrixOf, readingsOf}
 use Rattle.panel_file.specs.Reading.{fileTests, fileRefusal, Stores, stores, storesFit, readingRefusal, filled, reading, padsRead}
+use Rattle.panel_file.specs.Reading.{sizedRefusal, readingSized}
+use Rattle.panel_file.specs.Inner.{Holds, readingBeside}
 use Rattle.refusals.proofs.Cases.{first-among}
 use Rattle.panel_file.proofs.Numbers.{number-finite}
 
@@ -125,45 +127,41 @@ module _ (bytes : List ℕ) (s : Stores) where
         w .numbers,
       )
 
--- ---- the two ends of the call
+-- ---- the two ends of reading into the front of stores that fit or not
 
-module _ (bytes : List ℕ) (matrix readings : Column) where
+module _ (fit : Bool) (bytes : List ℕ) (matrix readings : Column) where
   abbrev lent : Stores
   lent = stores matrix readings
 
   abbrev made : Call ℕ Stores
   made = record { answer = done (padsOf bytes); left = filled bytes lent }
 
-  pub read-refused : (number : ℕ) → number ≡ firstOf (fileTests (storesFit lent) bytes) → (number ≡ 0 → ⊥)
-      → (padsRead (Refused number) ≡ reading bytes lent .answer)
-      × ((matrix ≡ reading bytes lent .left .matrix) × (readings ≡ reading bytes lent .left .readings))
-  unfolding reading readingRefusal padsRead
-  read-refused number e n = rw (tested-some (readingRefusal bytes lent) (leaving lent) made (λ z. n (e ∙ z))) (ap refused e, (refl, refl))
+  pub read-refused : (number : ℕ) → number ≡ firstOf (fileTests fit bytes) → (number ≡ 0 → ⊥)
+      → (padsRead (Refused number) ≡ readingBeside fit bytes lent .answer) × (lent ≡ readingBeside fit bytes lent .left)
+  unfolding readingBeside padsRead
+  read-refused number e n = rw (tested-some (firstOf (fileTests fit bytes)) (leaving lent) made (λ z. n (e ∙ z))) (ap refused e, refl)
 
   -- a file that is not refused, n being its number of pads: what the code is owed where it fills the stores
   pub record Passed (n : ℕ) : Type 0 where
-    pub none : firstOf (fileTests (storesFit lent) bytes) ≡ 0
+    pub none : firstOf (fileTests fit bytes) ≡ 0
     pub pads : n ≡ padsOf bytes
+    pub hold : fit ≡ true → padsOf bytes ≤ 64 → Holds (padsOf bytes) lent
 
   module _ (n : ℕ) (passed : Passed n) where
-    known : Whole (storesFit lent) bytes
-    known = accepted (storesFit lent) bytes (passed .none)
-
-    small : n ≤ 64
-    small = rw (passed .pads) (known .size .at-most)
+    known : Whole fit bytes
+    known = accepted fit bytes (passed .none)
 
     places : length bytes ≡ 6 + 8 * (n * n + n)
     places = rw (passed .pads) (known .file-length)
 
+    room : Holds n lent
+    room = rw (passed .pads) (passed .hold (known .fits) (known .size .at-most))
+
     pub matrix-fits : n * n ≤ length matrix
-    matrix-fits =
-        let l : length matrix ≡ 4096 = eqb-true _ _ (and-first (eqb (length matrix) 4096) _ (known .fits)) in
-        omega (arith, square n 64 small)
+    matrix-fits = room .0
 
     pub readings-fit : n ≤ length readings
-    readings-fit =
-        let l : length readings ≡ 64 = eqb-true _ _ (and-second (eqb (length matrix) 4096) _ (known .fits)) in
-        omega (arith, small)
+    readings-fit = room .1
 
     pub matrix-count : n * n ≡ length (take (n * n) matrix)
     matrix-count = sym (length-take-le (n * n) matrix matrix-fits)
@@ -188,11 +186,45 @@ module _ (bytes : List ℕ) (matrix readings : Column) where
 
     pub read-filled : (m r : Column) → m ≡ listOf (length (take (n * n) matrix)) (λ k. numberAt bytes (0 + k))
         → r ≡ listOf (length (take n readings)) (λ k. numberAt bytes (n * n + k))
-        → (padsRead (Pads n) ≡ reading bytes lent .answer)
-        × ((m ++ drop (n * n) matrix ≡ reading bytes lent .left .matrix) × (r ++ drop n readings ≡ reading bytes lent .left .readings))
-    unfolding reading readingRefusal padsRead
+        → (padsRead (Pads n) ≡ readingBeside fit bytes lent .answer)
+        × (stores (m ++ drop (n * n) matrix) (r ++ drop n readings) ≡ readingBeside fit bytes lent .left)
+    unfolding readingBeside padsRead
     read-filled m r p q =
         let pm : m ≡ matrixOf n bytes = p ∙ ap (λ (k : ℕ). listOf k (λ i. numberAt bytes (0 + i))) (sym matrix-count) in
         let pr : r ≡ readingsOf n bytes = q ∙ ap (λ (k : ℕ). listOf k (λ i. numberAt bytes (n * n + i))) (sym readings-count) in
-        rw (tested-none (readingRefusal bytes lent) (leaving lent) made (passed .none), ← passed .pads)
-        (refl, (ap (λ (l : Column). l ++ drop (n * n) matrix) pm, ap (λ (l : Column). l ++ drop n readings) pr))
+        rw (tested-none (firstOf (fileTests fit bytes)) (leaving lent) made (passed .none), ← passed .pads)
+        (refl, λ i. stores (pm i ++ drop (n * n) matrix) (pr i ++ drop n readings))
+
+-- ---- the calls: stores for the greatest file, and a file of one size
+
+pub greatest-hold : (n : ℕ) (s : Stores) → storesFit s ≡ true → n ≤ 64 → Holds n s
+greatest-hold n s fit small =
+    let m : length (s .matrix) ≡ 4096 = eqb-true _ _ (and-first (eqb (length (s .matrix)) 4096) _ fit) in
+    let r : length (s .readings) ≡ 64 = eqb-true _ _ (and-second (eqb (length (s .matrix)) 4096) _ fit) in
+    (omega (arith, square n 64 small), omega arith)
+
+pub own-hold : (n : ℕ) (s : Stores) → (eqb (length (s .matrix)) (n * n) && eqb (length (s .readings)) n) ≡ true → Holds n s
+own-hold n s fit =
+    let m : length (s .matrix) ≡ n * n = eqb-true _ _ (and-first (eqb (length (s .matrix)) (n * n)) _ fit) in
+    let r : length (s .readings) ≡ n = eqb-true _ _ (and-second (eqb (length (s .matrix)) (n * n)) _ fit) in
+    (omega arith, omega arith)
+
+module _ (bytes : List ℕ) (n : ℕ) (s : Stores) where
+  -- another size behind a good head
+  abbrev pub otherSize : Bool
+  otherSize = headed bytes && not (eqb (padsOf bytes) n)
+
+  pub sized-other : otherSize ≡ true → readingSized bytes n s ≡ leaving s 1
+  unfolding readingSized sizedRefusal tested firstOf
+  sized-other e = rw (and-first (headed bytes) _ e, and-second (headed bytes) _ e)
+
+  -- else the tests are those of any file
+  abbrev pub ownFit : Bool
+  ownFit = eqb (length (s .matrix)) (padsOf bytes * padsOf bytes) && eqb (length (s .readings)) (padsOf bytes)
+
+  pub sized-own : otherSize ≡ false → readingSized bytes n s ≡ readingBeside ownFit bytes s
+  unfolding readingSized readingBeside sizedRefusal firstOf fileTests
+  sized-own e =
+      test-cases (headed bytes)
+      (λ h. let own : n ≡ padsOf bytes = sym (eqb-true _ _ (not-false _ (rw h at e))) in rw (h, own, eq-eqb (padsOf bytes) (padsOf bytes) refl))
+      (λ h. rw h)

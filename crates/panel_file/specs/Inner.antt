@@ -1,9 +1,21 @@
--- What the writer's loops leave alone, for their own contracts.
+-- What the writer's loops leave alone, for their own contracts; and reading into stores of any length.
 use mathlib.Core.Path.{_≡_}
+use mathlib.Core.Bool.{Bool}
 use mathlib.Core.List.{List}
-use Prim.Native.Nat.{ℕ}
+use Prim.Native.Nat.{ℕ, _*_, _≤_}
 use lib.ListN.{length, take}
+use Rattle.refusals.specs.Outcome.{done, firstOf, tested, Call, leaving}
+use Rattle.panel_file.specs.File.{padsOf}
+use Rattle.panel_file.specs.Reading.{fileTests, Stores, filled}
 
 -- bytes s that stand where others were: as many, and the same before a place
 abbrev pub KeepsBefore : ℕ → List ℕ → List ℕ → Type 0
 KeepsBefore at was s = (length s ≡ length was) × (take at s ≡ take at was)
+
+-- the stores have room for the numbers of n pads
+abbrev pub Holds : ℕ → Stores → Type 0
+Holds n s = (n * n ≤ length (s .matrix)) × (n ≤ length (s .readings))
+
+-- reading into the front of stores that fit or not
+unfoldable pub readingBeside : Bool → List ℕ → Stores → Call ℕ Stores
+readingBeside fit bytes s = tested (firstOf (fileTests fit bytes)) (leaving s) (record { answer = done (padsOf bytes); left = filled bytes s })

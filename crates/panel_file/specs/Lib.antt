@@ -1,4 +1,4 @@
 pub mod File
-pub mod Inner
 pub mod Reading
+pub mod Inner
 pub mod Writing

@@ -51,7 +51,20 @@ filled bytes s =
 unfoldable pub reading : List ℕ → Stores → Call ℕ Stores
 reading bytes s = tested (readingRefusal bytes s) (leaving s) (record { answer = done (padsOf bytes); left = filled bytes s })
 
--- what each case of the answer stands for
+-- ---- a file of n pads and of no other size, into stores that are as long as its matrix and its readings
+
+-- Document 02, request 11: "A panel file of another size is refused". 8 by the head, then 1 for another size than n, then the tests of any file.
+abbrev pub sizedTests : List ℕ → ℕ → Stores → List (ℕ × Bool)
+sizedTests bytes n s =
+    (8, not (headed bytes)) ∷ (1, not (eqb (padsOf bytes) n)) ∷ fileTests (eqb (length (s .matrix)) (n * n) && eqb (length (s .readings)) n) bytes
+
+unfoldable pub sizedRefusal : List ℕ → ℕ → Stores → ℕ
+sizedRefusal bytes n s = firstOf (sizedTests bytes n s)
+
+unfoldable pub readingSized : List ℕ → ℕ → Stores → Call ℕ Stores
+readingSized bytes n s = tested (sizedRefusal bytes n s) (leaving s) (record { answer = done (padsOf bytes); left = filled bytes s })
+
+-- ---- what each case of the answer stands for
 unfoldable pub padsRead : Panel → Outcome ℕ
 padsRead (Pads n) = done n
 padsRead (Refused number) = refused number

@@ -10,8 +10,8 @@ ghost use Rattle.numbers.specs.Each.{listOf};
 ghost use Rattle.finite.specs.Finite.{allFinite};
 ghost use Rattle.refusals.specs.Outcome.{firstOf};
 ghost use Rattle.panel_file.specs.File.{bitsAt, headed, padsOf, fileLength, numberAt, IsFile};
-ghost use Rattle.panel_file.specs.Inner.{KeepsBefore};
-ghost use Rattle.panel_file.specs.Reading.{fileTests, fileRefusal, stores, reading, padsRead};
+ghost use Rattle.panel_file.specs.Inner.{KeepsBefore, Holds, readingBeside};
+ghost use Rattle.panel_file.specs.Reading.{fileTests, fileRefusal, stores, reading, readingSized, padsRead};
 ghost use Rattle.panel_file.specs.Writing.{writingRefusal, written, Writing};
 
 // What reading a file answers: how many pads it has, or a refusal's number.
@@ -137,13 +137,14 @@ pub fn file_refusal(file: &[u8]) -> usize
     refusal_beside(file, true)
 }
 
-// Reads a file into two stores, of 4096 and 64 numbers. What lies past the file's own numbers stays as it was.
-pub fn read(file: &[u8], matrix: &mut [f64], readings: &mut [f64]) -> Panel
-    ensures { λ r. ⌜ padsRead r ≡ reading (now (file .entry)) (stores (now (matrix .entry)) (now (readings .entry))) .answer ⌝ }
-    ensures { λ _. ⌜ now (matrix .exit) ≡ reading (now (file .entry)) (stores (now (matrix .entry)) (now (readings .entry))) .left .matrix ⌝ }
-    ensures { λ _. ⌜ now (readings .exit) ≡ reading (now (file .entry)) (stores (now (matrix .entry)) (now (readings .entry))) .left .readings ⌝ }
+// Reads a file into the front of two stores that fit or not. What lies past the file's own numbers stays as it was.
+fn read_front(file: &[u8], fit: bool, matrix: &mut [f64], readings: &mut [f64]) -> Panel
+    requires { ⌜ (fit ≡ true → padsOf (now file) ≤ 64 → Holds (padsOf (now file)) (stores (now matrix) (now readings))) ⌝ }
+    ensures { λ r. ⌜ padsRead r ≡ readingBeside fit (now (file .entry)) (stores (now (matrix .entry)) (now (readings .entry))) .answer ⌝ }
+    ensures { λ _. ⌜ stores (now (matrix .exit)) (now (readings .exit))
+        ≡ readingBeside fit (now (file .entry)) (stores (now (matrix .entry)) (now (readings .entry))) .left ⌝ }
 {
-    let number = refusal_beside(file, (matrix.len() == 4096) & (readings.len() == 64));
+    let number = refusal_beside(file, fit);
     if number != 0 {
         return Panel::Refused(number);
     }
@@ -152,6 +153,30 @@ pub fn read(file: &[u8], matrix: &mut [f64], readings: &mut [f64]) -> Panel
     fill(file, 0, &mut matrix[..entries]);
     fill(file, entries, &mut readings[..n]);
     Panel::Pads(n)
+}
+
+// Reads a file into two stores, of 4096 and 64 numbers.
+pub fn read(file: &[u8], matrix: &mut [f64], readings: &mut [f64]) -> Panel
+    ensures { λ r. ⌜ padsRead r ≡ reading (now (file .entry)) (stores (now (matrix .entry)) (now (readings .entry))) .answer ⌝ }
+    ensures { λ _. ⌜ now (matrix .exit) ≡ reading (now (file .entry)) (stores (now (matrix .entry)) (now (readings .entry))) .left .matrix ⌝ }
+    ensures { λ _. ⌜ now (readings .exit) ≡ reading (now (file .entry)) (stores (now (matrix .entry)) (now (readings .entry))) .left .readings ⌝ }
+{
+    let fit = (matrix.len() == 4096) & (readings.len() == 64);
+    read_front(file, fit, matrix, readings)
+}
+
+// Reads a file of n pads, and of no other size, into two stores that are as long as its matrix and its readings.
+pub fn read_sized(file: &[u8], n: usize, matrix: &mut [f64], readings: &mut [f64]) -> Panel
+    ensures { λ r. ⌜ padsRead r ≡ readingSized (now (file .entry)) n (stores (now (matrix .entry)) (now (readings .entry))) .answer ⌝ }
+    ensures { λ _. ⌜ stores (now (matrix .exit)) (now (readings .exit))
+        ≡ readingSized (now (file .entry)) n (stores (now (matrix .entry)) (now (readings .entry))) .left ⌝ }
+{
+    let pads = pads_of(file);
+    if is_headed(file) & (pads != n) {
+        return Panel::Refused(1);
+    }
+    let fit = (matrix.len() == pads * pads) & (readings.len() == pads);
+    read_front(file, fit, matrix, readings)
 }
 
 // Writes the 64 bits at a place, least byte first. What stands before stays.

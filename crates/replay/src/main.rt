@@ -52,6 +52,9 @@ fn on_slices(text: &mut [u8], at: usize, case: Case, bytes: &[u8]) -> usize {
 
 // Puts the line of a case.
 fn one_case(text: &mut Text, at: usize, case: Case, bytes: &mut Bytes) -> usize {
+    if (case.op == 32) | (case.op == 33) {
+        return four_ops::run(text, at, case, bytes);
+    }
     if case.on_file {
         return file_ops::run(text, at, case, bytes);
     }

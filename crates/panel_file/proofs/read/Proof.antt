@@ -1,66 +1,23 @@
--- The matrix, then the readings, each over the front of its store. Assumes nothing.
-use mathlib.Core.Path.{sym, _∙_}
-use native.Mathlib.Omega.{arith}
+-- The stores for the greatest file hold any. Assumes nothing.
+use mathlib.Core.Path.{ap}
 use borrow.Author.Needs.{needs}
-use Rattle.panel_file.proofs.Reading.{square, Passed, read-refused, read-filled, matrix-fits, readings-fit, matrix-count, readings-count, matrix-asks}
-use Rattle.panel_file.proofs.Reading.{readings-asks}
+use Rattle.panel_file.specs.File.{padsOf}
+use Rattle.panel_file.specs.Reading.{Stores, stores, reading, readingRefusal}
+use Rattle.panel_file.specs.Inner.{readingBeside}
+use Rattle.panel_file.proofs.Reading.{greatest-hold}
 use Rattle.panel_file.proofs.read.Statement.{statement}
 use Rattle.panel_file.proofs.read.Tie as tie
 
+read-front-requires : tie.Need-read-front-requires
+read-front-requires c κs =
+    let g = c .before .before .before .before .before .args in
+    greatest-hold (padsOf (g .file .now)) (stores (g .matrix .now) (g .readings .now))
+
 returns : tie.Need-returns
+unfolding reading readingRefusal readingBeside
 returns c =
-    let at-start = c .before .before .before .before .before in
-    read-refused (at-start .args .file .now) (at-start .args .matrix .now) (at-start .args .readings .now) _ (c .before .refusal-beside .ensures)
-    (c .if1 .taken)
-
-mul-entries : tie.Need-mul-entries
-mul-entries c = omega (arith, square (c .pads-of .result) 255 (omega (arith, (c .pads-of .ensures .1))))
-
--- past the tests
-passed : (c : tie.After-pads-of) → let at-test = c .before .before in let g = at-test .before .before .before .before .args in
-    Passed (g .file .now) (g .matrix .now) (g .readings .now) (c .pads-of .result)
-passed c =
-    let at-test = c .before .before in
-    record { none = sym (at-test .refusal-beside .ensures) ∙ (c .before .if1 .left); pads = c .pads-of .ensures .0 }
-
-slice-relend-prefix-fill : tie.Need-slice-relend-prefix-fill
-slice-relend-prefix-fill c = matrix-fits _ _ _ _ (passed c)
-
-slice-aggregate-fill : tie.Need-slice-aggregate-fill
-slice-aggregate-fill c = matrix-count _ _ _ _ (passed (c .before))
-
-fill-requires : tie.Need-fill-requires
-fill-requires c κs = matrix-asks _ _ _ _ (passed (c .before))
-
-slice-relend-prefix-fill-2 : tie.Need-slice-relend-prefix-fill-2
-slice-relend-prefix-fill-2 c = readings-fit _ _ _ _ (passed (c .before .before .before .before))
-
-slice-aggregate-fill-2 : tie.Need-slice-aggregate-fill-2
-slice-aggregate-fill-2 c = readings-count _ _ _ _ (passed (c .before .before .before .before .before))
-
-fill-requires-2 : tie.Need-fill-requires-2
-fill-requires-2 c κs = readings-asks _ _ _ _ (passed (c .before .before .before .before .before))
-
-returns-2 : tie.Need-returns-2
-returns-2 c =
-    let at-fill2 = c .before .before in
-    let at-fill = at-fill2 .before .before .before .before in
-    read-filled _ _ _ _ (passed (at-fill .before .before)) _ _ (at-fill .fill .ensures) (at-fill2 .fill2 .ensures)
+    let made = c .before .before .before .before .read-front .ensures in
+    (made .0, (ap (λ (s : Stores). s .matrix) (made .1), ap (λ (s : Stores). s .readings) (made .1)))
 
 pub read-spec : {M : Type 1} → statement M
-read-spec =
-    tie.close
-    (tie.spec
-    (λ c κs. search needs)
-    returns
-    (λ c κs. search needs)
-    mul-entries
-    slice-relend-prefix-fill
-    slice-aggregate-fill
-    fill-requires
-    slice-relend-prefix-fill-2
-    slice-aggregate-fill-2
-    fill-requires-2
-    (λ c. search needs)
-    (λ c. search needs)
-    returns-2)
+read-spec = tie.close (tie.spec read-front-requires (λ c. search needs) (λ c. search needs) returns)
