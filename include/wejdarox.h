@@ -308,8 +308,7 @@ size_t wejdarox_solve(const double *factors, size_t factors_len, const size_t *s
  * wejdarox_tr_solve
  *
  *  Purpose
- *  
-/*
+ *  =======
  *  Solves A^T * X = B by the factors of the square matrix A.
  *
  *  Arguments and answer
@@ -390,7 +389,8 @@ size_t wejdarox_l(const double *factors, size_t factors_len, const size_t *swaps
  */
 size_t wejdarox_u(const double *factors, size_t factors_len, const size_t *swaps, size_t swaps_len, size_t m, size_t n,
                   size_t pairs, size_t dead, double *x, size_t x_len);
-=======
+
+/*
  * wejdarox_why_factor
  *
  *  Purpose
