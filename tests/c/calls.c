@@ -94,6 +94,22 @@ static void from_factors(void) {
     EXPECT(wejdarox_is_invertible(h.factors, 4, h.swaps, 128, 1, 2, h.pairs, h.dead, &invertible) == WEJDAROX_REFUSAL_NOT_SQUARE && invertible);
 }
 
+static void reasons(void) {
+    struct held h = factored();
+    const double large[4] = {1, -1, 1e308, 1e308}, singular[4] = {1, 0, 1, 0};
+    double x[2];
+    size_t first = 9, second = 9, third = 9;
+    EXPECT(wejdarox_why_factor(matrix, 4, 2, 2, h.factors, 4, h.swaps, 128, &first, &second, &third) == WEJDAROX_DONE);
+    EXPECT(first == 0 && second == 0 && third == 0);
+    EXPECT(wejdarox_why_factor(large, 4, 2, 2, h.factors, 4, h.swaps, 128, &first, &second, &third) == WEJDAROX_REFUSAL_OVERFLOW);
+    EXPECT(first == 0 && second == 1 && third == 1);
+    h = factored();
+    EXPECT(wejdarox_why_solve(h.factors, 4, h.swaps, 128, 2, 2, h.pairs, h.dead, readings, 2, 1, x, 2, &first, &second, &third) == WEJDAROX_DONE);
+    EXPECT(wejdarox_factor(singular, 4, 2, 2, h.factors, 4, h.swaps, 128, &h.pairs, &h.dead, &h.toss_ups) == WEJDAROX_DONE && h.dead == 1);
+    EXPECT(wejdarox_why_solve(h.factors, 4, h.swaps, 128, 2, 2, h.pairs, h.dead, readings, 2, 1, x, 2, &first, &second, &third) == WEJDAROX_REFUSAL_SINGULAR);
+    EXPECT(first == 0 && second == 1 && third == 0);
+}
+
 static void triangles(void) {
     const double lower[4] = {2, 4, 0, 8}, upper[4] = {2, 0, 4, 8}, dead[4] = {2, 4, 0, 0}, b[2] = {2, 12};
     double x[2] = {9, 9};
@@ -177,6 +193,19 @@ static void files(void) {
     EXPECT(wejdarox_why_text(file, count, text) == 19 && memcmp(text, "refused 6\ncolumn 1\n", 19) == 0);
 }
 
+static void four_pads(void) {
+    const double four[16] = {2, 0, 0, 0, 0, 4, 0, 0, 0, 0, 8, 0, 0, 0, 0, 16}, told[4] = {2, 8, 24, 64}, endless[4] = {1, 1e308 * 10, 0, 0};
+    double factors[16], loads[4];
+    size_t swaps[8], pairs = 9, count = 0;
+    uint8_t file[WEJDAROX_FILE_LENGTH(4)];
+    EXPECT(wejdarox_four_pads(four, told, factors, &pairs, swaps, loads) == WEJDAROX_DONE && pairs == 0);
+    EXPECT(same(loads[0], 1) && same(loads[1], 2) && same(loads[2], 3) && same(loads[3], 4) && memcmp(factors, four, sizeof four) == 0);
+    EXPECT(wejdarox_four_pads(four, endless, factors, &pairs, swaps, loads) == WEJDAROX_REFUSAL_NOT_FINITE && same(loads[0], 0));
+    EXPECT(wejdarox_write_panel(4, four, 16, told, 4, file, sizeof file, &count) == WEJDAROX_DONE);
+    EXPECT(wejdarox_four_pads_of(file, count, factors, &pairs, swaps, loads) == WEJDAROX_DONE && same(loads[3], 4));
+    EXPECT(wejdarox_four_pads_of(file, count - 1, factors, &pairs, swaps, loads) == WEJDAROX_REFUSAL_LENGTH && same(loads[3], 0));
+}
+
 static void words(void) {
     size_t number;
     EXPECT(wejdarox_version() == WEJDAROX_VERSION_NUMBER);
@@ -188,10 +217,12 @@ int main(void) {
     factoring();
     columns();
     from_factors();
+    reasons();
     triangles();
     swap_lists();
     ranking();
     files();
+    four_pads();
     words();
     printf("%d passed, %d failed\n", passed, failed);
     return failed ? 1 : 0;

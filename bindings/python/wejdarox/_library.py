@@ -61,10 +61,10 @@ ARGUMENTS = {
 
 
 def _path() -> str:
-    """Where the library lies: as $WEJDAROX_LIBRARY says; in this checkout; or where the machine's loader looks."""
+    """Where the library lies: in the directory $WEJDAROX_LIBRARY; in this checkout; or where the machine's loader looks."""
     told = os.environ.get("WEJDAROX_LIBRARY")
     if told:
-        return told
+        return os.path.join(told, "libwejdarox.so")
     top = os.path.join(os.path.dirname(os.path.abspath(__file__)), "..", "..", "..")
     made = os.path.normpath(os.path.join(top, "target", "library", "lib", "libwejdarox.so"))
     if os.path.exists(made):
@@ -72,7 +72,7 @@ def _path() -> str:
     installed = ctypes.util.find_library("wejdarox")
     if installed:
         return installed
-    raise ImportError("libwejdarox.so is missing: ./library makes it, and WEJDAROX_LIBRARY may name another")
+    raise ImportError("libwejdarox.so is missing: ./library makes it, and WEJDAROX_LIBRARY may name the directory of another")
 
 
 def _loaded() -> ctypes.CDLL:

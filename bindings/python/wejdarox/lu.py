@@ -7,7 +7,7 @@ from typing import Any, List, NamedTuple, Optional, Tuple, Union
 from ._lent import lend, shape_of
 from ._library import MOST, SWAPS, library
 from ._matrix import Matrix
-from .refusals import Refused, told
+from .refusals import told
 
 Solution = Union[List[float], Matrix]
 
@@ -175,7 +175,9 @@ def _factored(call: Any, a: Any, shape: Optional[Tuple[int, int]], counts: list)
 
 
 def factor(a: Any, shape: Optional[Tuple[int, int]] = None) -> Lu:
-    """Factors a matrix with row pivoting. It is a list of rows, or an array of two dimensions; or a plain list by column, with its shape. Refusals: 1, 3, 5, 7."""
+    """Factors a matrix with row pivoting: a list of rows, or an array of two dimensions; or a plain list by column, with its shape.
+
+    Refusals: 1, 3, 5, 7."""
     counts = [c_size_t() for _ in range(3)]
     answer, factors, swaps, rows, columns = _factored(library.wejdarox_factor, a, shape, counts)
     told(answer)

@@ -1,16 +1,27 @@
 //! LU decomposition with row pivoting of small `f64` matrices, by the proved static library of this repository.
 //!
 //! Matrices lie column after column, with 1 to 64 rows and up to 64 columns. Sizes, lengths and numbers may be anything: what cannot be answered is refused with
-//! a [`Refusal`], and nothing here panics. See `examples/pads.rs`.
+//! a [`Refusal`], and nothing here panics. The numbers under "Errors" are those of [`Refusal::number`]. Only `core` and `alloc` are used. See `examples/pads.rs`.
+#![cfg_attr(not(test), no_std)]
 #![deny(unsafe_code)]
 #![warn(missing_docs)]
 
+extern crate alloc;
+
 mod calls;
+mod columns;
+mod files;
+mod further_calls;
+mod passes;
 mod why;
 
+use alloc::vec;
+use alloc::vec::Vec;
 use calls::{Counts, Profile};
-use std::error::Error;
-use std::fmt;
+use core::error::Error;
+use core::fmt;
+pub use files::{library_version, moves, moves_text, stiffness_text, text, why_text, Panel};
+pub use passes::{solve_triangular, SwapList, Triangle};
 pub use why::{Pass, WhyFactor, WhySolve};
 
 #[cfg(not(target_pointer_width = "64"))]
@@ -22,8 +33,16 @@ pub const MOST: usize = 64;
 /// What no result needs more of: a longer input is refused whatever the length of the slice for the result.
 const MOST_ENTRIES: usize = MOST * MOST;
 
-/// Why a call was refused.
-#[derive(Clone, Copy, Debug, PartialEq, Eq, Hash)]
+/// Why a call was refused. It reads as words also where `main` returns it.
+///
+/// ```
+/// # use wejdarox::{rank, Refusal};
+/// let refusal = rank(&[f64::NAN]).unwrap_err();
+/// assert_eq!((refusal, refusal.number()), (Refusal::NotFinite, 5));
+/// assert_eq!(format!("{refusal:?}"), "refused 5: a number is not finite");
+/// ```
+#[derive(Clone, Copy, PartialEq, Eq, Hash)]
+#[non_exhaustive]
 pub enum Refusal {
     /// 1: a size is outside its limits.
     Size,
@@ -49,6 +68,7 @@ pub enum Refusal {
 
 impl Refusal {
     /// Its number, 1 to 10.
+    #[must_use]
     pub fn number(self) -> usize {
         match self {
             Refusal::Size => 1,
@@ -100,6 +120,13 @@ impl fmt::Display for Refusal {
     }
 }
 
+/// As [`fmt::Display`], since that is what a refusal prints as that `main` returns.
+impl fmt::Debug for Refusal {
+    fn fmt(&self, f: &mut fmt::Formatter<'_>) -> fmt::Result {
+        fmt::Display::fmt(self, f)
+    }
+}
+
 impl Error for Refusal {}
 
 /// A number as a significand times a power of two. It has room for the product of any 64 finite numbers; it prints as `1.25 × 2^-1200`.
@@ -121,6 +148,20 @@ impl fmt::Display for Scaled {
 }
 
 /// The factors of a matrix, with the exchanged rows and the record of the factoring.
+///
+/// ```
+/// # use wejdarox::{rank, Lu};
+/// let mut crossing = Lu::factor(&[0.0, 2.0], 2, 1)?;
+/// crossing.add_column(&[1.0, 0.0])?;
+/// assert_eq!(crossing.swaps().collect::<Vec<_>>(), [(0, 1)]);
+/// let loads = crossing.solve(&[5.0, 8.0], 1)?;
+/// assert_eq!(loads, [4.0, 5.0]);
+/// assert_eq!(rank(&loads)?, [2, 1]);
+/// assert_eq!((crossing.determinant()?, crossing.is_invertible()?), (-2.0, true));
+/// assert_eq!(crossing.scaled_determinant()?.to_string(), "-1 × 2^1");
+/// assert_eq!(crossing.inverse()?, [0.0, 1.0, 0.5, 0.0]);
+/// # Ok::<(), wejdarox::Refusal>(())
+/// ```
 #[derive(Clone, Debug)]
 pub struct Lu {
     factors: Vec<f64>,
@@ -131,7 +172,10 @@ pub struct Lu {
 }
 
 impl Lu {
-    /// Factors the matrix `a` of so many rows and columns, column after column. Refusals: 1, 3, 5, 7. A zero pivot is none: its step is skipped.
+    /// Factors the matrix `a` of so many rows and columns, column after column. A zero pivot is no error: its step is skipped.
+    ///
+    /// # Errors
+    /// 1, 3, 5, 7.
     pub fn factor(a: &[f64], rows: usize, columns: usize) -> Result<Lu, Refusal> {
         let mut lu = Lu { factors: vec![0.0; a.len().min(MOST_ENTRIES)], swaps: [0; 2 * MOST], rows, columns, counts: Counts::default() };
         Refusal::told(calls::factor(a, rows, columns, &mut lu.factors, &mut lu.swaps, &mut lu.counts))?;
@@ -139,7 +183,9 @@ impl Lu {
     }
 
     /// Adds one column of the matrix behind the others: the same factors, to the last bit, and the same counts as factoring the widened matrix.
-    /// Refusals: 1 (there are 64 columns), 3, 5, 7; all is then as it was.
+    ///
+    /// # Errors
+    /// 1 (there are 64 columns), 3, 5, 7; all is then as it was.
     pub fn add_column(&mut self, column: &[f64]) -> Result<(), Refusal> {
         let before = self.factors.len();
         let mut counts = self.counts;
@@ -155,35 +201,50 @@ impl Lu {
         Ok(())
     }
 
-    /// Solves for `k` right-hand columns, which lie in `b` one after the other. Refusals: 1, 2, 3, 5, 6, 7.
+    /// Solves for `k` right-hand columns, which lie in `b` one after the other.
+    ///
+    /// # Errors
+    /// 1, 2, 3, 5, 6, 7.
     pub fn solve(&self, b: &[f64], k: usize) -> Result<Vec<f64>, Refusal> {
         let mut x = vec![0.0; b.len().min(MOST_ENTRIES)];
         Refusal::told(calls::solve(self.held(), b, k, &mut x))?;
         Ok(x)
     }
 
-    /// The inverse of a square matrix. Refusals: 2, 6, 7.
+    /// The inverse of a square matrix.
+    ///
+    /// # Errors
+    /// 2, 6, 7.
     pub fn inverse(&self) -> Result<Vec<f64>, Refusal> {
         let mut x = vec![0.0; self.rows * self.rows];
         Refusal::told(calls::inverse(self.held(), &mut x))?;
         Ok(x)
     }
 
-    /// The determinant of a square matrix. It may underflow to zero where the matrix is invertible. Refusals: 2, 7.
+    /// The determinant of a square matrix. It may underflow to zero where the matrix is invertible.
+    ///
+    /// # Errors
+    /// 2, 7.
     pub fn determinant(&self) -> Result<f64, Refusal> {
         let mut value = 0.0;
         Refusal::told(calls::determinant(self.held(), &mut value))?;
         Ok(value)
     }
 
-    /// The determinant of a square matrix, which neither vanishes nor overflows: it is zero only where a column is dead. Refusal: 2.
+    /// The determinant of a square matrix, which neither vanishes nor overflows: it is zero only where a column is dead.
+    ///
+    /// # Errors
+    /// 2.
     pub fn scaled_determinant(&self) -> Result<Scaled, Refusal> {
         let mut d = Scaled { significand: 0.0, exponent: 0 };
         Refusal::told(calls::scaled_determinant(self.held(), &mut d.significand, &mut d.exponent))?;
         Ok(d)
     }
 
-    /// Whether a square matrix is invertible: it has no dead column. Refusal: 2.
+    /// Whether a square matrix is invertible: it has no dead column.
+    ///
+    /// # Errors
+    /// 2.
     pub fn is_invertible(&self) -> Result<bool, Refusal> {
         let mut invertible = false;
         Refusal::told(calls::is_invertible(self.held(), &mut invertible))?;
@@ -191,31 +252,36 @@ impl Lu {
     }
 
     /// The number of rows, 1 to 64.
+    #[must_use]
     pub fn rows(&self) -> usize {
         self.rows
     }
 
     /// The number of columns, 0 to 64.
+    #[must_use]
     pub fn columns(&self) -> usize {
         self.columns
     }
 
     /// L and U packed, column after column: U on and above the diagonal, L below it without its ones.
+    #[must_use]
     pub fn factors(&self) -> &[f64] {
         &self.factors
     }
 
     /// The exchanged rows, pair after pair, counted from 0.
-    pub fn swaps(&self) -> impl Iterator<Item = (usize, usize)> + '_ {
+    pub fn swaps(&self) -> impl ExactSizeIterator<Item = (usize, usize)> + '_ {
         self.swaps.chunks_exact(2).take(self.counts.pairs).map(|pair| (pair[0], pair[1]))
     }
 
     /// How many columns are dead: a zero of either sign on the diagonal of the factors. Those past the last row have no diagonal and do not count.
+    #[must_use]
     pub fn dead_columns(&self) -> usize {
         self.counts.dead
     }
 
     /// In how many columns another row had the pivot's magnitude, so that the first was taken.
+    #[must_use]
     pub fn toss_ups(&self) -> usize {
         self.counts.toss_ups
     }
@@ -227,12 +293,18 @@ impl Lu {
 }
 
 /// The numbers of the pads that carry a load, counted from 1, in the order to lift them: greatest magnitude of load first, equal magnitudes by the lower
-/// number. A pad whose load is a zero of either sign is left off. Refusals: 1, 5.
+/// number. A pad whose load is a zero of either sign is left off.
+///
+/// # Errors
+/// 1, 5.
 pub fn rank(loads: &[f64]) -> Result<Vec<usize>, Refusal> {
     listed(calls::rank, loads)
 }
 
-/// The numbers of all pads, in the same order. Refusals: 1, 5.
+/// The numbers of all pads, in the same order.
+///
+/// # Errors
+/// 1, 5.
 pub fn rank_all(loads: &[f64]) -> Result<Vec<usize>, Refusal> {
     listed(calls::rank_all, loads)
 }
@@ -263,7 +335,10 @@ pub struct PadOrder {
     pub toss_ups: usize,
 }
 
-/// The pads of a panel file in the order to lift them. Refusals: 8, 1, 3, 5, 6, 7.
+/// The pads of a panel file in the order to lift them.
+///
+/// # Errors
+/// 8, 1, 3, 5, 6, 7.
 pub fn pad_order(file: &[u8]) -> Result<PadOrder, Refusal> {
     let (mut ranks, mut loads, mut pads, mut toss_ups) = ([0; MOST], [0.0; MOST], 0, 0);
     Refusal::told(calls::pad_order(file, &mut ranks, &mut loads, &mut pads, &mut toss_ups))?;
@@ -280,7 +355,10 @@ pub struct Stiffness {
     pub toss_ups: usize,
 }
 
-/// The stiffness of a panel file's crossing. Refusals: 8, 1, 3, 5, and 7 where a factor is not finite.
+/// The stiffness of a panel file's crossing.
+///
+/// # Errors
+/// 8, 1, 3, 5, and 7 where a factor is not finite.
 pub fn stiffness(file: &[u8]) -> Result<Stiffness, Refusal> {
     let (mut determinant, mut toss_ups) = (Scaled { significand: 0.0, exponent: 0 }, 0);
     Refusal::told(calls::stiffness(file, &mut determinant.significand, &mut determinant.exponent, &mut toss_ups))?;
@@ -300,7 +378,7 @@ pub struct FourPads {
 
 impl FourPads {
     /// The pairs of exchanged rows, first pair first, counted from 0: at most three.
-    pub fn swaps(&self) -> impl Iterator<Item = (usize, usize)> + '_ {
+    pub fn swaps(&self) -> impl ExactSizeIterator<Item = (usize, usize)> + '_ {
         self.swaps.chunks_exact(2).take(self.pairs).map(|pair| (pair[0], pair[1]))
     }
 
@@ -311,13 +389,19 @@ impl FourPads {
     }
 }
 
-/// Factors and solves a crossing of four pads: its matrix column by column, and its readings. Refusals: 5, 7 where a factor is not finite, 6, 7.
+/// Factors and solves a crossing of four pads: its matrix column by column, and its readings.
+///
+/// # Errors
+/// 5, 7 where a factor is not finite, 6, 7.
 pub fn four_pads(matrix: &[[f64; 4]; 4], readings: &[f64; 4]) -> Result<FourPads, Refusal> {
     let mut out = Profile::default();
     FourPads::told(calls::four_pads(matrix, readings, &mut out), out)
 }
 
-/// The same for a panel file of four pads. Refusals: 8, 1 (also for another size), 3, 5, 7, 6, 7.
+/// The same for a panel file of four pads.
+///
+/// # Errors
+/// 8, 1 (also for another size), 3, 5, 7, 6, 7.
 pub fn four_pads_of(file: &[u8]) -> Result<FourPads, Refusal> {
     let mut out = Profile::default();
     FourPads::told(calls::four_pads_of(file, &mut out), out)
@@ -340,11 +424,15 @@ pub struct Season {
 
 impl Season {
     /// A season of no file.
+    #[must_use]
     pub fn new() -> Season {
         Season::default()
     }
 
-    /// The season with one file more. Refusal: 10, where it has 4,000.
+    /// The season with one file more.
+    ///
+    /// # Errors
+    /// 10, where it has 4,000.
     pub fn with_file(self, file: &[u8]) -> Result<Season, Refusal> {
         let mut counts = [0; 17];
         counts[0] = self.accepted;

@@ -1,9 +1,11 @@
 //! Why a factoring or a solve is refused: the refusal, and the place that caused it. Places are counted from 0.
 use crate::{calls, Lu, Refusal, MOST, MOST_ENTRIES};
-use std::fmt;
+use alloc::vec;
+use core::fmt;
 
 /// Why [`Lu::factor`] refuses a matrix.
 #[derive(Clone, Copy, Debug, PartialEq, Eq, Hash)]
+#[non_exhaustive]
 pub enum WhyFactor {
     /// Its sizes, lengths or numbers: 1, 3 or 5.
     Refused(Refusal),
@@ -20,6 +22,7 @@ pub enum WhyFactor {
 
 /// A pass of a solve.
 #[derive(Clone, Copy, Debug, PartialEq, Eq, Hash)]
+#[non_exhaustive]
 pub enum Pass {
     /// The unit lower pass, the first.
     Lower,
@@ -29,6 +32,7 @@ pub enum Pass {
 
 /// Why [`Lu::solve`] refuses right-hand columns.
 #[derive(Clone, Copy, Debug, PartialEq, Eq, Hash)]
+#[non_exhaustive]
 pub enum WhySolve {
     /// The sizes, lengths or numbers: 1, 2, 3 or 5.
     Refused(Refusal),
@@ -50,6 +54,7 @@ pub enum WhySolve {
 
 impl WhyFactor {
     /// The refusal that the explained call gives.
+    #[must_use]
     pub fn refusal(self) -> Refusal {
         match self {
             WhyFactor::Refused(refusal) => refusal,
@@ -60,6 +65,7 @@ impl WhyFactor {
 
 impl WhySolve {
     /// The refusal that the explained call gives.
+    #[must_use]
     pub fn refusal(self) -> Refusal {
         match self {
             WhySolve::Refused(refusal) => refusal,
@@ -97,6 +103,13 @@ impl fmt::Display for WhySolve {
 
 impl Lu {
     /// Why [`Lu::factor`] refuses these arguments; `None` where it accepts them.
+    ///
+    /// ```
+    /// # use wejdarox::{Lu, WhyFactor};
+    /// assert_eq!(Lu::why_factor(&[1.0, -1.0, 1e308, 1e308], 2, 2), Some(WhyFactor::Overflow { step: 0, column: 1, row: 1 }));
+    /// assert_eq!(Lu::why_factor(&[1.0], 1, 1), None);
+    /// ```
+    #[must_use]
     pub fn why_factor(a: &[f64], rows: usize, columns: usize) -> Option<WhyFactor> {
         let mut factors = vec![0.0; a.len().min(MOST_ENTRIES)];
         let mut place = calls::Place::default();
@@ -110,6 +123,14 @@ impl Lu {
     }
 
     /// Why [`Lu::solve`] refuses these right-hand columns; `None` where it accepts them.
+    ///
+    /// ```
+    /// # use wejdarox::{Lu, WhySolve};
+    /// let crossing = Lu::factor(&[1.0, 0.0, 1.0, 0.0], 2, 2)?;
+    /// assert_eq!(crossing.why_solve(&[5.0, 8.0], 1), Some(WhySolve::Singular { column: 1 }));
+    /// # Ok::<(), wejdarox::Refusal>(())
+    /// ```
+    #[must_use]
     pub fn why_solve(&self, b: &[f64], k: usize) -> Option<WhySolve> {
         let mut x = vec![0.0; b.len().min(MOST_ENTRIES)];
         let mut place = calls::Place::default();
