@@ -295,6 +295,11 @@ impl Lu {
 /// The numbers of the pads that carry a load, counted from 1, in the order to lift them: greatest magnitude of load first, equal magnitudes by the lower
 /// number. A pad whose load is a zero of either sign is left off.
 ///
+/// ```
+/// assert_eq!(wejdarox::rank(&[-1.0, 0.0, 2.0])?, [3, 1]);
+/// # Ok::<(), wejdarox::Refusal>(())
+/// ```
+///
 /// # Errors
 /// 1, 5.
 pub fn rank(loads: &[f64]) -> Result<Vec<usize>, Refusal> {
@@ -302,6 +307,11 @@ pub fn rank(loads: &[f64]) -> Result<Vec<usize>, Refusal> {
 }
 
 /// The numbers of all pads, in the same order.
+///
+/// ```
+/// assert_eq!(wejdarox::rank_all(&[-1.0, 0.0, 2.0])?, [3, 1, 2]);
+/// # Ok::<(), wejdarox::Refusal>(())
+/// ```
 ///
 /// # Errors
 /// 1, 5.
@@ -337,6 +347,14 @@ pub struct PadOrder {
 
 /// The pads of a panel file in the order to lift them.
 ///
+/// ```
+/// # use wejdarox::{pad_order, Panel};
+/// let file = Panel { matrix: vec![0.0, 2.0, 1.0, 0.0], readings: vec![5.0, 8.0] }.write()?;
+/// let order: Vec<_> = pad_order(&file)?.pads.iter().map(|pad| (pad.number, pad.load)).collect();
+/// assert_eq!(order, [(2, 5.0), (1, 4.0)]);
+/// # Ok::<(), wejdarox::Refusal>(())
+/// ```
+///
 /// # Errors
 /// 8, 1, 3, 5, 6, 7.
 pub fn pad_order(file: &[u8]) -> Result<PadOrder, Refusal> {
@@ -356,6 +374,13 @@ pub struct Stiffness {
 }
 
 /// The stiffness of a panel file's crossing.
+///
+/// ```
+/// # use wejdarox::{stiffness, Panel};
+/// let file = Panel { matrix: vec![0.0, 2.0, 1.0, 0.0], readings: vec![5.0, 8.0] }.write()?;
+/// assert_eq!(stiffness(&file)?.determinant.to_string(), "-1 × 2^1");
+/// # Ok::<(), wejdarox::Refusal>(())
+/// ```
 ///
 /// # Errors
 /// 8, 1, 3, 5, and 7 where a factor is not finite.
@@ -391,6 +416,12 @@ impl FourPads {
 
 /// Factors and solves a crossing of four pads: its matrix column by column, and its readings.
 ///
+/// ```
+/// let matrix = [[2.0, 0.0, 0.0, 0.0], [0.0, 4.0, 0.0, 0.0], [0.0, 0.0, 8.0, 0.0], [0.0, 0.0, 0.0, 16.0]];
+/// assert_eq!(wejdarox::four_pads(&matrix, &[2.0, 8.0, 24.0, 64.0])?.loads, [1.0, 2.0, 3.0, 4.0]);
+/// # Ok::<(), wejdarox::Refusal>(())
+/// ```
+///
 /// # Errors
 /// 5, 7 where a factor is not finite, 6, 7.
 pub fn four_pads(matrix: &[[f64; 4]; 4], readings: &[f64; 4]) -> Result<FourPads, Refusal> {
@@ -399,6 +430,10 @@ pub fn four_pads(matrix: &[[f64; 4]; 4], readings: &[f64; 4]) -> Result<FourPads
 }
 
 /// The same for a panel file of four pads.
+///
+/// ```
+/// assert_eq!(wejdarox::four_pads_of(b"no panel file"), Err(wejdarox::Refusal::NotAPanelFile));
+/// ```
 ///
 /// # Errors
 /// 8, 1 (also for another size), 3, 5, 7, 6, 7.
@@ -430,6 +465,13 @@ impl Season {
     }
 
     /// The season with one file more.
+    ///
+    /// ```
+    /// # use wejdarox::Season;
+    /// let season = Season::new().with_file(b"no panel file")?;
+    /// assert_eq!((season.files, season.refused[8 - 1]), (1, 1));
+    /// # Ok::<(), wejdarox::Refusal>(())
+    /// ```
     ///
     /// # Errors
     /// 10, where it has 4,000.
