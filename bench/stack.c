@@ -23,13 +23,13 @@ static void leave(int status) { system_call(60, status, 0, 0); }
 static void put(const char *text, size_t count) { system_call(1, 1, (long)text, (long)count); }
 __asm__(".globl _start\n_start: and $-16,%rsp\n call start\n");
 
-enum { DEEP = 262144, FULL = 4096, HEAD = 6 };
+enum { DEEP = 262144, FULL = 4096, HEAD = 6, REFUSED = 10 }; // `refused K` and `no reason` have ten bytes
 static double a[FULL], factors[FULL], result[FULL], column[64], x[64], loads[64], value;
 static bool invertible;
 static int32_t exponent;
 static struct wejdarox_season season;
 static size_t swaps[128], ranks[64], pairs, dead, toss_ups, pads, listed, answer;
-static byte file[HEAD + FULL * 8 + 64 * 8];
+static byte file[HEAD + FULL * 8 + 64 * 8], printed[1288];
 
 #define APART __attribute__((noinline)) static
 APART void paint(void) { volatile byte s[DEEP]; for (int i = 0; i < DEEP; i++) s[i] = 0xA5; }
@@ -42,9 +42,23 @@ APART void inverse(void) { answer = wejdarox_inverse(factors, FULL, swaps, 128, 
 APART void determinant(void) { answer = wejdarox_determinant(factors, FULL, swaps, 128, 64, 64, pairs, dead, &value); __asm__ volatile(""); }
 APART void scaled(void) { answer = wejdarox_scaled_determinant(factors, FULL, swaps, 128, 64, 64, pairs, dead, &value, &exponent); __asm__ volatile(""); }
 APART void is_invertible(void) { answer = wejdarox_is_invertible(factors, FULL, swaps, 128, 64, 64, pairs, dead, &invertible); __asm__ volatile(""); }
+APART void remove_column(void) { answer = wejdarox_remove_column(factors, FULL, swaps, 128, 64, 64, &pairs, &dead); __asm__ volatile(""); }
+APART void build_up(void) { answer = wejdarox_build_up(a, FULL, 64, 64, factors, FULL, swaps, 128, &pairs, &dead, &toss_ups); __asm__ volatile(""); }
+APART void tr_solve(void) { answer = wejdarox_tr_solve(factors, FULL, swaps, 128, 64, 64, pairs, dead, column, 64, 1, x, 64); __asm__ volatile(""); }
+APART void lower(void) { answer = wejdarox_l(factors, FULL, swaps, 128, 64, 64, pairs, dead, result, FULL); __asm__ volatile(""); }
+APART void upper(void) { answer = wejdarox_u(factors, FULL, swaps, 128, 64, 64, pairs, dead, result, FULL); __asm__ volatile(""); }
+APART void triangular(void) { answer = wejdarox_solve_upper_triangular(factors, FULL, 64, column, 64, 1, x, 64); __asm__ volatile(""); }
+APART void permute(void) { answer = wejdarox_permute_rows(a, FULL, 64, 64, swaps, 128, pairs); __asm__ volatile(""); }
 APART void rank(void) { answer = wejdarox_rank(x, 64, 64, ranks, 64, &listed); __asm__ volatile(""); }
 APART void order(void) { answer = wejdarox_pad_order(file, sizeof file, ranks, loads, &pads, &toss_ups); __asm__ volatile(""); }
 APART void stiffness(void) { answer = wejdarox_stiffness(file, sizeof file, &value, &exponent, &toss_ups); __asm__ volatile(""); }
+APART void moves(void) { answer = wejdarox_moves(file, sizeof file, 1, loads, &pads, &toss_ups); __asm__ volatile(""); }
+APART void read_panel(void) { answer = wejdarox_read_panel(file, sizeof file, result, FULL, x, 64, &pads); __asm__ volatile(""); }
+APART void write_panel(void) { answer = wejdarox_write_panel(64, a, FULL, column, 64, file, sizeof file, &listed); __asm__ volatile(""); }
+APART void text(void) { answer = wejdarox_text(file, sizeof file, printed) <= REFUSED; __asm__ volatile(""); }
+APART void moves_text(void) { answer = wejdarox_moves_text(file, sizeof file, 1, printed) <= REFUSED; __asm__ volatile(""); }
+APART void stiffness_text(void) { answer = wejdarox_stiffness_text(file, sizeof file, printed) <= REFUSED; __asm__ volatile(""); }
+APART void why_text(void) { answer = wejdarox_why_text(file, sizeof file, printed) != REFUSED; __asm__ volatile(""); }
 APART void four_pads(void) { answer = wejdarox_four_pads(a, column, factors, &pairs, swaps, x); __asm__ volatile(""); }
 APART void four_pads_of(void) { answer = wejdarox_four_pads_of(file, HEAD + 20 * 8, factors, &pairs, swaps, x); __asm__ volatile(""); }
 APART void with_file(void) { answer = wejdarox_with_file(file, sizeof file, &season); __asm__ volatile(""); }
@@ -87,6 +101,11 @@ __attribute__((used)) void start(void) {
     wejdarox_factor(a, FULL - 64, 64, 63, factors, FULL - 64, swaps, 128, &pairs, &dead, &toss_ups);
     say("add_column", add);
     say("solve", solve);
+    say("tr_solve", tr_solve);
+    say("l", lower);
+    say("u", upper);
+    say("solve_upper", triangular);
+    say("permute_rows", permute);
     say("inverse", inverse);
     say("determinant", determinant);
     say("scaled_determinant", scaled);
@@ -95,6 +114,15 @@ __attribute__((used)) void start(void) {
     say("pad_order", order);
     say("stiffness", stiffness);
     say("with_file", with_file);
+    say("moves", moves);
+    say("read_panel", read_panel);
+    say("write_panel", write_panel);
+    say("text", text);
+    say("moves_text", moves_text);
+    say("stiffness_text", stiffness_text);
+    say("why_text", why_text);
+    say("remove_column", remove_column);
+    say("build_up", build_up);
     memset(a, 0, 64 * sizeof *a); // the first step is skipped
     wejdarox_factor(a, FULL - 64, 64, 63, factors, FULL - 64, swaps, 128, &pairs, &dead, &toss_ups);
     say("add_skipped", add);

@@ -1,6 +1,6 @@
 /*
- * Each call of include/wejdarox.h once accepted and once refused, as C99 and as C++17: tests/c/run compiles and runs it. What a refused call leaves as it was is
- * compared byte by byte. It prints 'N passed, M failed'; status 0 where M is 0.
+ * Each call of include/wejdarox.h once accepted and once refused, as C99 and as C++17: tests/c/run compiles and runs it. What a refused call leaves as it was
+ * is compared. It prints 'N passed, M failed'; status 0 where M is 0.
  */
 #include <stdio.h>
 #include <string.h>

@@ -133,7 +133,8 @@ class Panels(unittest.TestCase):
         self.assertEqual((wejdarox.moves(file, 1), wejdarox.stiffness(file), wejdarox.why(file)), ([0.0, 0.5], (-1.0, 1), "no reason\n"))
         for number, call in [(8, lambda: wejdarox.read_panel(b"")), (3, lambda: wejdarox.pad_order(file[:-1])), (1, lambda: wejdarox.moves(file, 3)),
                              (1, lambda: wejdarox.moves(file, -1)), (3, lambda: wejdarox.write_panel([[1, 2], [3, 4]], [1])),
-                             (1, lambda: wejdarox.write_panel([], [])), (5, lambda: wejdarox.write_panel([[math.nan]], [1])), (1, lambda: wejdarox.write_panel([1] * 4225, [1] * 65))]:
+                             (1, lambda: wejdarox.write_panel([], [])), (5, lambda: wejdarox.write_panel([[math.nan]], [1])),
+                             (1, lambda: wejdarox.write_panel([1] * 4225, [1] * 65))]:
             with self.assertRaises(wejdarox.Refused) as caught:
                 call()
             self.assertEqual(caught.exception.number, number)

@@ -1,7 +1,8 @@
 //! LU decomposition with row pivoting of small `f64` matrices, by the proved static library of this repository.
 //!
 //! Matrices lie column after column, with 1 to 64 rows and up to 64 columns. Sizes, lengths and numbers may be anything: what cannot be answered is refused with
-//! a [`Refusal`], and nothing here panics. The numbers under "Errors" are those of [`Refusal::number`]. Only `core` and `alloc` are used. See `examples/pads.rs`.
+//! a [`Refusal`], and nothing here panics. The numbers under "Errors" are those of [`Refusal::number`]. Only `core` and `alloc` are used.
+//! See `examples/pads.rs`.
 #![cfg_attr(not(test), no_std)]
 #![deny(unsafe_code)]
 #![warn(missing_docs)]

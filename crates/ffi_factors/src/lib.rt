@@ -22,8 +22,10 @@ pub extern "C" fn wejdarox_remove_column(
     dead: &mut usize,
 ) -> usize
     ensures { λ r. ⌜ r ≡ numberOf (removing (recordOf m n (now (pairs .entry)) (now (dead .entry))) (now (factors .entry)) (now (swaps .entry)) .answer) ⌝ }
-    ensures { λ _. ⌜ now (factors .exit) ≡ removing (recordOf m n (now (pairs .entry)) (now (dead .entry))) (now (factors .entry)) (now (swaps .entry)) .left .factors ⌝ }
-    ensures { λ _. ⌜ now (swaps .exit) ≡ removing (recordOf m n (now (pairs .entry)) (now (dead .entry))) (now (factors .entry)) (now (swaps .entry)) .left .store ⌝ }
+    ensures { λ _. ⌜ now (factors .exit)
+        ≡ removing (recordOf m n (now (pairs .entry)) (now (dead .entry))) (now (factors .entry)) (now (swaps .entry)) .left .factors ⌝ }
+    ensures { λ _. ⌜ now (swaps .exit)
+        ≡ removing (recordOf m n (now (pairs .entry)) (now (dead .entry))) (now (factors .entry)) (now (swaps .entry)) .left .store ⌝ }
     ensures { λ _. ⌜ now (pairs .exit)
         ≡ recordAfter (recordOf m n (now (pairs .entry)) (now (dead .entry)))
         (removing (recordOf m n (now (pairs .entry)) (now (dead .entry))) (now (factors .entry)) (now (swaps .entry)) .answer) .pairs ⌝ }
@@ -146,8 +148,10 @@ pub extern "C" fn wejdarox_tr_solve(
     k: usize,
     x: &mut [f64],
 ) -> usize
-    ensures { λ r. ⌜ r ≡ numberOf (trSolving (recordOf m n pairs dead) (now (factors .entry)) (now (swaps .entry)) k (now (b .entry)) (now (x .entry)) .answer) ⌝ }
-    ensures { λ _. ⌜ now (x .exit) ≡ trSolving (recordOf m n pairs dead) (now (factors .entry)) (now (swaps .entry)) k (now (b .entry)) (now (x .entry)) .left ⌝ }
+    ensures { λ r. ⌜ r
+        ≡ numberOf (trSolving (recordOf m n pairs dead) (now (factors .entry)) (now (swaps .entry)) k (now (b .entry)) (now (x .entry)) .answer) ⌝ }
+    ensures { λ _. ⌜ now (x .exit)
+        ≡ trSolving (recordOf m n pairs dead) (now (factors .entry)) (now (swaps .entry)) k (now (b .entry)) (now (x .entry)) .left ⌝ }
 {
     let told = Record {
         rows: m,

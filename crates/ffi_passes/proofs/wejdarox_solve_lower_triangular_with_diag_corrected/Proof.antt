@@ -7,8 +7,8 @@ use Rattle.ffi_passes.proofs.wejdarox_solve_lower_triangular_with_diag_
 
 returns : tie.Need-returns
 returns c =
-    let at-call = c .before .before .before in
-    ((c .number-of .ensures) ∙ ap numberOf (at-call .solve-lower-triangular-with-diag-corrected .ensures .0), at-call .solve-lower-triangular-with-diag-corrected .ensures .1)
+    let call = c .before .before .before .solve-lower-triangular-with-diag-corrected .ensures in
+    ((c .number-of .ensures) ∙ ap numberOf (call .0), call .1)
 
 pub wejdarox-solve-lower-triangular-with-diag-corrected-spec : {M : Type 1} → statement M
 wejdarox-solve-lower-triangular-with-diag-corrected-spec =
