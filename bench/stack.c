@@ -42,6 +42,11 @@ APART void inverse(void) { answer = wejdarox_inverse(factors, FULL, swaps, 128, 
 APART void determinant(void) { answer = wejdarox_determinant(factors, FULL, swaps, 128, 64, 64, pairs, dead, &value); __asm__ volatile(""); }
 APART void scaled(void) { answer = wejdarox_scaled_determinant(factors, FULL, swaps, 128, 64, 64, pairs, dead, &value, &exponent); __asm__ volatile(""); }
 APART void is_invertible(void) { answer = wejdarox_is_invertible(factors, FULL, swaps, 128, 64, 64, pairs, dead, &invertible); __asm__ volatile(""); }
+APART void why_factor(void) { answer = wejdarox_why_factor(a, FULL, 64, 64, factors, FULL, swaps, 128, &pads, &listed, &toss_ups); __asm__ volatile(""); }
+APART void why_solve(void) {
+    answer = wejdarox_why_solve(factors, FULL, swaps, 128, 64, 64, pairs, dead, column, 64, 1, x, 64, &pads, &listed, &toss_ups);
+    __asm__ volatile("");
+}
 APART void remove_column(void) { answer = wejdarox_remove_column(factors, FULL, swaps, 128, 64, 64, &pairs, &dead); __asm__ volatile(""); }
 APART void build_up(void) { answer = wejdarox_build_up(a, FULL, 64, 64, factors, FULL, swaps, 128, &pairs, &dead, &toss_ups); __asm__ volatile(""); }
 APART void tr_solve(void) { answer = wejdarox_tr_solve(factors, FULL, swaps, 128, 64, 64, pairs, dead, column, 64, 1, x, 64); __asm__ volatile(""); }
@@ -102,6 +107,7 @@ __attribute__((used)) void start(void) {
     say("add_column", add);
     say("solve", solve);
     say("tr_solve", tr_solve);
+    say("why_solve", why_solve);
     say("l", lower);
     say("u", upper);
     say("solve_upper", triangular);
@@ -123,6 +129,7 @@ __attribute__((used)) void start(void) {
     say("why_text", why_text);
     say("remove_column", remove_column);
     say("build_up", build_up);
+    say("why_factor", why_factor);
     memset(a, 0, 64 * sizeof *a); // the first step is skipped
     wejdarox_factor(a, FULL - 64, 64, 63, factors, FULL - 64, swaps, 128, &pairs, &dead, &toss_ups);
     say("add_skipped", add);

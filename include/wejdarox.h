@@ -37,7 +37,8 @@
  *             - what a call may change (a pointer without `const`) is apart from every other slice and number of that call;
  *             - no other thread changes what is lent, or looks at what may change, until the call returns;
  *             - the floating-point state is the usual one of the ABI: rounding to nearest, no trap enabled, subnormal numbers kept;
- *             - the stack has room: on x86-64 wejdarox_pad_order, wejdarox_stiffness and wejdarox_with_file take at most 37 KB of it, the others under 1 KB.
+ *             - the stack has room: on x86-64 wejdarox_why_text takes at most 104 KB of it; wejdarox_pad_order, wejdarox_stiffness, wejdarox_moves,
+ *               wejdarox_with_file and the other texts at most 38 KB; the rest under 1 KB.
  *             It owes nothing else: sizes, lengths, swap lists and numbers may be anything.
  *
  *  Machine    `./library` writes libwejdarox.a and libwejdarox.so for x86-64 or Arm Linux. They need `memset`, `memcpy` and `memmove` and nothing else. No call
