@@ -1,5 +1,5 @@
--- The four-pad profile, of a matrix and of a panel file: one outcome each, no program that always gives the same, and the errors that request 11 invites, each shut
--- out at a matrix, or at a file, of small numbers. By computation. Assumes nothing.
+-- The four-pad profile, of a matrix and of a panel file: one outcome each, no program that always gives the same, and the errors that request 11 invites,
+-- each shut out at a matrix, or at a file, of small numbers. By computation. Assumes nothing.
 use mathlib.Core.Path.{_≡_, refl, sym, ap}
 use mathlib.Core.Bool.{not}
 use mathlib.Core.List.{List, [], _∷_, _++_}
@@ -116,7 +116,8 @@ headOf n = 76 ∷ 88 ∷ 80 ∷ 1 ∷ 0 ∷ n ∷ []
 -- four pads: the identity, readings 1
 abbrev identityFile : List ℕ
 identityFile =
-    headOf 4 ++ bytesOf1 ++ replicate 32 0 ++ bytesOf1 ++ replicate 32 0 ++ bytesOf1 ++ replicate 32 0 ++ bytesOf1 ++ bytesOf1 ++ bytesOf1 ++ bytesOf1 ++ bytesOf1
+    let other = replicate 32 0 ++ bytesOf1 in
+    headOf 4 ++ bytesOf1 ++ other ++ other ++ other ++ bytesOf1 ++ bytesOf1 ++ bytesOf1 ++ bytesOf1
 
 pub file-accepted : fourPadsIn identityFile
     ≡ record {
