@@ -17,5 +17,5 @@ pub read-entries : (bytes : List ℕ) (made : Panel) (M R : Column)
     → (padsRead made ≡ reading bytes empty .answer) × ((M ≡ reading bytes empty .left .matrix) × (R ≡ reading bytes empty .left .readings))
     → (k : ℕ) → made ≡ Pads k → k * k ≤ 4096
 read-entries bytes made M R e k t =
-    file-read bytes (zeros 4096) (zeros 64) (replicate 128 0) (length-replicate 4096 zero64) (length-replicate 64 zero64) made M R (e .0) (e .1 .0) (e .1 .1) k t
-    .entries
+    file-read bytes (zeros 4096) (zeros 64) (replicate 128 0) (length-replicate 4096 zero64) (length-replicate 64 zero64) made M R (e .0) (e .1 .0)
+    (e .1 .1) k t .entries

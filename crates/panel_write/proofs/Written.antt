@@ -27,7 +27,8 @@ module _ (n : ℕ) (ls out : List ℕ) (m r : ℕ) (asks : length ls ≡ 17 * (n
   pub lines-whole : (M R : Column) (made : Call ℕ (List ℕ)) → AreLines ls 0 m → M ≡ numbersIn ls 0 m → AreLines ls (n * n) r → R ≡ numbersIn ls (n * n) r
       → Writing n M R out made → LinesWritten n ls out made
   lines-whole M R made a e b f w =
-      whole (asks, (subst (AreLines ls 0) is-m a, subst (AreLines ls (n * n)) is-r b)) (rw (e ∙ ap (numbersIn ls 0) is-m, f ∙ ap (numbersIn ls (n * n)) is-r) at w)
+      whole (asks, (subst (AreLines ls 0) is-m a, subst (AreLines ls (n * n)) is-r b))
+      (rw (e ∙ ap (numbersIn ls 0) is-m, f ∙ ap (numbersIn ls (n * n)) is-r) at w)
 
   pub lines-refused : (AreLines ls 0 m → AreLines ls (n * n) r → ⊥) → LinesWritten n ls out (written (Refused 3) out)
   lines-refused none =

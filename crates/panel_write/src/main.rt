@@ -1,5 +1,5 @@
-// Prints the panel file of a crossing, or the refusal. Standard input is text: a line with the number of pads, then a line for each number of the matrix, column
-// by column, and of the readings, with the 16 small hex digits of its bits. The bytes are those of `panel_file::write`.
+// Prints the panel file of a crossing, or the refusal. Standard input is text: a line with the number of pads, then a line for each number of the matrix,
+// column by column, and of the readings, with the 16 small hex digits of its bits. The bytes are those of `panel_file::write`.
 ghost use mathlib.Core.Path.{_≡_};
 ghost use mathlib.Core.Bool.{true};
 ghost use Prim.Native.Nat.{_+_, _*_, _<_, _≤_};
