@@ -1,6 +1,6 @@
--- Wrong programs for the two calls of four pads, as for the other exports: one that leaves the number of pairs as it was where it is refused, and for a file all
--- that always give the same; for a matrix figures/proofs/WrongFourPads has those, of the same meaning. At a number that is not finite, at no file and at a head of
--- one pad. Assumes nothing.
+-- Wrong programs for the two calls of four pads, as for the other exports: one that leaves the number of pairs as it was where it is refused, and for a file
+-- all that always give the same; for a matrix figures/proofs/WrongFourPads has those, of the same meaning. At a number that is not finite, at no file and at a
+-- head of one pad. Assumes nothing.
 use mathlib.Core.Path.{ap}
 use mathlib.Core.Bool.{cond}
 use mathlib.Core.List.{List, [], _∷_}

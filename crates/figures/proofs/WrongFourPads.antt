@@ -1,5 +1,5 @@
--- The four-pad profile, of a matrix and of a panel file: one outcome each, no program that always gives the same, and the errors that request 11 invites, each shut
--- out at a matrix, or at a file, of small numbers. By computation. Assumes nothing.
+-- The four-pad profile, of a matrix and of a panel file: one outcome each, no program that always gives the same, and the errors that request 11 invites,
+-- each shut out at a matrix, or at a file, of small numbers. By computation. Assumes nothing.
 use mathlib.Core.Path.{_≡_, refl, sym, ap}
 use mathlib.Core.Bool.{not}
 use mathlib.Core.List.{List, [], _∷_, _++_}
@@ -8,14 +8,15 @@ use native.Mathlib.Omega.{arith}
 use lib.Dec.{eqb}
 use lib.ListN.{length, replicate}
 use lib.Ieee.{Float, nan}
-use Rattle.numbers.specs.Column.{Column}
-use Rattle.store.specs.Columns.{flat}
+use Rattle.numbers.specs.Column.{Column, entry}
+use Rattle.store.specs.Columns.{columns, flat}
 use Rattle.store.specs.Steps.{Matrix}
 use Rattle.refusals.specs.Outcome.{refused, numberOf, firstOf, tested}
 use Rattle.refusals.proofs.Strength.{ShutsOut, shut-out, TwoShutOut, two}
 use Rattle.panel_file.specs.File.{littleEndian, fieldAt, headed, padsOf, fileLength, numberAt}
 use Rattle.panel_file.specs.Reading.{fileTests, fileRefusal}
 use Rattle.from_factors.proofs.Figures.{computes, n0, n1, n2, n4, n5, n8, small}
+use Rattle.from_factors.specs.Solving.{solved}
 use Rattle.crossing.specs.Below.{factorsOf, solutionBy}
 use Rattle.crossing.specs.Factors.{factorsIn}
 use Rattle.crossing.specs.Ordering.{loadsOf}
@@ -81,13 +82,27 @@ pub not-late-readings : ShutsOut profile lateReadings
 unfolding profiles
 not-late-readings = shut-out profile lateReadings overflowing (λ d. omega (arith, ap (λ (p : FourPads). p .number) d))
 
--- no swap told
+-- solved for the readings as they stand, no row of them exchanged
 abbrev unswapped : Four → FourPads
-unswapped x = let r = profile x in record { number = r .number; factors = r .factors; pairs = 0; swaps = replicate 8 0; loads = r .loads }
+unswapped x =
+    let r = profile x in
+    let loads = solved 4 (columns 4 4 (r .factors)) [] (x .1) in
+    record { number = r .number; factors = r .factors; pairs = r .pairs; swaps = r .swaps; loads = loads }
+
+five-eight : n5 ≡ n8 → ⊥
+five-eight d = let z : _≡_ {A = ℕ} 5 1 = cc in omega arith
 
 pub not-unswapped : ShutsOut profile unswapped
 unfolding profiles
-not-unswapped = shut-out profile unswapped swapped (λ d. omega (arith, ap (λ (p : FourPads). p .pairs) d))
+not-unswapped = shut-out profile unswapped swapped (λ d. five-eight (ap (λ (p : FourPads). entry (p .loads) 1) d))
+
+-- no swap told
+abbrev untold : Four → FourPads
+untold x = let r = profile x in record { number = r .number; factors = r .factors; pairs = 0; swaps = replicate 8 0; loads = r .loads }
+
+pub not-untold : ShutsOut profile untold
+unfolding profiles
+not-untold = shut-out profile untold swapped (λ d. omega (arith, ap (λ (p : FourPads). p .pairs) d))
 
 -- ---- a panel file
 
@@ -101,7 +116,8 @@ headOf n = 76 ∷ 88 ∷ 80 ∷ 1 ∷ 0 ∷ n ∷ []
 -- four pads: the identity, readings 1
 abbrev identityFile : List ℕ
 identityFile =
-    headOf 4 ++ bytesOf1 ++ replicate 32 0 ++ bytesOf1 ++ replicate 32 0 ++ bytesOf1 ++ replicate 32 0 ++ bytesOf1 ++ bytesOf1 ++ bytesOf1 ++ bytesOf1 ++ bytesOf1
+    let other = replicate 32 0 ++ bytesOf1 in
+    headOf 4 ++ bytesOf1 ++ other ++ other ++ other ++ bytesOf1 ++ bytesOf1 ++ bytesOf1 ++ bytesOf1
 
 pub file-accepted : fourPadsIn identityFile
     ≡ record {

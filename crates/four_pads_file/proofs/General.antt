@@ -102,7 +102,8 @@ module _ (bytes : List ℕ) where
     -- both parts of the tests
     parts : (size ≡ 0) × (fileRefusal bytes ≡ 0)
     parts =
-        tested-cases size (λ k. k) (fileRefusal bytes) (λ k. k ≡ 0 → (size ≡ 0) × (fileRefusal bytes ≡ 0)) (λ z y. (z, y)) (λ s z. absurd (s z)) (sym both ∙ none)
+        tested-cases size (λ k. k) (fileRefusal bytes) (λ k. k ≡ 0 → (size ≡ 0) × (fileRefusal bytes ≡ 0)) (λ z y. (z, y)) (λ s z. absurd (s z))
+        (sym both ∙ none)
 
     four : n ≡ 4
     four = eqb-true n 4 (not-false _ (first-none (sizeTests bytes) numbered (parts .0) .1 .0))
@@ -119,8 +120,9 @@ module _ (bytes : List ℕ) where
         let a = matrixOf 4 bytes in
         let b = readingsOf 4 bytes in
         let fine : (allFinite a && allFinite b) ≡ true = rw e at h in
-        rw e
-        (ap₂ fourOf (append-nil a) (append-nil b) ∙ four-general a b (length-list 16 _) (and-first (allFinite a) (allFinite b) fine) (and-second (allFinite a) (allFinite b) fine))
+        let first = and-first (allFinite a) (allFinite b) fine in
+        let second = and-second (allFinite a) (allFinite b) fine in
+        rw e (ap₂ fourOf (append-nil a) (append-nil b) ∙ four-general a b (length-list 16 _) first second)
 
     pub file-loaded : fourOf (filled bytes lent .matrix) (filled bytes lent .readings) ≡ fourPadsIn bytes
     unfolding fourPadsIn generalPathIn factorsIn

@@ -1,5 +1,5 @@
--- The profile beside the program, on every file. A file of another size is refused with 1. On any other the profile gives the number that the program gives, and
--- where both accept, the factors and swaps of the file's matrix and the loads that the program ranks. By the cases of the outcomes. Assumes nothing.
+-- The profile beside the program, on every file. A file of another size is refused with 1. On any other the profile gives the number that the program gives,
+-- and where both accept, the factors and swaps of the file's matrix and the loads that the program ranks. By the cases of the outcomes. Assumes nothing.
 use mathlib.Core.Path.{_≡_, refl, sym, ap, _∙_}
 use mathlib.Core.Bool.{true, false}
 use mathlib.Core.List.{List}

@@ -1,5 +1,5 @@
--- Document 02, request 11, for a panel file: "A panel file of another size is refused in this profile. Refusals: 8, 1 (also for another size), 3, 5, factoring's
--- 7, then 6, 7." Past the size it is the general path of any file.
+-- Document 02, request 11, for a panel file: "A panel file of another size is refused in this profile. Refusals: 8, 1 (also for another size), 3, 5,
+-- factoring's 7, then 6, 7." Past the size it is the general path of any file.
 use mathlib.Core.Bool.{Bool, false, not}
 use mathlib.Core.List.{List, [], _∷_}
 use Prim.Native.Nat.{ℕ}

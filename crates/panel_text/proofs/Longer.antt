@@ -16,6 +16,9 @@ use Rattle.crossing.specs.Ordering.{loadsOf}
 use Rattle.crossing.specs.Moving.{movesRefusal, movesOf}
 use Rattle.panel_text.specs.Text.{refusedText}
 use Rattle.panel_text.specs.Printed.{orderText, textOf, changeText, movesTextOf, checkText, stiffnessTextOf}
+use Rattle.panel_text.specs.Why.{reasonText, whyTextOf}
+use Rattle.why.specs.Why.{toldNumber}
+use Rattle.why_file.specs.Explaining.{explainFactors, explainedBy, explainFile}
 
 -- what is printed of a file that its own tests refuse
 module _ (bytes : List ℕ) (some : fileRefusal bytes ≡ 0 → ⊥) where
@@ -37,13 +40,20 @@ module _ (bytes : List ℕ) (some : fileRefusal bytes ≡ 0 → ⊥) where
   unfolding stiffnessTextOf checkText stiffness factorsIn andThen
   refused-stiffness = rw (tested-some (fileRefusal bytes) refused _ some)
 
+  refused-why : whyTextOf bytes ≡ reasonText (toldNumber (fileRefusal bytes))
+  unfolding whyTextOf explainFile explainedBy explainFactors factorsIn
+  refused-why = rw (tested-some (fileRefusal bytes) refused _ some, tested-some (fileRefusal bytes) toldNumber _ some)
+
 -- THEOREM. What `panel_order` prints of the at most 33,287 bytes that it reads is what the whole input asks for, however long it is.
 pub longer-text : (bytes : List ℕ) → textOf (take 33287 bytes) ≡ textOf bytes
 longer-text = any-longer textOf refusedText refused-text
 
--- THEOREM. The same of `panel_moves`, for any pad number, and of `panel_stiffness`.
+-- THEOREM. The same of `panel_moves`, for any pad number, of `panel_stiffness` and of `panel_why`.
 pub longer-moves : (bytes : List ℕ) (pad : ℕ) → movesTextOf (take 33287 bytes) pad ≡ movesTextOf bytes pad
 longer-moves bytes pad = any-longer (λ s. movesTextOf s pad) refusedText (λ s some. refused-moves s some pad) bytes
 
 pub longer-stiffness : (bytes : List ℕ) → stiffnessTextOf (take 33287 bytes) ≡ stiffnessTextOf bytes
 longer-stiffness = any-longer stiffnessTextOf refusedText refused-stiffness
+
+pub longer-why : (bytes : List ℕ) → whyTextOf (take 33287 bytes) ≡ whyTextOf bytes
+longer-why = any-longer whyTextOf (λ number. reasonText (toldNumber number)) refused-why

@@ -9,7 +9,8 @@ returns : tie.Need-returns
 returns c =
     let at-if = c .before in
     let at-read = at-if .before .before in
-    c .refused .ensures ∙ refused-end (at-read .before .before .args .file .now) (at-read .numbers-of .result) (at-read .numbers-of .ensures) (at-if .if1 .taken)
+    c .refused .ensures
+    ∙ refused-end (at-read .before .before .args .file .now) (at-read .numbers-of .result) (at-read .numbers-of .ensures) (at-if .if1 .taken)
 
 returns-2 : tie.Need-returns-2
 returns-2 c =

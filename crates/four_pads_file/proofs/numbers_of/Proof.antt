@@ -14,7 +14,8 @@ returns c =
     let at-read = c .before .before .before .before in
     let bytes = at-read .before .before .before .before .args .file .now in
     let made = at-read .read-sized in
-    read-numbers bytes (made .result) _ _ (made .ensures .0) (made .ensures .1) _ (sym (ap (λ (p : Panel). numberOf (padsRead p)) (c .enum-told .given .1)))
+    let is = ap (λ (p : Panel). numberOf (padsRead p)) (c .enum-told .given .1) in
+    read-numbers bytes (made .result) _ _ (made .ensures .0) (made .ensures .1) _ (sym is)
 
 returns-2 : tie.Need-returns-2
 unfolding numberOf padsRead
@@ -23,7 +24,8 @@ returns-2 c =
     let at-read = at-number .before .before .before .before in
     let bytes = at-read .before .before .before .before .args .file .now in
     let made = at-read .read-sized in
-    read-numbers bytes (made .result) _ _ (made .ensures .0) (made .ensures .1) _ (sym (ap (λ (p : Panel). numberOf (padsRead p)) (at-number .number .given .1)))
+    let is = ap (λ (p : Panel). numberOf (padsRead p)) (at-number .number .given .1) in
+    read-numbers bytes (made .result) _ _ (made .ensures .0) (made .ensures .1) _ (sym is)
 
 pub numbers-of-spec : {M : Type 1} → statement M
 numbers-of-spec =

@@ -20,7 +20,8 @@ passed : (c : tie.After-pads-of) → let at-test = c .before .before in let g = 
     Passed (g .fit) (g .file .now) (g .matrix .now) (g .readings .now) (c .pads-of .result)
 passed c =
     let at-test = c .before .before in
-    record { none = sym (at-test .refusal-beside .ensures) ∙ (c .before .if1 .left); pads = c .pads-of .ensures .0; hold = at-test .before .before .before .before .pre }
+    let none = sym (at-test .refusal-beside .ensures) ∙ (c .before .if1 .left) in
+    record { none = none; pads = c .pads-of .ensures .0; hold = at-test .before .before .before .before .pre }
 
 slice-relend-prefix-fill : tie.Need-slice-relend-prefix-fill
 slice-relend-prefix-fill c = matrix-fits _ _ _ _ _ (passed c)

@@ -30,7 +30,8 @@ returns c = rw (sized-other _ _ _ (sym (tested-size (c .before)) ∙ c .if1 .tak
 
 -- the test of the stores, by the size that the file tells
 tested-fit : (c : tie.Else1) → let g = asked (c .before) .args in let pads = c .before .before .pads-of .result in
-    (eqb (length (g .matrix .now)) (pads * pads) && eqb (length (g .readings .now)) pads) ≡ ownFit (g .file .now) (g .n) (stores (g .matrix .now) (g .readings .now))
+    (eqb (length (g .matrix .now)) (pads * pads) && eqb (length (g .readings .now)) pads)
+    ≡ ownFit (g .file .now) (g .n) (stores (g .matrix .now) (g .readings .now))
 tested-fit c =
     let g = asked (c .before) .args in
     ap (λ (pads : ℕ). eqb (length (g .matrix .now)) (pads * pads) && eqb (length (g .readings .now)) pads) (c .before .before .pads-of .ensures .0)
