@@ -9,7 +9,8 @@ returns : tie.Need-returns
 unfolding addingAnswer
 returns c =
     let at-told = c .before in
-    let p = at-told .before .before .before .before .before .before .add-column .ensures in
+    let at-match = at-told .before .before in
+    let p = at-match .before .before .before .before .add-column .ensures in
     let o = added-told _ _ _ _ (p .0) (p .1 .0) _ _ (at-told .told .given .1) in
     (o .0, (p .1 .1 .0, (p .1 .1 .1, o .1)))
 
@@ -17,7 +18,8 @@ returns-2 : tie.Need-returns-2
 unfolding addingAnswer
 returns-2 c =
     let at-number = c .before in
-    let p = at-number .before .before .before .before .before .before .add-column .ensures in
+    let at-match = at-number .before .before in
+    let p = at-match .before .before .before .before .add-column .ensures in
     let o = not-added _ _ _ _ (p .0) (p .1 .0) _ _ (at-number .number .given .1) in
     (o .0, (p .1 .1 .0, (p .1 .1 .1, o .1)))
 

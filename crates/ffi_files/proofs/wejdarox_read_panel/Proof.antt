@@ -9,14 +9,16 @@ use Rattle.ffi_files.proofs.wejdarox_read_panel.Tie as tie
 returns : tie.Need-returns
 unfolding padsRead
 returns c =
-    let p = c .before .before .before .before .before .before .before .read .ensures in
+    let at-match = c .before .before .before in
+    let p = at-match .before .before .before .before .read .ensures in
     let o = count-told _ _ (sym (ap padsRead (c .before .n .given .1)) ∙ p .0) in
     (o .0, (p .1 .0, (p .1 .1, o .1)))
 
 returns-2 : tie.Need-returns-2
 unfolding padsRead
 returns-2 c =
-    let p = c .before .before .before .before .before .before .before .read .ensures in
+    let at-match = c .before .before .before in
+    let p = at-match .before .before .before .before .read .ensures in
     let o = no-count _ _ (sym (ap padsRead (c .before .number .given .1)) ∙ p .0) in
     (o .0, (p .1 .0, (p .1 .1, o .1)))
 

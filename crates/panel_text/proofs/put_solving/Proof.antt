@@ -21,7 +21,7 @@ refusal-at c =
 
 -- where the pass was put
 abbrev at-refusal : tie.After-put-word → tie.After-put-refusal
-at-refusal c = c .before .before .before .before .before .before
+at-refusal c = let at-pass = c .before .before .before in at-pass .before .before .before
 
 pass-at : (c : tie.After-put-word) → let s = at-start (at-refusal c) in
     Put 0 (s .args .out .now) (refusedText 7 ++ passWord (s .args .pass)) (c .put-word .last .0) (c .put-word .result)

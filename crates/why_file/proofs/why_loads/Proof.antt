@@ -30,14 +30,16 @@ slice-aggregate-why-solve-2 c =
 
 slice-aggregate-why-solve-3 : tie.Need-slice-aggregate-why-solve-3
 slice-aggregate-why-solve-3 c =
-    let at-start = c .before .before .before .before .before .before in
+    let at-readings = c .before in
+    let at-start = at-readings .before .before .before .before .before in
     taken-count (at-start .args .told .rows) (zeros 64) (omega (arith, at-start .pre .0, length-replicate 64 zero64))
 
 returns : tie.Need-returns
 unfolding explainLoads
 returns c =
     let at-why = c .before .before in
-    let at-start = at-why .before .before .before .before .before .before .before in
+    let at-readings = at-why .before .before in
+    let at-start = at-readings .before .before .before .before .before in
     let g = at-start .args in
     c .of-solving .ensures ∙ ap (toldIn inSolving) (at-why .why-solve .ensures .0)
     ∙ ap
