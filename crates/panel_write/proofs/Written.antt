@@ -1,6 +1,6 @@
 -- What lines and a text come to, by what was found of them; and that the bytes of a file fit. By the cases. Assumes nothing.
 use mathlib.Core.Path.{_≡_, refl, sym, ap, subst, _∙_}
-use mathlib.Core.Bool.{true, false}
+use mathlib.Core.Bool.{false}
 use mathlib.Core.List.{List}
 use Prim.Native.Nat.{ℕ, _+_, _-_, _*_, _≤_}
 use native.Mathlib.Omega.{arith}
@@ -15,7 +15,7 @@ use Rattle.panel_file.specs.declared.Written.the-variants.{Bytes, Refused}
 use Rattle.panel_file.specs.File.{fileLength}
 use Rattle.panel_file.specs.Writing.{Writing, written, bytesWritten, writingRefusal}
 use Rattle.panel_file.proofs.Writing.{small}
-use Rattle.panel_write.specs.Text.{AreLines, numbersIn, FileLines, LinesWritten, whole, other, headIn, TextWritten, size, lines}
+use Rattle.panel_write.specs.Text.{AreLines, numbersIn, LinesWritten, whole, other, headIn, TextWritten, size, lines}
 
 -- a refusal leaves the slice as it was
 pub refusal-left : (number : ℕ) (out : List ℕ) → written (Refused number) out ≡ leaving out number
