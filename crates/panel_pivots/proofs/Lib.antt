@@ -1,2 +1,3 @@
+pub mod Measured
 pub mod Outermost
-pub mod Pads
+pub mod Reading

@@ -1,1 +1,2 @@
 pub mod Outermost
+pub mod Pivots

@@ -1,21 +1,21 @@
 -- What lines and a text come to, by what was found of them; and that the bytes of a file fit. By the cases. Assumes nothing.
 use mathlib.Core.Path.{_≡_, refl, sym, ap, subst, _∙_}
-use mathlib.Core.Bool.{true, false}
+use mathlib.Core.Bool.{false}
 use mathlib.Core.List.{List}
 use Prim.Native.Nat.{ℕ, _+_, _-_, _*_, _≤_}
 use native.Mathlib.Omega.{arith}
 use lib.ListN.{length, take, drop, length-drop}
 use lib.Seq.{take-all}
 use Rattle.numbers.specs.Column.{Column}
-use Rattle.refusals.specs.Outcome.{Outcome, done, refused, Call, leaving}
+use Rattle.refusals.specs.Outcome.{done, Call, leaving}
 use Rattle.refusals.specs.Refusals.{outside}
-use Rattle.refusals.proofs.Outcomes.{tested-cases}
+use Rattle.refusals.proofs.Cases.{done-same, never-both, tested-done}
 use Rattle.refusals.proofs.Tests.{inside}
 use Rattle.panel_file.specs.declared.Written.the-variants.{Bytes, Refused}
 use Rattle.panel_file.specs.File.{fileLength}
 use Rattle.panel_file.specs.Writing.{Writing, written, bytesWritten, writingRefusal}
 use Rattle.panel_file.proofs.Writing.{small}
-use Rattle.panel_write.specs.Text.{AreLines, numbersIn, FileLines, LinesWritten, whole, other, headIn, TextWritten, size, lines}
+use Rattle.panel_write.specs.Text.{AreLines, numbersIn, LinesWritten, whole, other, headIn, TextWritten, size, lines}
 
 -- a refusal leaves the slice as it was
 pub refusal-left : (number : ℕ) (out : List ℕ) → written (Refused number) out ≡ leaving out number
@@ -43,19 +43,15 @@ text-lines text out n at made is-n is-at t w =
 
 -- ---- how many bytes there are
 
-none-done : (number count : ℕ) → _≡_ {A = Outcome ℕ} (done count) (refused number) → ⊥
-none-done number count e = let z : _≡_ {A = ℕ} 0 1 = cc in omega arith
-
 writing-count : (n : ℕ) (M R : Column) (out left : List ℕ) (count : ℕ) → Writing n M R out (written (Bytes count) left) → count ≡ fileLength n
 unfolding bytesWritten
 writing-count n M R out left count w =
-    tested-cases (writingRefusal n M R (length out)) refused (done (fileLength n)) (λ (o : Outcome ℕ). done count ≡ o → count ≡ fileLength n)
-    (λ _ e. cc) (λ _ e. absurd (none-done _ count e)) (w .answers)
+    sym (done-same _ count (tested-done (writingRefusal n M R (length out)) (done (fileLength n)) count (sym (w .answers)) .1))
 
 pub text-fits : (text out left : List ℕ) (count : ℕ) → TextWritten text out (written (Bytes count) left) → count ≤ 33286
 unfolding bytesWritten
-text-fits text out left count (size _ e) = absurd (none-done 1 count (ap (λ (m : Call ℕ (List ℕ)). m .answer) e))
-text-fits text out left count (lines _ (other _ e)) = absurd (none-done 3 count (ap (λ (m : Call ℕ (List ℕ)). m .answer) e))
+text-fits text out left count (size _ e) = absurd (never-both count 1 (ap (λ (m : Call ℕ (List ℕ)). m .answer) e))
+text-fits text out left count (lines _ (other _ e)) = absurd (never-both count 3 (ap (λ (m : Call ℕ (List ℕ)). m .answer) e))
 text-fits text out left count (lines t (whole _ w)) =
     let n = headIn text .0 in
     let few = small n (inside 1 n t) in

@@ -1,6 +1,6 @@
 -- The text that stands for a panel file: a line with the number of pads, then a line for each number of the file, with the 16 small hex digits of its bits.
 use mathlib.Core.Path.{_≡_}
-use mathlib.Core.Bool.{Bool, true, false, cond}
+use mathlib.Core.Bool.{true, false, cond}
 use mathlib.Core.List.{List}
 use Prim.Native.Nat.{ℕ, _+_, _-_, _*_, _%_, _<_}
 use lib.Dec.{leb, ltb, eqb}

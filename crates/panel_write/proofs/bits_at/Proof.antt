@@ -1,5 +1,4 @@
 -- The four groups of digits; nothing wraps. Assumes nothing.
-use native.Mathlib.Omega.{arith}
 use borrow.Author.Needs.{needs}
 use Rattle.panel_write.specs.Text.{bitsAt}
 use Rattle.panel_write.proofs.bits_at.Statement.{statement}

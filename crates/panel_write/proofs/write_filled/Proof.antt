@@ -1,15 +1,10 @@
 -- The writer's answer on the numbers that were read, or the refusal of a line. Assumes nothing.
-use mathlib.Core.Path.{_≡_, sym, _∙_}
+use mathlib.Core.Path.{sym, _∙_}
 use mathlib.Core.Bool.{true≢false}
-use native.Mathlib.Omega.{arith}
 use borrow.Author.Needs.{needs}
-use Rattle.panel_file.proofs.Reading.{square}
 use Rattle.panel_write.proofs.Written.{lines-whole, lines-refused}
 use Rattle.panel_write.proofs.write_filled.Statement.{statement}
 use Rattle.panel_write.proofs.write_filled.Tie as tie
-
-mul-fill : tie.Need-mul-fill
-mul-fill c = search needs
 
 returns : tie.Need-returns
 returns c =
@@ -42,7 +37,7 @@ write-filled-spec =
     tie.close
     (tie.spec
     (λ c κs. search needs)
-    mul-fill
+    (λ c. search needs)
     (λ c κs. search needs)
     (λ c κs. search needs)
     (λ c. search needs)

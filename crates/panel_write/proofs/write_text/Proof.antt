@@ -1,5 +1,5 @@
 -- The first line, then the others. Assumes nothing.
-use mathlib.Core.Path.{_≡_, sym, ap, _∙_}
+use mathlib.Core.Path.{sym, ap, _∙_}
 use borrow.Author.Needs.{needs}
 use Rattle.refusals.specs.Refusals.{outside}
 use Rattle.refusals.proofs.Tests.{inside}
