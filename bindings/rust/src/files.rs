@@ -6,6 +6,11 @@ use alloc::vec;
 use alloc::vec::Vec;
 
 /// A crossing: its matrix, column after column, and a reading for each row.
+///
+/// ```
+/// let panel = wejdarox::Panel { matrix: vec![0.0, 2.0, 1.0, 0.0], readings: vec![5.0, 8.0] };
+/// assert_eq!(panel.matrix.len(), panel.readings.len() * panel.readings.len());
+/// ```
 #[derive(Clone, Debug, PartialEq)]
 pub struct Panel {
     /// As many numbers as the square of the readings.
@@ -35,6 +40,13 @@ impl Panel {
     }
 
     /// Its panel file.
+    ///
+    /// ```
+    /// # use wejdarox::Panel;
+    /// let file = Panel { matrix: vec![0.0, 2.0, 1.0, 0.0], readings: vec![5.0, 8.0] }.write()?;
+    /// assert_eq!(file[..6], *b"LXP\x01\x00\x02");
+    /// # Ok::<(), wejdarox::Refusal>(())
+    /// ```
     ///
     /// # Errors
     /// 1 where there is no reading or more than 64; 3 where the matrix has another length than the readings ask for; 5.

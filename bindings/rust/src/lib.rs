@@ -1,16 +1,20 @@
 //! LU decomposition with row pivoting of small `f64` matrices, by the proved static library of this repository.
 //!
 //! Matrices lie column after column, with 1 to 64 rows and up to 64 columns. Sizes, lengths and numbers may be anything: what cannot be answered is refused with
-//! a [`Refusal`], and nothing here panics. The numbers under "Errors" are those of [`Refusal::number`]. Only `core` and `alloc` are used.
-//! See `examples/pads.rs`.
+//! a [`Refusal`], and nothing here panics. The numbers under "Errors" are those of [`Refusal::number`]. Without the feature
+//! `std`, which adds files on a disk, only `core` and `alloc` are used. See `examples/pads.rs`.
 #![cfg_attr(not(test), no_std)]
 #![deny(unsafe_code)]
 #![warn(missing_docs)]
 
 extern crate alloc;
+#[cfg(all(feature = "std", not(test)))]
+extern crate std;
 
 mod calls;
 mod columns;
+#[cfg(feature = "std")]
+mod disk;
 mod files;
 mod further_calls;
 mod passes;
@@ -21,6 +25,8 @@ use alloc::vec::Vec;
 use calls::{Counts, Profile};
 use core::error::Error;
 use core::fmt;
+#[cfg(feature = "std")]
+pub use disk::{file_bytes, pad_order_at, FileError};
 pub use files::{library_version, moves, moves_text, stiffness_text, text, why_text, Panel};
 pub use passes::{solve_triangular, SwapList, Triangle};
 pub use why::{Pass, WhyFactor, WhySolve};
@@ -29,6 +35,10 @@ pub use why::{Pass, WhyFactor, WhySolve};
 compile_error!("the library counts in 64-bit numbers");
 
 /// The most rows, columns, right-hand columns and loads that the library takes.
+///
+/// ```
+/// assert_eq!(wejdarox::MOST, 64);
+/// ```
 pub const MOST: usize = 64;
 
 /// What no result needs more of: a longer input is refused whatever the length of the slice for the result.
@@ -69,6 +79,10 @@ pub enum Refusal {
 
 impl Refusal {
     /// Its number, 1 to 10.
+    ///
+    /// ```
+    /// assert_eq!(wejdarox::Refusal::Singular.number(), 6);
+    /// ```
     #[must_use]
     pub fn number(self) -> usize {
         match self {
@@ -131,6 +145,11 @@ impl fmt::Debug for Refusal {
 impl Error for Refusal {}
 
 /// A number as a significand times a power of two. It has room for the product of any 64 finite numbers; it prints as `1.25 × 2^-1200`.
+///
+/// ```
+/// let soft = wejdarox::Scaled { significand: 1.25, exponent: -1200 };
+/// assert_eq!(soft.to_string(), "1.25 × 2^-1200");
+/// ```
 #[derive(Clone, Copy, Debug, PartialEq)]
 pub struct Scaled {
     /// The significand, of magnitude from 1 up to but not 2; or +0.0.
@@ -175,6 +194,13 @@ pub struct Lu {
 impl Lu {
     /// Factors the matrix `a` of so many rows and columns, column after column. A zero pivot is no error: its step is skipped.
     ///
+    /// ```
+    /// # use wejdarox::Lu;
+    /// let lu = Lu::factor(&[0.0, 2.0, 1.0, 0.0], 2, 2)?;
+    /// assert_eq!(lu.factors(), [2.0, 0.0, 0.0, 1.0]);
+    /// # Ok::<(), wejdarox::Refusal>(())
+    /// ```
+    ///
     /// # Errors
     /// 1, 3, 5, 7.
     pub fn factor(a: &[f64], rows: usize, columns: usize) -> Result<Lu, Refusal> {
@@ -184,6 +210,14 @@ impl Lu {
     }
 
     /// Adds one column of the matrix behind the others: the same factors, to the last bit, and the same counts as factoring the widened matrix.
+    ///
+    /// ```
+    /// # use wejdarox::Lu;
+    /// let mut lu = Lu::factor(&[0.0, 2.0], 2, 1)?;
+    /// lu.add_column(&[1.0, 0.0])?;
+    /// assert_eq!(lu.factors(), Lu::factor(&[0.0, 2.0, 1.0, 0.0], 2, 2)?.factors());
+    /// # Ok::<(), wejdarox::Refusal>(())
+    /// ```
     ///
     /// # Errors
     /// 1 (there are 64 columns), 3, 5, 7; all is then as it was.
@@ -204,6 +238,13 @@ impl Lu {
 
     /// Solves for `k` right-hand columns, which lie in `b` one after the other.
     ///
+    /// ```
+    /// # use wejdarox::Lu;
+    /// let lu = Lu::factor(&[0.0, 2.0, 1.0, 0.0], 2, 2)?;
+    /// assert_eq!(lu.solve(&[5.0, 8.0], 1)?, [4.0, 5.0]);
+    /// # Ok::<(), wejdarox::Refusal>(())
+    /// ```
+    ///
     /// # Errors
     /// 1, 2, 3, 5, 6, 7.
     pub fn solve(&self, b: &[f64], k: usize) -> Result<Vec<f64>, Refusal> {
@@ -213,6 +254,13 @@ impl Lu {
     }
 
     /// The inverse of a square matrix.
+    ///
+    /// ```
+    /// # use wejdarox::Lu;
+    /// let lu = Lu::factor(&[0.0, 2.0, 1.0, 0.0], 2, 2)?;
+    /// assert_eq!(lu.inverse()?, [0.0, 1.0, 0.5, 0.0]);
+    /// # Ok::<(), wejdarox::Refusal>(())
+    /// ```
     ///
     /// # Errors
     /// 2, 6, 7.
@@ -224,6 +272,13 @@ impl Lu {
 
     /// The determinant of a square matrix. It may underflow to zero where the matrix is invertible.
     ///
+    /// ```
+    /// # use wejdarox::Lu;
+    /// let lu = Lu::factor(&[0.0, 2.0, 1.0, 0.0], 2, 2)?;
+    /// assert_eq!(lu.determinant()?, -2.0);
+    /// # Ok::<(), wejdarox::Refusal>(())
+    /// ```
+    ///
     /// # Errors
     /// 2, 7.
     pub fn determinant(&self) -> Result<f64, Refusal> {
@@ -233,6 +288,13 @@ impl Lu {
     }
 
     /// The determinant of a square matrix, which neither vanishes nor overflows: it is zero only where a column is dead.
+    ///
+    /// ```
+    /// # use wejdarox::Lu;
+    /// let lu = Lu::factor(&[0.0, 2.0, 1.0, 0.0], 2, 2)?;
+    /// assert_eq!(lu.scaled_determinant()?.to_string(), "-1 × 2^1");
+    /// # Ok::<(), wejdarox::Refusal>(())
+    /// ```
     ///
     /// # Errors
     /// 2.
@@ -244,6 +306,12 @@ impl Lu {
 
     /// Whether a square matrix is invertible: it has no dead column.
     ///
+    /// ```
+    /// # use wejdarox::Lu;
+    /// assert!(!Lu::factor(&[1.0, 2.0, 2.0, 4.0], 2, 2)?.is_invertible()?);
+    /// # Ok::<(), wejdarox::Refusal>(())
+    /// ```
+    ///
     /// # Errors
     /// 2.
     pub fn is_invertible(&self) -> Result<bool, Refusal> {
@@ -253,35 +321,72 @@ impl Lu {
     }
 
     /// The number of rows, 1 to 64.
+    ///
+    /// ```
+    /// # use wejdarox::Lu;
+    /// assert_eq!(Lu::factor(&[3.0, 4.0], 2, 1)?.rows(), 2);
+    /// # Ok::<(), wejdarox::Refusal>(())
+    /// ```
     #[must_use]
     pub fn rows(&self) -> usize {
         self.rows
     }
 
     /// The number of columns, 0 to 64.
+    ///
+    /// ```
+    /// # use wejdarox::Lu;
+    /// assert_eq!(Lu::factor(&[3.0, 4.0], 2, 1)?.columns(), 1);
+    /// # Ok::<(), wejdarox::Refusal>(())
+    /// ```
     #[must_use]
     pub fn columns(&self) -> usize {
         self.columns
     }
 
     /// L and U packed, column after column: U on and above the diagonal, L below it without its ones.
+    ///
+    /// ```
+    /// # use wejdarox::Lu;
+    /// assert_eq!(Lu::factor(&[2.0, 4.0], 2, 1)?.factors(), [4.0, 0.5]);
+    /// # Ok::<(), wejdarox::Refusal>(())
+    /// ```
     #[must_use]
     pub fn factors(&self) -> &[f64] {
         &self.factors
     }
 
     /// The exchanged rows, pair after pair, counted from 0.
+    ///
+    /// ```
+    /// # use wejdarox::Lu;
+    /// let lu = Lu::factor(&[0.0, 2.0, 1.0, 0.0], 2, 2)?;
+    /// assert_eq!(lu.swaps().collect::<Vec<_>>(), [(0, 1)]);
+    /// # Ok::<(), wejdarox::Refusal>(())
+    /// ```
     pub fn swaps(&self) -> impl ExactSizeIterator<Item = (usize, usize)> + '_ {
         self.swaps.chunks_exact(2).take(self.counts.pairs).map(|pair| (pair[0], pair[1]))
     }
 
     /// How many columns are dead: a zero of either sign on the diagonal of the factors. Those past the last row have no diagonal and do not count.
+    ///
+    /// ```
+    /// # use wejdarox::Lu;
+    /// assert_eq!(Lu::factor(&[1.0, 2.0, 2.0, 4.0], 2, 2)?.dead_columns(), 1);
+    /// # Ok::<(), wejdarox::Refusal>(())
+    /// ```
     #[must_use]
     pub fn dead_columns(&self) -> usize {
         self.counts.dead
     }
 
     /// In how many columns another row had the pivot's magnitude, so that the first was taken.
+    ///
+    /// ```
+    /// # use wejdarox::Lu;
+    /// assert_eq!(Lu::factor(&[1.0, -1.0], 2, 1)?.toss_ups(), 1);
+    /// # Ok::<(), wejdarox::Refusal>(())
+    /// ```
     #[must_use]
     pub fn toss_ups(&self) -> usize {
         self.counts.toss_ups
@@ -329,6 +434,13 @@ fn listed(call: fn(&[f64], usize, &mut [usize], &mut usize) -> usize, loads: &[f
 }
 
 /// A pad and the load on it.
+///
+/// ```
+/// # use wejdarox::{pad_order, Pad, Panel};
+/// let file = Panel { matrix: vec![0.0, 2.0, 1.0, 0.0], readings: vec![5.0, 8.0] }.write()?;
+/// assert_eq!(pad_order(&file)?.pads[0], Pad { number: 2, load: 5.0 });
+/// # Ok::<(), wejdarox::Refusal>(())
+/// ```
 #[derive(Clone, Copy, Debug, PartialEq)]
 pub struct Pad {
     /// Its number, counted from 1.
@@ -338,6 +450,14 @@ pub struct Pad {
 }
 
 /// The answer for a panel file.
+///
+/// ```
+/// # use wejdarox::{pad_order, Panel};
+/// let file = Panel { matrix: vec![0.0, 2.0, 1.0, 0.0], readings: vec![5.0, 8.0] }.write()?;
+/// let order = pad_order(&file)?;
+/// assert_eq!((order.pads.len(), order.toss_ups), (2, 0));
+/// # Ok::<(), wejdarox::Refusal>(())
+/// ```
 #[derive(Clone, Debug, PartialEq)]
 pub struct PadOrder {
     /// The pads in the order to lift them.
@@ -366,6 +486,13 @@ pub fn pad_order(file: &[u8]) -> Result<PadOrder, Refusal> {
 }
 
 /// How stiff the crossing of a panel file is.
+///
+/// ```
+/// # use wejdarox::{stiffness, Panel};
+/// let file = Panel { matrix: vec![0.0, 2.0, 1.0, 0.0], readings: vec![5.0, 8.0] }.write()?;
+/// assert_eq!(stiffness(&file)?.toss_ups, 0);
+/// # Ok::<(), wejdarox::Refusal>(())
+/// ```
 #[derive(Clone, Copy, Debug, PartialEq)]
 pub struct Stiffness {
     /// The determinant of its matrix; +0.0 where that is singular.
@@ -392,6 +519,12 @@ pub fn stiffness(file: &[u8]) -> Result<Stiffness, Refusal> {
 }
 
 /// A crossing of exactly four pads, factored and solved: bit for bit what [`Lu::factor`] and [`Lu::solve`] give, in less time and with nothing allocated.
+///
+/// ```
+/// let ones = [[1.0, 0.0, 0.0, 0.0], [0.0, 1.0, 0.0, 0.0], [0.0, 0.0, 1.0, 0.0], [0.0, 0.0, 0.0, 1.0]];
+/// assert_eq!(wejdarox::four_pads(&ones, &[1.0, 2.0, 3.0, 4.0])?.factors, ones.concat()[..]);
+/// # Ok::<(), wejdarox::Refusal>(())
+/// ```
 #[derive(Clone, Copy, Debug, PartialEq)]
 pub struct FourPads {
     /// L and U packed, column after column.
@@ -404,6 +537,12 @@ pub struct FourPads {
 
 impl FourPads {
     /// The pairs of exchanged rows, first pair first, counted from 0: at most three.
+    ///
+    /// ```
+    /// let turned = [[0.0, 1.0, 0.0, 0.0], [1.0, 0.0, 0.0, 0.0], [0.0, 0.0, 1.0, 0.0], [0.0, 0.0, 0.0, 1.0]];
+    /// assert_eq!(wejdarox::four_pads(&turned, &[1.0; 4])?.swaps().collect::<Vec<_>>(), [(0, 1)]);
+    /// # Ok::<(), wejdarox::Refusal>(())
+    /// ```
     pub fn swaps(&self) -> impl ExactSizeIterator<Item = (usize, usize)> + '_ {
         self.swaps.chunks_exact(2).take(self.pairs).map(|pair| (pair[0], pair[1]))
     }
@@ -444,6 +583,12 @@ pub fn four_pads_of(file: &[u8]) -> Result<FourPads, Refusal> {
 }
 
 /// The figures of a season: panel files are handed over one at a time, at most 4,000, and counted by what becomes of them. The order of the files does not matter.
+///
+/// ```
+/// let season = wejdarox::Season::new().with_file(b"no panel file")?;
+/// assert_eq!((season.files, season.accepted, season.refused[8 - 1]), (1, 0, 1));
+/// # Ok::<(), wejdarox::Refusal>(())
+/// ```
 #[derive(Clone, Copy, Debug, Default, PartialEq, Eq, Hash)]
 pub struct Season {
     /// The files that [`pad_order`] answers.
@@ -460,6 +605,10 @@ pub struct Season {
 
 impl Season {
     /// A season of no file.
+    ///
+    /// ```
+    /// assert_eq!(wejdarox::Season::new().files, 0);
+    /// ```
     #[must_use]
     pub fn new() -> Season {
         Season::default()

@@ -4,6 +4,12 @@ use alloc::vec;
 use alloc::vec::Vec;
 
 /// By which triangle of a matrix [`solve_triangular`] solves.
+///
+/// ```
+/// # use wejdarox::{solve_triangular, Triangle};
+/// assert_eq!(solve_triangular(Triangle::Upper, &[2.0, 0.0, 4.0, 8.0], 2, &[6.0, 8.0], 1)?, [1.0, 1.0]);
+/// # Ok::<(), wejdarox::Refusal>(())
+/// ```
 #[derive(Clone, Copy, Debug, PartialEq)]
 #[non_exhaustive]
 pub enum Triangle {
@@ -60,12 +66,24 @@ pub struct SwapList {
 
 impl SwapList {
     /// A list of no pair. A dimension outside 1 to 64 is refused by [`SwapList::append`].
+    ///
+    /// ```
+    /// assert_eq!(wejdarox::SwapList::new(3).pairs().len(), 0);
+    /// ```
     #[must_use]
     pub fn new(dimension: usize) -> SwapList {
         SwapList { store: [0; 2 * MOST], pairs: 0, dimension }
     }
 
     /// Appends a pair; two equal numbers append nothing.
+    ///
+    /// ```
+    /// # use wejdarox::{Refusal, SwapList};
+    /// let mut list = SwapList::new(1);
+    /// list.append(0, 1)?;
+    /// assert_eq!(list.append(1, 2), Err(Refusal::SwapList));
+    /// # Ok::<(), wejdarox::Refusal>(())
+    /// ```
     ///
     /// # Errors
     /// 1 for the dimension; 4 where a number is not below 64, or the list is full. The list is then as it was.
@@ -74,17 +92,43 @@ impl SwapList {
     }
 
     /// The pairs, the first first.
+    ///
+    /// ```
+    /// # use wejdarox::SwapList;
+    /// let mut list = SwapList::new(3);
+    /// list.append(0, 2)?;
+    /// assert_eq!(list.pairs().collect::<Vec<_>>(), [(0, 2)]);
+    /// # Ok::<(), wejdarox::Refusal>(())
+    /// ```
     pub fn pairs(&self) -> impl ExactSizeIterator<Item = (usize, usize)> + '_ {
         self.store.chunks_exact(2).take(self.pairs).map(|pair| (pair[0], pair[1]))
     }
 
     /// 1.0 where the pairs are even, -1.0 where they are odd.
+    ///
+    /// ```
+    /// # use wejdarox::SwapList;
+    /// let mut list = SwapList::new(3);
+    /// list.append(0, 2)?;
+    /// assert_eq!(list.sign(), -1.0);
+    /// # Ok::<(), wejdarox::Refusal>(())
+    /// ```
     #[must_use]
     pub fn sign(&self) -> f64 {
         further_calls::permutation_sign(self.pairs)
     }
 
     /// Exchanges rows of a matrix of so many rows and columns, the first pair first.
+    ///
+    /// ```
+    /// # use wejdarox::SwapList;
+    /// let mut list = SwapList::new(2);
+    /// list.append(0, 1)?;
+    /// let mut a = [1.0, 2.0, 3.0, 4.0];
+    /// list.permute_rows(&mut a, 2, 2)?;
+    /// assert_eq!(a, [2.0, 1.0, 4.0, 3.0]);
+    /// # Ok::<(), wejdarox::Refusal>(())
+    /// ```
     ///
     /// # Errors
     /// 1, 3, 4 where a number of the list is not a row's, 5. The matrix is then as it was.
@@ -94,6 +138,17 @@ impl SwapList {
 
     /// The same, the last pair first: it undoes [`SwapList::permute_rows`].
     ///
+    /// ```
+    /// # use wejdarox::SwapList;
+    /// let mut list = SwapList::new(3);
+    /// list.append(0, 1)?;
+    /// list.append(1, 2)?;
+    /// let mut a = [2.0, 3.0, 1.0];
+    /// list.inv_permute_rows(&mut a, 3, 1)?;
+    /// assert_eq!(a, [1.0, 2.0, 3.0]);
+    /// # Ok::<(), wejdarox::Refusal>(())
+    /// ```
+    ///
     /// # Errors
     /// As for [`SwapList::permute_rows`].
     pub fn inv_permute_rows(&self, a: &mut [f64], rows: usize, columns: usize) -> Result<(), Refusal> {
@@ -102,6 +157,16 @@ impl SwapList {
 
     /// Exchanges columns, the first pair first.
     ///
+    /// ```
+    /// # use wejdarox::SwapList;
+    /// let mut list = SwapList::new(2);
+    /// list.append(0, 1)?;
+    /// let mut a = [1.0, 2.0, 3.0, 4.0];
+    /// list.permute_columns(&mut a, 2, 2)?;
+    /// assert_eq!(a, [3.0, 4.0, 1.0, 2.0]);
+    /// # Ok::<(), wejdarox::Refusal>(())
+    /// ```
+    ///
     /// # Errors
     /// As for [`SwapList::permute_rows`], 4 where a number of the list is not a column's.
     pub fn permute_columns(&self, a: &mut [f64], rows: usize, columns: usize) -> Result<(), Refusal> {
@@ -109,6 +174,17 @@ impl SwapList {
     }
 
     /// The same, the last pair first: it undoes [`SwapList::permute_columns`].
+    ///
+    /// ```
+    /// # use wejdarox::SwapList;
+    /// let mut list = SwapList::new(3);
+    /// list.append(0, 1)?;
+    /// list.append(1, 2)?;
+    /// let mut a = [2.0, 3.0, 1.0];
+    /// list.inv_permute_columns(&mut a, 1, 3)?;
+    /// assert_eq!(a, [1.0, 2.0, 3.0]);
+    /// # Ok::<(), wejdarox::Refusal>(())
+    /// ```
     ///
     /// # Errors
     /// As for [`SwapList::permute_columns`].

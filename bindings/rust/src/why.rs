@@ -4,6 +4,11 @@ use alloc::vec;
 use core::fmt;
 
 /// Why [`Lu::factor`] refuses a matrix.
+///
+/// ```
+/// # use wejdarox::{Lu, WhyFactor};
+/// assert!(matches!(Lu::why_factor(&[5e-324, 0.0], 2, 1), Some(WhyFactor::Overflow { step: 0, column: 0, row: 1, .. })));
+/// ```
 #[derive(Clone, Copy, Debug, PartialEq, Eq, Hash)]
 #[non_exhaustive]
 pub enum WhyFactor {
@@ -21,6 +26,13 @@ pub enum WhyFactor {
 }
 
 /// A pass of a solve.
+///
+/// ```
+/// # use wejdarox::{Lu, Pass, WhySolve};
+/// let lu = Lu::factor(&[0.25], 1, 1)?;
+/// assert!(matches!(lu.why_solve(&[1.7e308], 1), Some(WhySolve::Overflow { pass: Pass::Upper, .. })));
+/// # Ok::<(), wejdarox::Refusal>(())
+/// ```
 #[derive(Clone, Copy, Debug, PartialEq, Eq, Hash)]
 #[non_exhaustive]
 pub enum Pass {
@@ -31,6 +43,13 @@ pub enum Pass {
 }
 
 /// Why [`Lu::solve`] refuses right-hand columns.
+///
+/// ```
+/// # use wejdarox::{Lu, WhySolve};
+/// let dead = Lu::factor(&[1.0, 2.0, 2.0, 4.0], 2, 2)?;
+/// assert!(matches!(dead.why_solve(&[1.0, 2.0], 1), Some(WhySolve::Singular { column: 1, .. })));
+/// # Ok::<(), wejdarox::Refusal>(())
+/// ```
 #[derive(Clone, Copy, Debug, PartialEq, Eq, Hash)]
 #[non_exhaustive]
 pub enum WhySolve {
@@ -54,6 +73,11 @@ pub enum WhySolve {
 
 impl WhyFactor {
     /// The refusal that the explained call gives.
+    ///
+    /// ```
+    /// # use wejdarox::{Lu, Refusal};
+    /// assert_eq!(Lu::why_factor(&[f64::NAN], 1, 1).map(|why| why.refusal()), Some(Refusal::NotFinite));
+    /// ```
     #[must_use]
     pub fn refusal(self) -> Refusal {
         match self {
@@ -65,6 +89,13 @@ impl WhyFactor {
 
 impl WhySolve {
     /// The refusal that the explained call gives.
+    ///
+    /// ```
+    /// # use wejdarox::{Lu, Refusal};
+    /// let dead = Lu::factor(&[0.0], 1, 1)?;
+    /// assert_eq!(dead.why_solve(&[1.0], 1).map(|why| why.refusal()), Some(Refusal::Singular));
+    /// # Ok::<(), wejdarox::Refusal>(())
+    /// ```
     #[must_use]
     pub fn refusal(self) -> Refusal {
         match self {

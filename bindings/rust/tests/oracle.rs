@@ -333,13 +333,16 @@ fn panel_files() {
     }
 }
 
+/// Factors, swaps and loads.
+type Parts = (Vec<f64>, Vec<(usize, usize)>, Vec<f64>);
+
 /// Four pads at once are factoring and solving; a file of another size is refused.
 #[test]
 fn four_pads_at_once() {
     let mut random = Random(7);
     for turn in 0..400 {
         let (a, b) = (random.matrix(4, 4), random.numbers(4, 1));
-        let parts = || -> Result<(Vec<f64>, Vec<(usize, usize)>, Vec<f64>), Refusal> {
+        let parts = || -> Result<Parts, Refusal> {
             let lu = Lu::factor(&a, 4, 4)?;
             Ok((lu.factors().to_vec(), lu.swaps().collect(), lu.solve(&b, 1)?))
         };
