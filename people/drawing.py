@@ -59,8 +59,11 @@ def moves_picture(moves: List[Optional[List[float]]]) -> str:
             parts.append(f'<path d="M{short(MARGIN)} {short(middle)}H{short(size)}" stroke="#000" stroke-width=".4" stroke-dasharray="2 2"/>')
         else:
             parts += [circle(MARGIN + CELL * (i + 0.5), middle, move, most) for i, move in enumerate(row)]
-    parts += labels(len(moves), size, min(7.0, LETTERS * size / width))
-    return (f'<svg class="moves" viewBox="0 0 {short(size + 1)} {short(size + 1)}" style="width:{short(width)}mm" role="img" '
+    letters = min(7.0, LETTERS * size / width)
+    parts += labels(len(moves), size, letters)
+    edge = max(0.0, MARGIN - 5 - 2.3 * letters)  # what lies before the letters is left off
+    box = f"{short(edge)} {short(edge)} {short(size + 1 - edge)} {short(size + 1 - edge)}"
+    return (f'<svg class="moves" viewBox="{box}" style="width:{short(width)}mm" role="img" '
             f'aria-label="A row for each pad, a column for each reading; the list below has the greatest of each row">{"".join(parts)}</svg>')
 
 

@@ -35,6 +35,7 @@ th { border-bottom: .5mm solid #000 }
 .refused { border: .5mm solid #000; padding: 3mm }
 .sign { margin-top: 8mm }
 .sign span { display: inline-block; border-bottom: .2mm solid #000; width: 40mm; margin-right: 6mm }
+@media screen and (max-width: 170mm) { .bar { width: 22vw } th, td { padding: .6mm 1mm } .columns { columns: 1 } }
 @media print { body { max-width: none; padding: 0 } section { margin: 0 } section + section { break-before: page } }
 """
 
@@ -76,7 +77,8 @@ def night(sheet: Sheet) -> str:
     notes = "".join(f"<li>{escape(note)}</li>\n" for note in sheet.notes)
     return (f"<section>{head}\n<p>{counted(len(sheet.loads), 'pad')}, the greatest load first. A filled bar acts one way, a hollow one the "
             'other.</p>\n<table><thead><tr><th scope="col" class="n">rank</th><th scope="col" class="n">pad</th><th scope="col">load</th>'
-            f'<th scope="col">beside the greatest</th><th scope="col" class="n">done</th></tr></thead>\n<tbody>\n{rows}</tbody></table>\n' + (f"<h2>Notes</h2>\n<ul>{notes}</ul>\n" if notes else "")
+            f'<th scope="col">beside the greatest</th><th scope="col" class="n">done</th></tr></thead>\n<tbody>\n{rows}</tbody></table>\n'
+            + (f"<h2>Notes</h2>\n<ul>{notes}</ul>\n" if notes else "")
             + '<p class="sign">Date <span></span> Gang <span></span> Signed <span></span></p></section>')
 
 

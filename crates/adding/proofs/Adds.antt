@@ -60,12 +60,12 @@ module _ (r : Record) (s c : Column) (store : List ℕ) where
   n = r .columns
 
   -- past the tests
-  pub ready : addingRefusal r s c store ≡ 0 → Ready r s c store
+  pub ready : addingRefusal s c store r ≡ 0 → Ready s c store r
   unfolding addingRefusal
   ready e =
-      let p = passed (olderIn r s) store r (addingAsks r s c) e in
+      let p = passed (olderIn s r) store r (addingAsks s c r) e in
       let both = p .lengths in
-      let room = isMatrix m (n + 1) s in
+      let room = isMatrix s m (n + 1) in
       let fits = and-first room (eqb (length c) m) both in
       let dead : r .dead ≡ deadIn m (columns m n s) = p .dead ∙ ap (deadIn m) (older m n s (sized m (n + 1) s fits .size)) in
       record {
@@ -95,44 +95,44 @@ module _ (r : Record) (s c : Column) (store : List ℕ) where
       (λ t. let more = ltb-true 63 n t in rw (t, lt-leb n 63 more) (or-same (outside 1 m) (outside 0 n)))
       (λ t. let few = ltb-false 63 n t in rw (t, le-leb n 63 few, le-ltb 64 n (omega arith), le-ltb n 0 (omega arith)) (or-none (outside 1 m)))
 
-  with-room : isMatrix m (n + 1) s ≡ true
-      → testedAs true (goodList m (min m n) (r .pairs) store) (allFinite (take (n * m) s) && allFinite c) (deadOf m n (take (n * m) s))
-      ≡ addingRefusal r s c store
+  with-room : isMatrix s m (n + 1) ≡ true
+      → testedAs true (goodList store (r .pairs) m (min m n)) (allFinite (take (n * m) s) && allFinite c) (deadOf (take (n * m) s) m n)
+      ≡ addingRefusal s c store r
   unfolding addingRefusal heldRefusal firstOf
   with-room t =
       let w = sized m (n + 1) s t in
       let front = is-matrix m n (take (n * m) s) (w .rows-most) (omega (arith, w .columns-most)) (length-take-le (n * m) s (omega (arith, w .size))) in
-      rw (sizes-same, t, front, and-true (goodList m (min m n) (r .pairs) store)) refl
+      rw (sizes-same, t, front, and-true (goodList store (r .pairs) m (min m n))) refl
 
-  without-room : isMatrix m (n + 1) s ≡ false → (list numbers : Bool) (dead : ℕ) → testedAs false list numbers dead ≡ addingRefusal r s c store
+  without-room : isMatrix s m (n + 1) ≡ false → (list numbers : Bool) (dead : ℕ) → testedAs false list numbers dead ≡ addingRefusal s c store r
   unfolding addingRefusal heldRefusal firstOf
-  without-room t list numbers dead = rw (sizes-same, t, and-none (isMatrix m n (take (n * m) s) && eqb (length store) 128)) refl
+  without-room t list numbers dead = rw (sizes-same, t, and-none (isMatrix (take (n * m) s) m n && eqb (length store) 128)) refl
 
   -- from what the tests gave
-  pub refusal-found : (room : Bool) (a number : ℕ) → room ≡ isMatrix m (n + 1) s → a ≡ cond room (n * m) 0
-      → number ≡ testedAs room (goodList m (min m n) (r .pairs) store) (allFinite (take a s) && allFinite c) (deadOf m n (take a s))
-      → number ≡ addingRefusal r s c store
-  refusal-found room a number fits is e = e ∙ test-cases (isMatrix m (n + 1) s) yes no
+  pub refusal-found : (room : Bool) (a number : ℕ) → room ≡ isMatrix s m (n + 1) → a ≡ cond room (n * m) 0
+      → number ≡ testedAs room (goodList store (r .pairs) m (min m n)) (allFinite (take a s) && allFinite c) (deadOf (take a s) m n)
+      → number ≡ addingRefusal s c store r
+  refusal-found room a number fits is e = e ∙ test-cases (isMatrix s m (n + 1)) yes no
     where
-      yes : isMatrix m (n + 1) s ≡ true
-          → testedAs room (goodList m (min m n) (r .pairs) store) (allFinite (take a s) && allFinite c) (deadOf m n (take a s)) ≡ addingRefusal r s c store
+      yes : isMatrix s m (n + 1) ≡ true
+          → testedAs room (goodList store (r .pairs) m (min m n)) (allFinite (take a s) && allFinite c) (deadOf (take a s) m n) ≡ addingRefusal s c store r
       yes t = rw (is, fits ∙ t) (with-room t)
 
-      no : isMatrix m (n + 1) s ≡ false
-          → testedAs room (goodList m (min m n) (r .pairs) store) (allFinite (take a s) && allFinite c) (deadOf m n (take a s)) ≡ addingRefusal r s c store
-      no t = rw (fits ∙ t) (without-room t (goodList m (min m n) (r .pairs) store) (allFinite (take a s) && allFinite c) (deadOf m n (take a s)))
+      no : isMatrix s m (n + 1) ≡ false
+          → testedAs room (goodList store (r .pairs) m (min m n)) (allFinite (take a s) && allFinite c) (deadOf (take a s) m n) ≡ addingRefusal s c store r
+      no t = rw (fits ∙ t) (without-room t (goodList store (r .pairs) m (min m n)) (allFinite (take a s) && allFinite c) (deadOf (take a s) m n))
 
-  pub refused-by : (number : ℕ) → number ≡ addingRefusal r s c store → (number ≡ 0 → ⊥) → AddedTo r s c store (Refused number r) s store
+  pub refused-by : (number : ℕ) → number ≡ addingRefusal s c store r → (number ≡ 0 → ⊥) → AddedTo s c store r (Refused number r) s store
   unfolding adding added recordIn addingAnswer withTossUps andThen recordAfter
   refused-by number e ne =
-      let w = tested-some (addingRefusal r s c store) (leaving (slices s store)) (addingSettled r s store (addColumn m (olderFactors r s store) c))
+      let w = tested-some (addingRefusal s c store r) (leaving (slices s store)) (addingSettled s store r (addColumn m (olderFactors s store r) c))
       (λ z. ne (e ∙ z)) in
       record { answer = rw w (ap refused e); told = rw w refl; factors = rw w refl; pairs = rw w refl }
 
   -- ---- the factors, the reduced column, and its own step
-  module _ (go : Ready r s c store) where
+  module _ (go : Ready s c store r) where
     abbrev f : Factors
-    f = olderFactors r s store
+    f = olderFactors s store r
 
     abbrev x : Column
     x = reduced m f c
@@ -146,9 +146,9 @@ module _ (r : Record) (s c : Column) (store : List ℕ) where
     added-is : addColumn m f c ≡ joined n (ownRow n x) f (ownColumn n x)
     added-is = rw wide at (adding-joins m f c (go .long))
 
-    pub worked : adding r s c store ≡ addingSettled r s store (joined n (ownRow n x) f (ownColumn n x))
+    pub worked : adding s c store r ≡ addingSettled s store r (joined n (ownRow n x) f (ownColumn n x))
     unfolding adding
-    worked = tested-none _ _ _ (go .none) ∙ ap (addingSettled r s store) added-is
+    worked = tested-none _ _ _ (go .none) ∙ ap (addingSettled s store r) added-is
 
     last-is : column (swapInAll n (ownRow n x) (f .columns) ++ ownColumn n x ∷ []) n ≡ ownColumn n x
     last-is = getD-at (swapInAll n (ownRow n x) (f .columns)) (ownColumn n x) [] [] n (length-swapInAll n (ownRow n x) (f .columns) ∙ wide)
@@ -173,7 +173,7 @@ module _ (r : Record) (s c : Column) (store : List ℕ) where
 
     -- the new column is not finite: the slot holds zeros
     promise-seven : (y s' : Column) → y ≡ ownColumn n x → allFinite y ≡ false → length s' ≡ length s → columns m (n + 1) s' ≡ columns m n s ++ zeros m ∷ []
-        → AddedTo r s c store (Refused 7 r) s' store
+        → AddedTo s c store r (Refused 7 r) s' store
     unfolding addingSettled added recordIn addingAnswer withTossUps andThen recordAfter
     promise-seven y s' is bad kept zeroed =
         let not-finite : allFinite (column (swapInAll n (ownRow n x) (f .columns) ++ ownColumn n x ∷ []) n) ≡ false = ap allFinite (last-is ∙ sym is) ∙ bad in
@@ -191,7 +191,7 @@ module _ (r : Record) (s c : Column) (store : List ℕ) where
     promise-added : (y s' : Column) (p pairs' own dead : ℕ) (store' : List ℕ) → own ≡ ownTossUp m f c → p ≡ ownRow n x → y ≡ ownColumn n x → allFinite y ≡ true
         → dead ≡ r .dead + deadAt n y → length s' ≡ length s → columns m (n + 1) s' ≡ swapInAll n p (columns m n s) ++ y ∷ []
         → Recorded n p (r .pairs) pairs' store store'
-        → AddedTo r s c store (Accepted (recordOf m (n + 1) pairs' dead) own) s' store'
+        → AddedTo s c store r (Accepted (recordOf m (n + 1) pairs' dead) own) s' store'
     unfolding addingSettled added recordIn addingAnswer withTossUps andThen recordAfter
     promise-added y s' p pairs' own dead store' counted row is ok died kept made rec =
         let finite-there : allFinite (column (swapInAll n (ownRow n x) (f .columns) ++ ownColumn n x ∷ []) n) ≡ true = ap allFinite (last-is ∙ sym is) ∙ ok in
@@ -210,7 +210,7 @@ module _ (r : Record) (s c : Column) (store : List ℕ) where
         }
 
     -- ---- from what the code left: t has the reduced column in its slot, and y is that column after its own step
-    module _ (t y : Column) (p : ℕ) (same : length t ≡ length s) (red : columns m (n + 1) t ≡ withReduced m n (r .pairs) s c store)
+    module _ (t y : Column) (p : ℕ) (same : length t ≡ length s) (red : columns m (n + 1) t ≡ withReduced s m n c store (r .pairs))
         (kept : length y ≡ length (midOf (n * m) (n * m + m - n * m) t)) (row : p ≡ ownRow n (midOf (n * m) (n * m + m - n * m) t))
         (own : y ≡ ownColumn n (midOf (n * m) (n * m + m - n * m) t)) where
       abbrev u : Column
@@ -233,7 +233,7 @@ module _ (r : Record) (s c : Column) (store : List ℕ) where
       its-slot = slot-part m n u (ownColumn n x) (columns m n s) wide stepped
 
       pub overflows : (z : Column) → allFinite (midOf (n * m) (n * m + m - n * m) u) ≡ false → length z ≡ length (midOf (n * m) (n * m + m - n * m) u)
-          → z ≡ zeros (length (midOf (n * m) (n * m + m - n * m) u)) → AddedTo r s c store (Refused 7 r) (putMid (n * m) (n * m + m - n * m) u z) store
+          → z ≡ zeros (length (midOf (n * m) (n * m + m - n * m) u)) → AddedTo s c store r (Refused 7 r) (putMid (n * m) (n * m + m - n * m) u z) store
       overflows z bad kz zeroed =
           let m-long = column-length m (n + 1) n u (omega arith) (long ∙ size) in
           promise-seven (ownColumn n x) (putMid (n * m) (n * m + m - n * m) u z) refl (ap allFinite (sym its-slot) ∙ bad)
@@ -242,11 +242,11 @@ module _ (r : Record) (s c : Column) (store : List ℕ) where
 
       pub joins : (v : Column) (new : Record) (own dead : ℕ) (tossed : Bool) (store' : List ℕ) → tossed ≡ tossUp n (midOf (n * m) (n * m + m - n * m) t)
           → own ≡ cond tossed 1 0 → dead ≡ r .dead + deadAt n (midOf (n * m) (n * m + m - n * m) u)
-          → allFinite (midOf (n * m) (n * m + m - n * m) u) ≡ true → length v ≡ length u → Joined r p dead u store new v store'
-          → AddedTo r s c store (Accepted new own) v store'
+          → allFinite (midOf (n * m) (n * m + m - n * m) u) ≡ true → length v ≡ length u → Joined u store r p dead new v store'
+          → AddedTo s c store r (Accepted new own) v store'
       unfolding ownTossUp tossAt
       joins v new own dead tossed store' toss counted died ok kv made =
-          let fits : isMatrix m (n + 1) u ≡ true = same-matrix m (n + 1) s u long ∙ go .room in
+          let fits : isMatrix u m (n + 1) ≡ true = same-matrix m (n + 1) s u long ∙ go .room in
           let swapped : columns m (n + 1) v ≡ swapInAll n p (columns m n s) ++ ownColumn n x ∷ [] =
           older-exchanged m n p u v (columns m n s) (ownColumn n x) wide fits stepped (made .rows) in
           let own-is : own ≡ ownTossUp m f c =
@@ -258,26 +258,26 @@ module _ (r : Record) (s c : Column) (store : List ℕ) where
           rw (made .told) it
 
 -- an outcome that gives no number has no refusal before the work
-pub no-refusal : (r : Record) (s c : Column) (store : List ℕ) → numberOf (adding r s c store .answer) ≡ 0 → addingRefusal r s c store ≡ 0
+pub no-refusal : (r : Record) (s c : Column) (store : List ℕ) → numberOf (adding s c store r .answer) ≡ 0 → addingRefusal s c store r ≡ 0
 unfolding adding
-no-refusal r s c store = none-given (addingRefusal r s c store) (slices s store) (addingSettled r s store (addColumn (r .rows) (olderFactors r s store) c))
+no-refusal r s c store = none-given (addingRefusal s c store r) (slices s store) (addingSettled s store r (addColumn (r .rows) (olderFactors s store r) c))
 
 -- ---- what adding changes
 
 -- THEOREM. Accepted adding changes the new column and, where row n is exchanged with another row p, those two rows of the older columns and the next
 -- pair; nothing else. For any factors that pass the tests.
-pub adding-changes : (r : Record) (s c : Column) (store : List ℕ) → numberOf (adding r s c store .answer) ≡ 0
+pub adding-changes : (r : Record) (s c : Column) (store : List ℕ) → numberOf (adding s c store r .answer) ≡ 0
     → let m = r .rows in
     let n = r .columns in
-    let x = reduced m (olderFactors r s store) c in
+    let x = reduced m (olderFactors s store r) c in
     let p = ownRow n x in
-    (adding r s c store .left .factors ≡ flat (swapInAll n p (columns m n s)) ++ ownColumn n x)
-    × (adding r s c store .left .store ≡ cond (eqb p n) store (withPair (r .pairs) n p store))
+    (adding s c store r .left .factors ≡ flat (swapInAll n p (columns m n s)) ++ ownColumn n x)
+    × (adding s c store r .left .store ≡ cond (eqb p n) store (withPair (r .pairs) n p store))
 unfolding addingSettled numberOf
 adding-changes r s c store e =
     let m = r .rows in
     let n = r .columns in
-    let x = reduced m (olderFactors r s store) c in
+    let x = reduced m (olderFactors s store r) c in
     let p = ownRow n x in
     let go = ready r s c store (no-refusal r s c store e) in
     let w = worked r s c store go in
@@ -286,10 +286,10 @@ adding-changes r s c store e =
     (λ b. absurd (let seven : 7 ≡ 0 = (rw (w, b) at e) in omega arith))
 
 -- THEOREM. And the new column is finite.
-pub adding-finite : (r : Record) (s c : Column) (store : List ℕ) → numberOf (adding r s c store .answer) ≡ 0
-    → allFinite (ownColumn (r .columns) (reduced (r .rows) (olderFactors r s store) c)) ≡ true
+pub adding-finite : (r : Record) (s c : Column) (store : List ℕ) → numberOf (adding s c store r .answer) ≡ 0
+    → allFinite (ownColumn (r .columns) (reduced (r .rows) (olderFactors s store r) c)) ≡ true
 unfolding addingSettled numberOf
 adding-finite r s c store e =
     let go = ready r s c store (no-refusal r s c store e) in
-    test-cases (allFinite (ownColumn (r .columns) (reduced (r .rows) (olderFactors r s store) c))) (λ t. t)
+    test-cases (allFinite (ownColumn (r .columns) (reduced (r .rows) (olderFactors s store r) c))) (λ t. t)
     (λ t. absurd (let seven : 7 ≡ 0 = (rw (worked r s c store go, last-is r s c store go, t) at e) in omega arith))

@@ -65,22 +65,22 @@ module _ (m : ℕ) (f : Factors) (c : Column) (len : length c ≡ m) where
 
 -- ---- an accepted factoring, by its answer
 pub record Given (m n : ℕ) (a out : Column) (store : List ℕ) (told : Record) : Type 0 where
-  pub none : factoringRefusal m n a out store ≡ 0
-  pub is : factoring m n a out store ≡ acceptedAs m n (factorsOf m n a)
+  pub none : factoringRefusal a m n out store ≡ 0
+  pub is : factoring a m n out store ≡ acceptedAs m n (factorsOf m n a)
   pub finite : allFinite (flat (factorsOf m n a .columns)) ≡ true
   pub told-is : told ≡ recordFor m n (factorsOf m n a)
 
-pub accepted-given : (m n : ℕ) (a out : Column) (store : List ℕ) (told : Record) → factoring m n a out store .answer ≡ done told → Given m n a out store told
+pub accepted-given : (m n : ℕ) (a out : Column) (store : List ℕ) (told : Record) → factoring a m n out store .answer ≡ done told → Given m n a out store told
 unfolding numberOf
 accepted-given m n a out store told e =
-    let zero : numberOf (factoring m n a out store .answer) ≡ 0 = ap numberOf e in
+    let zero : numberOf (factoring a m n out store .answer) ≡ 0 = ap numberOf e in
     let none = no-refusal m n a out store zero in
     let acc = accepted-is m n a out store none zero in
     let same : done told ≡ done (recordFor m n (factorsOf m n a)) = sym e ∙ ap (λ (o : Factoring). o .answer) (acc .0) in
     record { none = none; is = acc .0; finite = acc .1; told-is = cc }
 
 -- ---- an accepted factoring, and one more column
-module _ (m n : ℕ) (a out : Column) (store : List ℕ) (none : factoringRefusal m n a out store ≡ 0) where
+module _ (m n : ℕ) (a out : Column) (store : List ℕ) (none : factoringRefusal a m n out store ≡ 0) where
   abbrev f : Factors
   f = factorsOf m n a
 
@@ -94,7 +94,7 @@ module _ (m n : ℕ) (a out : Column) (store : List ℕ) (none : factoringRefusa
   long = size-f m n a out store none
 
   -- the factors as the slices hold them, a slot of any contents behind
-  pub held : (z : Column) → factorsIn m n (length (f .swaps)) (flat (f .columns) ++ z) (storeOf (f .swaps)) ≡ f
+  pub held : (z : Column) → factorsIn (flat (f .columns) ++ z) m n (storeOf (f .swaps)) (length (f .swaps)) ≡ f
   held z =
       let cs : columns m n (flat (f .columns) ++ z) ≡ f .columns =
       columns-front m n (flat (f .columns)) z long
@@ -119,13 +119,13 @@ module _ (m n : ℕ) (a out : Column) (store : List ℕ) (none : factoringRefusa
     w = storeOf (f .swaps)
 
     abbrev refusal : ℕ
-    refusal = factoringRefusal m (n + 1) (a ++ c) out' store'
+    refusal = factoringRefusal (a ++ c) m (n + 1) out' store'
 
     -- the widened matrix has its length exactly where the raw column has m entries
     widened-long : length (a ++ c) ≡ n * m + length c
     widened-long = length-append a c ∙ ap (λ (k : ℕ). k + length c) (size m n a out store none)
 
-    widened-fits : n ≤ 63 → isMatrix m (n + 1) (a ++ c) ≡ eqb (length c) m
+    widened-fits : n ≤ 63 → isMatrix (a ++ c) m (n + 1) ≡ eqb (length c) m
     unfolding isMatrix
     widened-fits h =
         let rows = le-leb m 64 (its .rows .at-most) in
@@ -136,23 +136,23 @@ module _ (m n : ℕ) (a out : Column) (store : List ℕ) (none : factoringRefusa
         let other = eqb-false (length c) m t in
         rw (rows, cols, ne-eqb (length (a ++ c)) ((n + 1) * m) (λ e. other (omega (arith, widened-long, more, e))), t))
 
-    older-fits : isMatrix m n (flat (f .columns)) ≡ true
+    older-fits : isMatrix (flat (f .columns)) m n ≡ true
     older-fits = is-matrix m n (flat (f .columns)) (its .rows .at-most) (its .cols .at-most) long
 
-    slot-fits : n ≤ 63 → isMatrix m (n + 1) s ≡ true
+    slot-fits : n ≤ 63 → isMatrix s m (n + 1) ≡ true
     slot-fits h = is-matrix m (n + 1) s (its .rows .at-most) (omega arith) (length-append (flat (f .columns)) z ∙ omega (arith, long, lz, more))
 
-    list-good : goodList m (min m n) (length (f .swaps)) w ≡ true
+    list-good : goodList w (length (f .swaps)) m (min m n) ≡ true
     list-good = let h = its .rows .at-most in rising-good m (min m n) (f .swaps) (omega arith) (rising m n a out store none)
 
     -- the record's dead columns are those of the factors: "9" is not met
-    dead-good : eqb (r .dead) (deadOf m n (flat (f .columns))) ≡ true
+    dead-good : eqb (r .dead) (deadOf (flat (f .columns)) m n) ≡ true
     dead-good =
         let cs = ap (λ (k : ℕ). columns m k (flat (f .columns))) (sym wide') ∙ columns-flat m (f .columns) (shape-f m n a out store none) in
         eq-eqb _ _ (sym (held-dead m n (flat (f .columns)) older-fits ∙ ap (deadIn m) cs))
 
     -- THEOREM. The tests of adding and those of factoring the widened matrix give the same number.
-    pub same-refusal : addingRefusal r s c w ≡ refusal
+    pub same-refusal : addingRefusal s c w r ≡ refusal
     unfolding addingRefusal heldRefusal factoringRefusal firstOf outside
     same-refusal =
         let rows = not-outside 1 m (its .rows .at-least) (its .rows .at-most) in
@@ -208,8 +208,8 @@ module _ (m n : ℕ) (a out : Column) (store : List ℕ) (none : factoringRefusa
           (rw (ap (λ (h : Factors). h .swaps) (adding-joins m f c lc)) (record-more k (ownRow k (reduced m f c)) (f .swaps)))
 
       settle-alike : (t : Bool) → allFinite (column (g .columns) n) ≡ t → allFinite (flat (g .columns)) ≡ t
-          → (addingSettled r s w g .answer ≡ settled m (n + 1) g .answer)
-          × (numberOf (settled m (n + 1) g .answer) ≡ 0 → addingSettled r s w g ≡ settled m (n + 1) g)
+          → (addingSettled s w r g .answer ≡ settled m (n + 1) g .answer)
+          × (numberOf (settled m (n + 1) g .answer) ≡ 0 → addingSettled s w r g ≡ settled m (n + 1) g)
       unfolding addingSettled settled numberOf
       settle-alike true e d =
           rw (e, d) (
@@ -221,10 +221,10 @@ module _ (m n : ℕ) (a out : Column) (store : List ℕ) (none : factoringRefusa
 
     -- the two outcomes
     abbrev added : Factoring
-    added = adding r s c w
+    added = adding s c w r
 
     abbrev fresh : Factoring
-    fresh = factoring m (n + 1) (a ++ c) out' store'
+    fresh = factoring (a ++ c) m (n + 1) out' store'
 
     abbrev pub Same : Factoring → Factoring → Type 0
     Same x y = (x .answer ≡ y .answer) × (numberOf (y .answer) ≡ 0 → x ≡ y)
@@ -234,14 +234,14 @@ module _ (m n : ℕ) (a out : Column) (store : List ℕ) (none : factoringRefusa
     worked-alike e =
         let p = passed m (n + 1) (a ++ c) out' store' e in
         let lc : length c ≡ m = omega (arith, widened-long, more, sized m (n + 1) (a ++ c) (p .matrix) .size) in
-        let one = tested-none (addingRefusal r s c w) (leaving (slices s w)) (addingSettled r s w (addColumn m (olderFactors r s w) c)) (same-refusal ∙ e) in
+        let one = tested-none (addingRefusal s c w r) (leaving (slices s w)) (addingSettled s w r (addColumn m (olderFactors s w r) c)) (same-refusal ∙ e) in
         let two = tested-none refusal (leaving (slices out' store')) (settled m (n + 1) (eliminate m (columns m (n + 1) (a ++ c)))) e in
         rw (one, two, held z, afresh-is lc) (settle-alike lc (allFinite (column (g lc .columns) n)) refl (finite-is lc))
 
     refused-alike : (refusal ≡ 0 → ⊥) → Same added fresh
     unfolding adding factoring numberOf
     refused-alike h =
-        let one = tested-some (addingRefusal r s c w) (leaving (slices s w)) (addingSettled r s w (addColumn m (olderFactors r s w) c))
+        let one = tested-some (addingRefusal s c w r) (leaving (slices s w)) (addingSettled s w r (addColumn m (olderFactors s w r) c))
         (λ z. h (sym same-refusal ∙ z)) in
         let two = tested-some refusal (leaving (slices out' store')) (settled m (n + 1) (eliminate m (columns m (n + 1) (a ++ c)))) h in
         rw (one, two) (ap refused same-refusal, λ z. absurd (h z))
@@ -252,11 +252,11 @@ module _ (m n : ℕ) (a out : Column) (store : List ℕ) (none : factoringRefusa
 -- THEOREM. Adding a column to the factors of an accepted factoring answers what factoring the widened matrix afresh answers: the same refusal (1, 3, 5 or
 -- 7), or the same record, and then the same factors and swap store. For any column; what lies in the slot, and in the slices that factoring fills, does not
 -- matter.
-pub adding-afresh : (m n : ℕ) (a out : Column) (store : List ℕ) (told : Record) → factoring m n a out store .answer ≡ done told
+pub adding-afresh : (m n : ℕ) (a out : Column) (store : List ℕ) (told : Record) → factoring a m n out store .answer ≡ done told
     → (c z out' : Column) (store' : List ℕ) → length z ≡ m → length out' ≡ (n + 1) * m → length store' ≡ 128
-    → let o = factoring m n a out store in
-    let added = adding told (o .left .factors ++ z) c (o .left .store) in
-    let fresh = factoring m (n + 1) (a ++ c) out' store' in
+    → let o = factoring a m n out store in
+    let added = adding (o .left .factors ++ z) c (o .left .store) told in
+    let fresh = factoring (a ++ c) m (n + 1) out' store' in
     (added .answer ≡ fresh .answer) × (numberOf (fresh .answer) ≡ 0 → added ≡ fresh)
 adding-afresh m n a out store told e c z out' store' lz lo ls =
     let given = accepted-given m n a out store told e in

@@ -23,8 +23,8 @@ use Rattle.lu.proofs.Shape.{no-refusal, ok, accepted-is}
 use Rattle.elimination.proofs.Widen.{widened}
 
 -- ---- which slices factoring is to fill does not matter
-pub same-outcome : (m n : ℕ) (a out : Column) (store : List ℕ) → numberOf (factoring m n a out store .answer) ≡ 0 → (out' : Column) (store' : List ℕ)
-    → length out' ≡ n * m → length store' ≡ 128 → factoring m n a out' store' ≡ factoring m n a out store
+pub same-outcome : (m n : ℕ) (a out : Column) (store : List ℕ) → numberOf (factoring a m n out store .answer) ≡ 0 → (out' : Column) (store' : List ℕ)
+    → length out' ≡ n * m → length store' ≡ 128 → factoring a m n out' store' ≡ factoring a m n out store
 unfolding settled
 same-outcome m n a out store good out' store' lo ls =
     let none = no-refusal m n a out store good in

@@ -25,11 +25,11 @@ use Rattle.adding.specs.Adding.{addingRefusal, olderFactors, addingSettl
 
 -- refused with 7 exactly where the column that was made is not finite
 settled-seven : (r : Record) (s : Column) (store : List ℕ) (g : Factors)
-    → (addingSettled r s store g .answer ≡ refused 7) ↔ (allFinite (column (g .columns) (r .columns)) ≡ false)
+    → (addingSettled s store r g .answer ≡ refused 7) ↔ (allFinite (column (g .columns) (r .columns)) ≡ false)
 unfolding addingSettled
 settled-seven r s store g =
     let fine = allFinite (column (g .columns) (r .columns)) in (
-      test-cases {Q = addingSettled r s store g .answer ≡ refused 7 → fine ≡ false} fine
+      test-cases {Q = addingSettled s store r g .answer ≡ refused 7 → fine ≡ false} fine
           (λ t e. absurd (let z : _≡_ {A = ℕ} 0 1 = cc (rw t at e) in omega arith)) (λ t e. t),
       λ t. rw t,
     )
@@ -40,20 +40,20 @@ updated f c q = turnsFrom (update (f .columns)) 0 q (permute (f .swaps) c)
 
 -- THEOREM. Adding that passes its tests is refused with 7 exactly when the new column was not finite after some number of updates, or is not when it has its
 -- multipliers. (1 / infinity is 0, so an infinite pivot leaves finite multipliers below it; but it stays in the column itself.)
-pub adding-seven : (r : Record) (s c : Column) (store : List ℕ) → addingRefusal r s c store ≡ 0
+pub adding-seven : (r : Record) (s c : Column) (store : List ℕ) → addingRefusal s c store r ≡ 0
     → let m = r .rows in
     let n = r .columns in
-    let f = olderFactors r s store in
-    (adding r s c store .answer ≡ refused 7)
+    let f = olderFactors s store r in
+    (adding s c store r .answer ≡ refused 7)
     ↔ (((q : ℕ) × (q ≤ min m n) × (allFinite (updated f c q) ≡ false)) ⊎ (allFinite (column (addColumn m f c .columns) n) ≡ false))
 unfolding adding reduced
 adding-seven r s c store none-before =
     let m = r .rows in
     let n = r .columns in
-    let f = olderFactors r s store in
+    let f = olderFactors s store r in
     let g = addColumn m f c in
     let last = column (g .columns) n in
-    let is = ap (λ (o : Factoring). o .answer) (tested-none (addingRefusal r s c store) (leaving (slices s store)) (addingSettled r s store g) none-before) in
+    let is = ap (λ (o : Factoring). o .answer) (tested-none (addingRefusal s c store r) (leaving (slices s store)) (addingSettled s store r g) none-before) in
     let seven = settled-seven r s store g in
     let whole : allFinite last ≡ true → allFinite (updated f c (min m n)) ≡ true = rw (length-columns m n s) at (added-finite m f c) in
     let before : (q : ℕ) → q ≤ min m n → allFinite last ≡ true → allFinite (updated f c q) ≡ true = λ q h e.

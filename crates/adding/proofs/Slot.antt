@@ -84,7 +84,7 @@ older-swapped i p cs x =
     (rw (le-ltb (length cs) (length cs) (omega arith)))
 
 -- the same in a store u that has x in its slot, v being the store afterwards
-pub older-exchanged : (m n p : ℕ) (u v : Column) (cs : Matrix) (x : Column) → length cs ≡ n → isMatrix m (n + 1) u ≡ true → columns m (n + 1) u ≡ cs ++ x ∷ []
+pub older-exchanged : (m n p : ℕ) (u v : Column) (cs : Matrix) (x : Column) → length cs ≡ n → isMatrix u m (n + 1) ≡ true → columns m (n + 1) u ≡ cs ++ x ∷ []
     → v ≡ onColumns m (n + 1) (rowsSwapped n p 0 n) u → columns m (n + 1) v ≡ swapInAll n p cs ++ x ∷ []
 older-exchanged m n p u v cs x wide fits is swapped =
     let ds = columns m (n + 1) u in
@@ -96,15 +96,15 @@ older-exchanged m n p u v cs x wide fits is swapped =
     ∙ older-swapped n p cs x
 
 -- ---- the whole reduction, from what the calls give: the raw column copied to the slot, permuted there, and updated
-module _ (m n pairs : ℕ) (s c : Column) (store : List ℕ) (fits : isMatrix m (n + 1) s ≡ true) (lc : length c ≡ m)
-    (good : goodList m (min m n) pairs store ≡ true) where
+module _ (m n pairs : ℕ) (s c : Column) (store : List ℕ) (fits : isMatrix s m (n + 1) ≡ true) (lc : length c ≡ m)
+    (good : goodList store pairs m (min m n) ≡ true) where
   pub reduced-made : (c₁ c₂ u : Column)
       → let t = putMid (n * m) (n * m + m - n * m) s c₁ in
       length c₁ ≡ length (midOf (n * m) (n * m + m - n * m) s) → c₁ ≡ copied c (midOf (n * m) (n * m + m - n * m) s)
       → length c₂ ≡ length (midOf (n * m) (n * m + m - n * m) t)
       → c₂ ≡ onColumns m 1 (rowsPermuted (inOrder false (held pairs store))) (midOf (n * m) (n * m + m - n * m) t)
       → columns m (n + 1) u ≡ turnsFrom (updatedAt n) 0 (min m n) (columns m (n + 1) (putMid (n * m) (n * m + m - n * m) t c₂))
-      → columns m (n + 1) u ≡ columns m n s ++ reduced m (factorsIn m n pairs s store) c ∷ []
+      → columns m (n + 1) u ≡ columns m n s ++ reduced m (factorsIn s m n store pairs) c ∷ []
   unfolding reduced inOrder
   reduced-made c₁ c₂ u k₁ e₁ k₂ e₂ made =
       let cs = columns m n s in

@@ -18,9 +18,9 @@ use Rattle.lu.proofs.Shape.{size, shape}
 use Rattle.elimination.proofs.Tossing.{toss-widened}
 
 -- THEOREM. Those of the widened matrix are those of the matrix and the added column's own, z being in the slot behind the factors.
-pub toss-added : (m n : ℕ) (a out : Column) (store : List ℕ) (told : Record) → factoring m n a out store .answer ≡ done told → (c z : Column) → length c ≡ m
-    → let o = factoring m n a out store in
-    tossUps m (columns m (n + 1) (a ++ c)) ≡ tossUps m (columns m n a) + ownTossUp (told .rows) (olderFactors told (o .left .factors ++ z) (o .left .store)) c
+pub toss-added : (m n : ℕ) (a out : Column) (store : List ℕ) (told : Record) → factoring a m n out store .answer ≡ done told → (c z : Column) → length c ≡ m
+    → let o = factoring a m n out store in
+    tossUps m (columns m (n + 1) (a ++ c)) ≡ tossUps m (columns m n a) + ownTossUp (told .rows) (olderFactors (o .left .factors ++ z) (o .left .store) told) c
 toss-added m n a out store told e c z lc =
     let given = accepted-given m n a out store told e in
     let none = given .none in

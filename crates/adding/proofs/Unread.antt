@@ -24,18 +24,18 @@ pub record Unread (r : Record) (a b : Factoring) : Type 0 where
   pub pairs : SamePairs (recordAfter r (a .answer) .pairs) (a .left .store) (b .left .store)
 
 module _ (r : Record) (s c : Column) (a b : List ℕ) (alike : SamePairs (r .pairs) a b) where
-  refusal-unread : addingRefusal r s c a ≡ addingRefusal r s c b
+  refusal-unread : addingRefusal s c a r ≡ addingRefusal s c b r
   unfolding addingRefusal
-  refusal-unread = held-unread r a b alike (olderIn r s) (addingAsks r s c)
+  refusal-unread = held-unread r a b alike (olderIn s r) (addingAsks s c r)
 
-  factors-unread : olderFactors r s a ≡ olderFactors r s b
+  factors-unread : olderFactors s a r ≡ olderFactors s b r
   factors-unread = rw (swaps-unread r a b alike)
 
   leaving-unread : (number : ℕ) → Unread r (leaving (slices s a) number) (leaving (slices s b) number)
   unfolding recordAfter
   leaving-unread number = record { answer = refl; factors = refl; pairs = alike }
 
-  settled-unread : (g : Factors) → Unread r (addingSettled r s a g) (addingSettled r s b g)
+  settled-unread : (g : Factors) → Unread r (addingSettled s a r g) (addingSettled s b r g)
   unfolding addingSettled recordAfter
   settled-unread g =
       cond-both (Unread r) (allFinite (column (g .columns) (r .columns)))
@@ -43,25 +43,25 @@ module _ (r : Record) (s c : Column) (a b : List ℕ) (alike : SamePairs (r .pai
       (λ t. record { answer = refl; factors = refl; pairs = alike })
 
   -- THEOREM. Two swap stores that agree on their pairs give the same answer and the same factors, and agree on the pairs of the record that is left.
-  pub adding-unread : Unread r (adding r s c a) (adding r s c b)
+  pub adding-unread : Unread r (adding s c a r) (adding s c b r)
   unfolding adding tested
   adding-unread =
       rw (refusal-unread, factors-unread)
-      (cond-both (Unread r) (eqb (addingRefusal r s c b) 0)
-      (λ t. settled-unread (addColumn (r .rows) (olderFactors r s b) c)) (λ t. leaving-unread (addingRefusal r s c b)))
+      (cond-both (Unread r) (eqb (addingRefusal s c b r) 0)
+      (λ t. settled-unread (addColumn (r .rows) (olderFactors s b r) c)) (λ t. leaving-unread (addingRefusal s c b r)))
 
   -- the same with the column's own toss-up
-  pub answer-unread : addingAnswer r s c a ≡ addingAnswer r s c b
+  pub answer-unread : addingAnswer s c a r ≡ addingAnswer s c b r
   unfolding addingAnswer
   answer-unread = rw (factors-unread, adding-unread .answer)
 
 -- THEOREM. What follows the pairs of the record that is left stays as it was.
-pub adding-behind : (r : Record) (s c : Column) (store : List ℕ) (k : ℕ) → 2 * recordAfter r (adding r s c store .answer) .pairs ≤ k
-    → getD (adding r s c store .left .store) k 0 ≡ getD store k 0
+pub adding-behind : (r : Record) (s c : Column) (store : List ℕ) (k : ℕ) → 2 * recordAfter r (adding s c store r .answer) .pairs ≤ k
+    → getD (adding s c store r .left .store) k 0 ≡ getD store k 0
 unfolding adding addingSettled recordAfter
 adding-behind r s c store k =
-    let g = addColumn (r .rows) (olderFactors r s store) c in
-    tested-cases (addingRefusal r s c store) (leaving (slices s store)) (addingSettled r s store g)
+    let g = addColumn (r .rows) (olderFactors s store r) c in
+    tested-cases (addingRefusal s c store r) (leaving (slices s store)) (addingSettled s store r g)
     (λ o. 2 * recordAfter r (o .answer) .pairs ≤ k → getD (o .left .store) k 0 ≡ getD store k 0)
     (λ e. cond-cases (λ (o : Factoring). 2 * recordAfter r (o .answer) .pairs ≤ k → getD (o .left .store) k 0 ≡ getD store k 0)
     (allFinite (column (g .columns) (r .columns))) (λ t h. written-behind (g .swaps) store k h) (λ t h. refl))

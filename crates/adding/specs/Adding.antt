@@ -21,40 +21,40 @@ use Rattle.adding.specs.declared.Added.{Added}
 use Rattle.adding.specs.declared.Added.the-variants.{Accepted, Refused}
 
 -- what adding asks besides: "n of 64 gives 1"; the store has room for one column more, and the raw column has m entries; it is finite
-abbrev pub addingAsks : Record → Column → Column → Asks
-addingAsks r s c =
+abbrev pub addingAsks : Column → Column → Record → Asks
+addingAsks s c r =
     record {
       square = false;
       solves = false;
       sizes = leb (r .columns) 63;
-      lengths = isMatrix (r .rows) (r .columns + 1) s && eqb (length c) (r .rows);
+      lengths = isMatrix s (r .rows) (r .columns + 1) && eqb (length c) (r .rows);
       list = true;
       numbers = allFinite c;
     }
 
 -- the older columns; "not the slot that adding is to fill" is tested
-abbrev pub olderIn : Record → Column → Column
-olderIn r s = take (r .columns * r .rows) s
+abbrev pub olderIn : Column → Record → Column
+olderIn s r = take (r .columns * r .rows) s
 
 -- the refusal before the work, 0 for none
-unfoldable pub addingRefusal : Record → Column → Column → List ℕ → ℕ
-addingRefusal r s c store = heldRefusal (olderIn r s) store r (addingAsks r s c)
+unfoldable pub addingRefusal : Column → Column → List ℕ → Record → ℕ
+addingRefusal s c store r = heldRefusal (olderIn s r) store r (addingAsks s c r)
 
 -- the factors that the slices hold before
-abbrev pub olderFactors : Record → Column → List ℕ → Factors
-olderFactors r s store = factorsIn (r .rows) (r .columns) (r .pairs) s store
+abbrev pub olderFactors : Column → List ℕ → Record → Factors
+olderFactors s store r = factorsIn s (r .rows) (r .columns) store (r .pairs)
 
 -- refusal 7: "its slot +0.0, all else as it was"; the swap store has the pairs at its front, and "adding a column writes at most the next pair"
-unfoldable pub addingSettled : Record → Column → List ℕ → Factors → Factoring
-addingSettled r s store g =
+unfoldable pub addingSettled : Column → List ℕ → Record → Factors → Factoring
+addingSettled s store r g =
     cond (allFinite (column (g .columns) (r .columns)))
     (record { answer = done (recordFor (r .rows) (r .columns + 1) g); left = slices (flat (g .columns)) (written (g .swaps) store) })
-    (leaving (slices (olderIn r s ++ zeros (r .rows)) store) 7)
+    (leaving (slices (olderIn s r ++ zeros (r .rows)) store) 7)
 
 -- the whole call
-unfoldable pub adding : Record → Column → Column → List ℕ → Factoring
-adding r s c store =
-    tested (addingRefusal r s c store) (leaving (slices s store)) (addingSettled r s store (addColumn (r .rows) (olderFactors r s store) c))
+unfoldable pub adding : Column → Column → List ℕ → Record → Factoring
+adding s c store r =
+    tested (addingRefusal s c store r) (leaving (slices s store)) (addingSettled s store r (addColumn (r .rows) (olderFactors s store r) c))
 
 -- ---- the answer: the record with the column's own toss-up (document 02, request 3), or the refusal; and in either case the record that is left
 
@@ -67,5 +67,5 @@ unfoldable pub recordIn : Added → Record
 recordIn (Accepted told tossed) = told
 recordIn (Refused number told) = told
 
-unfoldable pub addingAnswer : Record → Column → Column → List ℕ → Outcome (Record × ℕ)
-addingAnswer r s c store = withTossUps (ownTossUp (r .rows) (olderFactors r s store) c) (adding r s c store .answer)
+unfoldable pub addingAnswer : Column → Column → List ℕ → Record → Outcome (Record × ℕ)
+addingAnswer s c store r = withTossUps (ownTossUp (r .rows) (olderFactors s store r) c) (adding s c store r .answer)

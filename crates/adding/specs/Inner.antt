@@ -17,31 +17,31 @@ use Rattle.adding.specs.Adding.{addingRefusal, adding, added, recordIn, 
 
 -- the call is not refused by its tests; so there is room for the column, which has m entries, its slot lies within the store, the list is good, and the
 -- record's dead columns are those of the factors
-pub record Ready (r : Record) (s c : Column) (store : List ℕ) : Type 0 where
-  pub none : addingRefusal r s c store ≡ 0
+pub record Ready (s c : Column) (store : List ℕ) (r : Record) : Type 0 where
+  pub none : addingRefusal s c store r ≡ 0
   pub few-rows : r .rows ≤ 64
   pub few : r .columns ≤ 63
-  pub room : isMatrix (r .rows) (r .columns + 1) s ≡ true
+  pub room : isMatrix s (r .rows) (r .columns + 1) ≡ true
   pub within : r .columns * r .rows + r .rows ≤ length s
   pub long : length c ≡ r .rows
   pub store-room : length store ≡ 128
-  pub list : goodList (r .rows) (min (r .rows) (r .columns)) (r .pairs) store ≡ true
+  pub list : goodList store (r .pairs) (r .rows) (min (r .rows) (r .columns)) ≡ true
   pub dead : r .dead ≡ deadIn (r .rows) (columns (r .rows) (r .columns) s)
   pub few-dead : r .dead ≤ 64
 
 -- the older columns, and the reduced column behind them
-unfoldable pub withReduced : ℕ → ℕ → ℕ → Column → Column → List ℕ → Matrix
-withReduced m n pairs s c store = columns m n s ++ reduced m (factorsIn m n pairs s store) c ∷ []
+unfoldable pub withReduced : Column → ℕ → ℕ → Column → List ℕ → ℕ → Matrix
+withReduced s m n c store pairs = columns m n s ++ reduced m (factorsIn s m n store pairs) c ∷ []
 
 -- rows n and p exchanged in the older columns, n being their number, and the swap recorded; `dead` columns are dead then
-pub record Joined (r : Record) (p dead : ℕ) (s : Column) (store : List ℕ) (new : Record) (s' : Column) (store' : List ℕ) : Type 0 where
-  pub told : new ≡ recordOf (r .rows) (r .columns + 1) (pairsWith (r .columns) p (r .pairs) store) dead
+pub record Joined (s : Column) (store : List ℕ) (r : Record) (p dead : ℕ) (new : Record) (s' : Column) (store' : List ℕ) : Type 0 where
+  pub told : new ≡ recordOf (r .rows) (r .columns + 1) (pairsWith store (r .pairs) (r .columns) p) dead
   pub rows : s' ≡ onColumns (r .rows) (r .columns + 1) (rowsSwapped (r .columns) p 0 (r .columns)) s
-  pub pairs : store' ≡ storeWith (r .columns) p (r .pairs) store
+  pub pairs : store' ≡ storeWith store (r .pairs) (r .columns) p
 
 -- the whole promise of adding
-pub record AddedTo (r : Record) (s c : Column) (store : List ℕ) (a : Added) (s' : Column) (store' : List ℕ) : Type 0 where
-  pub answer : added a ≡ addingAnswer r s c store
-  pub told : recordIn a ≡ recordAfter r (adding r s c store .answer)
-  pub factors : s' ≡ adding r s c store .left .factors
-  pub pairs : store' ≡ adding r s c store .left .store
+pub record AddedTo (s c : Column) (store : List ℕ) (r : Record) (a : Added) (s' : Column) (store' : List ℕ) : Type 0 where
+  pub answer : added a ≡ addingAnswer s c store r
+  pub told : recordIn a ≡ recordAfter r (adding s c store r .answer)
+  pub factors : s' ≡ adding s c store r .left .factors
+  pub pairs : store' ≡ adding s c store r .left .store

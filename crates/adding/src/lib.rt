@@ -22,7 +22,7 @@ pub enum Added {
 
 // Whether s holds n columns of m entries and room for one more.
 fn has_room(s: &[f64], m: usize, n: usize) -> bool
-    ensures { λ r. ⌜ r ≡ isMatrix m (n + 1) (now (s .entry)) ⌝ }
+    ensures { λ r. ⌜ r ≡ isMatrix (now (s .entry)) m (n + 1) ⌝ }
 {
     if 63 < n {
         return false;
@@ -32,7 +32,7 @@ fn has_room(s: &[f64], m: usize, n: usize) -> bool
 
 // How many numbers stand before the slot of a store that has one; else 0.
 fn older(s: &[f64], m: usize, n: usize, room: bool) -> usize
-    requires { ⌜ room ≡ isMatrix m (n + 1) (now s) ⌝ }
+    requires { ⌜ room ≡ isMatrix (now s) m (n + 1) ⌝ }
     ensures { λ r. ⌜ (r ≡ cond room (n * m) 0) × (r ≤ length (now (s .entry))) ⌝ }
 {
     if room {
@@ -43,7 +43,7 @@ fn older(s: &[f64], m: usize, n: usize, room: bool) -> usize
 
 // The number of the refusal before the work, 0 for none.
 fn adding_refusal(s: &[f64], c: &[f64], swaps: &[usize], told: Record) -> usize
-    ensures { λ r. ⌜ r ≡ addingRefusal told (now (s .entry)) (now (c .entry)) (now (swaps .entry)) ⌝ }
+    ensures { λ r. ⌜ r ≡ addingRefusal (now (s .entry)) (now (c .entry)) (now (swaps .entry)) told ⌝ }
 {
     let m = told.rows;
     let n = told.columns;
@@ -62,9 +62,9 @@ fn adding_refusal(s: &[f64], c: &[f64], swaps: &[usize], told: Record) -> usize
 
 // The raw column c in the slot behind the n columns: permuted by the list, then updated by the older columns.
 fn reduce_column(s: &mut [f64], m: usize, n: usize, c: &[f64], swaps: &[usize], pairs: usize)
-    requires { ⌜ (isMatrix m (n + 1) (now s) ≡ true) × (length (now c) ≡ m) × (goodList m (min m n) pairs (now swaps) ≡ true) ⌝ }
+    requires { ⌜ (isMatrix (now s) m (n + 1) ≡ true) × (length (now c) ≡ m) × (goodList (now swaps) pairs m (min m n) ≡ true) ⌝ }
     requires { ⌜ n * m + m ≤ length (now s) ⌝ }
-    ensures { λ _. ⌜ columns m (n + 1) (now (s .exit)) ≡ withReduced m n pairs (now (s .entry)) (now (c .entry)) (now (swaps .entry)) ⌝ }
+    ensures { λ _. ⌜ columns m (n + 1) (now (s .exit)) ≡ withReduced (now (s .entry)) m n (now (c .entry)) (now (swaps .entry)) pairs ⌝ }
 {
     let a = n * m;
     let e = a + m;
@@ -104,7 +104,7 @@ fn own_step(col: &mut [f64], n: usize) -> FoundPivot
 // dead columns.
 fn join(s: &mut [f64], swaps: &mut [usize], told: Record, piv: usize, dead: usize) -> Record
     requires { ⌜ told .columns ≤ 63 ⌝ }
-    ensures { λ r. ⌜ Joined told piv dead (now (s .entry)) (now (swaps .entry)) r (now (s .exit)) (now (swaps .exit)) ⌝ }
+    ensures { λ r. ⌜ Joined (now (s .entry)) (now (swaps .entry)) told piv dead r (now (s .exit)) (now (swaps .exit)) ⌝ }
 {
     let m = told.rows;
     let n = told.columns;
@@ -121,8 +121,8 @@ fn join(s: &mut [f64], swaps: &mut [usize], told: Record, piv: usize, dead: usiz
 
 // Adds the raw column, past the tests.
 fn add_tested(s: &mut [f64], c: &[f64], swaps: &mut [usize], told: Record) -> Added
-    requires { ⌜ Ready told (now s) (now c) (now swaps) ⌝ }
-    ensures { λ r. ⌜ AddedTo told (now (s .entry)) (now (c .entry)) (now (swaps .entry)) r (now (s .exit)) (now (swaps .exit)) ⌝ }
+    requires { ⌜ Ready (now s) (now c) (now swaps) told ⌝ }
+    ensures { λ r. ⌜ AddedTo (now (s .entry)) (now (c .entry)) (now (swaps .entry)) told r (now (s .exit)) (now (swaps .exit)) ⌝ }
 {
     let m = told.rows;
     let n = told.columns;
@@ -146,10 +146,10 @@ fn add_tested(s: &mut [f64], c: &[f64], swaps: &mut [usize], told: Record) -> Ad
 
 // Adds the raw column c to the factors in s, which has room for it behind its columns.
 pub fn add_column(s: &mut [f64], c: &[f64], swaps: &mut [usize], told: Record) -> Added
-    ensures { λ r. ⌜ added r ≡ addingAnswer told (now (s .entry)) (now (c .entry)) (now (swaps .entry)) ⌝ }
-    ensures { λ r. ⌜ recordIn r ≡ recordAfter told (adding told (now (s .entry)) (now (c .entry)) (now (swaps .entry)) .answer) ⌝ }
-    ensures { λ _. ⌜ now (s .exit) ≡ adding told (now (s .entry)) (now (c .entry)) (now (swaps .entry)) .left .factors ⌝ }
-    ensures { λ _. ⌜ now (swaps .exit) ≡ adding told (now (s .entry)) (now (c .entry)) (now (swaps .entry)) .left .store ⌝ }
+    ensures { λ r. ⌜ added r ≡ addingAnswer (now (s .entry)) (now (c .entry)) (now (swaps .entry)) told ⌝ }
+    ensures { λ r. ⌜ recordIn r ≡ recordAfter told (adding (now (s .entry)) (now (c .entry)) (now (swaps .entry)) told .answer) ⌝ }
+    ensures { λ _. ⌜ now (s .exit) ≡ adding (now (s .entry)) (now (c .entry)) (now (swaps .entry)) told .left .factors ⌝ }
+    ensures { λ _. ⌜ now (swaps .exit) ≡ adding (now (s .entry)) (now (c .entry)) (now (swaps .entry)) told .left .store ⌝ }
 {
     let number = adding_refusal(s, c, swaps, told);
     if number != 0 {

@@ -1,5 +1,5 @@
--- The least magnitude on a diagonal: each turn as the loop makes it; it is no NaN; and it is the magnitude of one of the diagonal's numbers, none being smaller.
--- By the turns. Assumes nothing.
+-- The least magnitude on a diagonal: each turn as the loop makes it; it is no NaN; and it is the magnitude of one of the diagonal's numbers, none being
+-- smaller. By the turns. Assumes nothing.
 use mathlib.Core.Path.{_≡_, refl, sym, ap, _∙_}
 use mathlib.Core.Bool.{true, false, not, cond, false≢true, true≢false}
 use Prim.Native.Nat.{ℕ, zero, suc, _+_, _≤_, _<_}

@@ -34,5 +34,5 @@ unfoldable pub bandOf : ℕ → ℕ
 bandOf e = cond (leb e 0) 0 (cond (leb e 511) 1 (cond (leb e 1022) 2 (cond (leb e 1534) 3 (cond (leb e 2046) 4 5))))
 
 -- the band of the n by n factors that t holds; none where it holds no such factors
-unfoldable pub bandOn : ℕ → Column → ℕ
-bandOn n t = cond (isMatrix n n t) (bandOf (biased (leastOnDiagonal n (columns n n t)))) 5
+unfoldable pub bandOn : Column → ℕ → ℕ
+bandOn t n = cond (isMatrix t n n) (bandOf (biased (leastOnDiagonal n (columns n n t)))) 5

@@ -8,7 +8,7 @@ ghost use Rattle.bands.specs.Bands.{leastOnDiagonal, biased, bandOf, ban
 
 // The least magnitude on the diagonal of n by n factors; an infinity where they have no number.
 fn least_on_diagonal(t: &[f64], n: usize) -> f64
-    requires { ⌜ isMatrix n n (now t) ≡ true ⌝ }
+    requires { ⌜ isMatrix (now t) n n ≡ true ⌝ }
     ensures { λ r. ⌜ r ≡ leastOnDiagonal n (columns n n (now (t .entry))) ⌝ }
 {
     let mut least = f64::from_bits(0x7ff0_0000_0000_0000);
@@ -50,7 +50,7 @@ fn band_of(exponent: u64) -> usize
 // The band of the n by n factors t, from 0, by the least magnitude on their diagonal; 5, which is no band, where t holds no such factors or none of these
 // numbers is finite.
 pub fn band(t: &[f64], n: usize) -> usize
-    ensures { λ r. ⌜ r ≡ bandOn n (now (t .entry)) ⌝ }
+    ensures { λ r. ⌜ r ≡ bandOn (now (t .entry)) n ⌝ }
 {
     if store::is_matrix(t, n, n) {
         band_of(exponent(least_on_diagonal(t, n)))

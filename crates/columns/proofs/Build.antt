@@ -39,7 +39,7 @@ use Rattle.columns.specs.Inner.{AllAdded}
 
 -- the outcome of factoring the first k columns of the m by n matrix in the slice a, from stores of zeros
 abbrev pub outcomeAt : ℕ → ℕ → Column → Factoring
-outcomeAt m k a = factoring m k (take (k * m) a) (zeros (k * m)) (replicate 128 0)
+outcomeAt m k a = factoring (take (k * m) a) m k (zeros (k * m)) (replicate 128 0)
 
 -- the outcome for k + 1 columns was reached: the record x, the factors at the front of s, the swap store, and own toss-ups more than for k columns
 pub record Grown (m k : ℕ) (a : Column) (x : Record) (own : ℕ) (s : Column) (store : List ℕ) : Type 0 where
@@ -60,7 +60,7 @@ pub record Building (m n : ℕ) (a out₀ : Column) (store₀ : List ℕ) (out :
   pub counted : tossed ≡ tossUps m (columns m k (take (k * m) a))
   pub few : tossed ≤ k
 
-module _ (m n : ℕ) (a out : Column) (store : List ℕ) (none : factoringRefusal m n a out store ≡ 0) where
+module _ (m n : ℕ) (a out : Column) (store : List ℕ) (none : factoringRefusal a m n out store ≡ 0) where
   abbrev p : Passed m n a out store
   p = passed m n a out store none
 
@@ -80,7 +80,7 @@ module _ (m n : ℕ) (a out : Column) (store : List ℕ) (none : factoringRefusa
         and-first (allFinite (take (k * m) a)) (allFinite (drop (k * m) a))
         (sym (finite-append (take (k * m) a) (drop (k * m) a)) ∙ ap allFinite (take-append-drop (k * m) a) ∙ p .numbers)
 
-    pub front-none : factoringRefusal m k (take (k * m) a) (zeros (k * m)) (replicate 128 0) ≡ 0
+    pub front-none : factoringRefusal (take (k * m) a) m k (zeros (k * m)) (replicate 128 0) ≡ 0
     front-none =
         let rows = p .rows .at-most in
         let cols : k ≤ 64 = omega (arith, p .cols .at-most) in
@@ -107,7 +107,7 @@ module _ (m n : ℕ) (a out : Column) (store : List ℕ) (none : factoringRefusa
         (ap (λ (b : Matrix). allFinite (flat (eliminate m b .columns))) (sym all) ∙ fin)
 
     -- THEOREM. Every front of an accepted matrix is accepted.
-    pub front-accepted : numberOf (factoring m n a out store .answer) ≡ 0 → numberOf (outcomeAt m k a .answer) ≡ 0
+    pub front-accepted : numberOf (factoring a m n out store .answer) ≡ 0 → numberOf (outcomeAt m k a .answer) ≡ 0
     front-accepted e =
         settled-number m k (take (k * m) a) (zeros (k * m)) (replicate 128 0) front-none
         ∙ ap (λ (t : Bool). cond t 0 7) (whole-front (accepted-is m n a out store none e .1))
@@ -161,7 +161,7 @@ module _ (m n : ℕ) (a out : Column) (store : List ℕ) (none : factoringRefusa
 
     -- THEOREM. Adding the next column to the outcome for k columns answers what factoring k + 1 columns answers, and where that is accepted leaves the same.
     pub next-built : let o = outcomeAt m k a in
-        let added = adding x (o .left .factors ++ z) next (o .left .store) in
+        let added = adding (o .left .factors ++ z) next (o .left .store) x in
         (added .answer ≡ outcomeAt m (k + 1) a .answer) × (numberOf (outcomeAt m (k + 1) a .answer) ≡ 0 → added ≡ outcomeAt m (k + 1) a)
     next-built =
         rw grown
@@ -172,9 +172,9 @@ module _ (m n : ℕ) (a out : Column) (store : List ℕ) (none : factoringRefusa
     module _ (s : Column) (store' : List ℕ) (t : Column) (store'' : List ℕ) (answer : Added) (room : k * m + m ≤ length s)
         (front-is : take (k * m) s ≡ outcomeAt m k a .left .factors) (store-is : store' ≡ outcomeAt m k a .left .store)
         (z-is : z ≡ take m (drop (k * m) s))
-        (called : added answer ≡ addingAnswer x (take (k * m + m) s) (take (k * m + m - k * m) (drop (k * m) a)) store')
-        (t-is : t ≡ adding x (take (k * m + m) s) (take (k * m + m - k * m) (drop (k * m) a)) store' .left .factors)
-        (store''-is : store'' ≡ adding x (take (k * m + m) s) (take (k * m + m - k * m) (drop (k * m) a)) store' .left .store) where
+        (called : added answer ≡ addingAnswer (take (k * m + m) s) (take (k * m + m - k * m) (drop (k * m) a)) store' x)
+        (t-is : t ≡ adding (take (k * m + m) s) (take (k * m + m - k * m) (drop (k * m) a)) store' x .left .factors)
+        (store''-is : store'' ≡ adding (take (k * m + m) s) (take (k * m + m - k * m) (drop (k * m) a)) store' x .left .store) where
       abbrev o : Factoring
       o = outcomeAt m k a
 
@@ -185,11 +185,11 @@ module _ (m n : ℕ) (a out : Column) (store : List ℕ) (none : factoringRefusa
       part-is = take-add (k * m) m s ∙ ap₂ (λ (x y : Column). x ++ y) front-is (sym z-is)
 
       -- the call, on the outcome for k columns
-      same : adding x (take (k * m + m) s) (take (k * m + m - k * m) (drop (k * m) a)) store' ≡ adding x whole next (o .left .store)
-      same = λ i. adding x (part-is i) (take (add-sub-cancel-left (k * m) m i) (drop (k * m) a)) (store-is i)
+      same : adding (take (k * m + m) s) (take (k * m + m - k * m) (drop (k * m) a)) store' x ≡ adding whole next (o .left .store) x
+      same = λ i. adding (part-is i) (take (add-sub-cancel-left (k * m) m i) (drop (k * m) a)) (store-is i) x
 
-      answer-is : added answer ≡ addingAnswer x whole next (o .left .store)
-      answer-is = called ∙ (λ i. addingAnswer x (part-is i) (take (add-sub-cancel-left (k * m) m i) (drop (k * m) a)) (store-is i))
+      answer-is : added answer ≡ addingAnswer whole next (o .left .store) x
+      answer-is = called ∙ (λ i. addingAnswer (part-is i) (take (add-sub-cancel-left (k * m) m i) (drop (k * m) a)) (store-is i) x)
 
       -- the call answered a record: the outcome for one column more, and its toss-ups
       pub went-on : (y : Record) (own : ℕ) → answer ≡ Accepted y own → Grown m k a y own (t ++ drop (k * m + m) s) store''
@@ -224,14 +224,14 @@ module _ (m n : ℕ) (a out : Column) (store : List ℕ) (none : factoringRefusa
           apart q = let d : _≡_ {A = ℕ} 0 1 = cc in omega arith
 
 -- ---- the two ends
-module _ (m n : ℕ) (a out : Column) (store : List ℕ) (none : factoringRefusal m n a out store ≡ 0) where
+module _ (m n : ℕ) (a out : Column) (store : List ℕ) (none : factoringRefusal a m n out store ≡ 0) where
   whole-a : take (n * m) a ≡ a
   whole-a = take-all (n * m) a (omega (arith, sized m n a (passed m n a out store none .matrix) .size))
 
   -- all columns were added
   pub all-added : (s : Column) (store' : List ℕ) (r : Record) (tossed : ℕ) → tossed ≡ tossUps m (columns m n (take (n * m) a)) → length s ≡ n * m
       → outcomeAt m n a .answer ≡ done r → take (n * m) s ≡ outcomeAt m n a .left .factors → store' ≡ outcomeAt m n a .left .store
-      → AllAdded m n a (Done r tossed) s store'
+      → AllAdded a m n (Done r tossed) s store'
   unfolding settled factored withTossUps andThen
   all-added s store' r tossed counted len good s-is store-is =
       let given = accepted-given m n (take (n * m) a) (zeros (n * m)) (replicate 128 0) r good in
@@ -247,18 +247,18 @@ module _ (m n : ℕ) (a out : Column) (store : List ℕ) (none : factoringRefusa
       }
 
   -- some column was not
-  pub not-added : (s : Column) (store' : List ℕ) → allFinite (flat (factorsOf m n a .columns)) ≡ false → AllAdded m n a (Seventh 7) s store'
+  pub not-added : (s : Column) (store' : List ℕ) → allFinite (flat (factorsOf m n a .columns)) ≡ false → AllAdded a m n (Seventh 7) s store'
   unfolding settled factored withTossUps andThen
   not-added s store' bad = record { answer = rw bad refl; held = λ fin. absurd (false≢true (sym bad ∙ fin)) }
 
   -- ---- the promise of building up, which is that of factoring
 
   -- the store counts by its length alone
-  pub cleared-refusal : (store' : List ℕ) → length store' ≡ length store → factoringRefusal m n a out store' ≡ 0
+  pub cleared-refusal : (store' : List ℕ) → length store' ≡ length store → factoringRefusal a m n out store' ≡ 0
   unfolding factoringRefusal
   cleared-refusal store' len = rw len none
 
-  module _ (r : Factored) (s : Column) (store' : List ℕ) (built : AllAdded m n a r s store') where
+  module _ (r : Factored) (s : Column) (store' : List ℕ) (built : AllAdded a m n r s store') where
     -- the answer is a refusal: it is 7, and zeros are left
     pub built-seven : (number : ℕ) → r ≡ Seventh number → (zeroed : Column) (cleared : List ℕ) → length s ≡ n * m → zeroed ≡ zeros (length s)
         → cleared ≡ replicate (length store') 0 → length store' ≡ 128 → Promise m n a out store r zeroed cleared

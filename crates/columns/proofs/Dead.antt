@@ -1,5 +1,5 @@
--- The number of dead columns stays true (document 02, request 7): after an accepted adding or removing it is that of the factors that were left, for any factors
--- that pass the tests, not only for those that factoring gave. By what the calls make. Assumes nothing.
+-- The number of dead columns stays true (document 02, request 7): after an accepted adding or removing it is that of the factors that were left, for any
+-- factors that pass the tests, not only for those that factoring gave. By what the calls make. Assumes nothing.
 use mathlib.Core.Path.{_≡_, refl, sym, ap, _∙_}
 use mathlib.Core.Bool.{true, false, cond}
 use mathlib.Core.List.{List, [], _∷_, _++_}
@@ -30,7 +30,7 @@ use Rattle.columns.specs.Inner.{Ready}
 use Rattle.columns.proofs.Removes.{ready, worked, size, older}
 
 -- ---- one column more
-module _ (r : Record) (s c : Column) (store : List ℕ) (next : Record) (e : adding r s c store .answer ≡ done next) where
+module _ (r : Record) (s c : Column) (store : List ℕ) (next : Record) (e : adding s c store r .answer ≡ done next) where
   abbrev m : ℕ
   m = r .rows
 
@@ -38,14 +38,14 @@ module _ (r : Record) (s c : Column) (store : List ℕ) (next : Record) (e : add
   n = r .columns
 
   abbrev x : Column
-  x = reduced m (olderFactors r s store) c
+  x = reduced m (olderFactors s store r) c
 
   -- the older columns with their two rows exchanged
   abbrev exchanged : Matrix
   exchanged = swapInAll n (ownRow n x) (columns m n s)
 
   -- what is left, by its columns
-  left-columns : columns m (n + 1) (adding r s c store .left .factors) ≡ exchanged ++ ownColumn n x ∷ []
+  left-columns : columns m (n + 1) (adding s c store r .left .factors) ≡ exchanged ++ ownColumn n x ∷ []
   unfolding numberOf
   left-columns =
       let go = ready-to-add r s c store (no-refusal r s c store (ap numberOf e)) in
@@ -53,24 +53,24 @@ module _ (r : Record) (s c : Column) (store : List ℕ) (next : Record) (e : add
       let wide : length exchanged ≡ n = length-swapInAll n (ownRow n x) (columns m n s) ∙ length-columns m n s in
       let long : length (flat exchanged) ≡ n * m = length-flat m exchanged rows ∙ ap (λ (k : ℕ). k * m) wide in
       ap (columns m (n + 1)) (adding-changes r s c store (ap numberOf e) .0)
-      ∙ columns-snoc m n (flat exchanged) (ownColumn n x) long (length-own n x ∙ length-reduced m (olderFactors r s store) c ∙ go .long)
+      ∙ columns-snoc m n (flat exchanged) (ownColumn n x) long (length-own n x ∙ length-reduced m (olderFactors s store r) c ∙ go .long)
       ∙ ap (λ (cs : Matrix). cs ++ ownColumn n x ∷ []) (ap (λ (k : ℕ). columns m k (flat exchanged)) (sym wide) ∙ columns-flat m exchanged rows)
 
   -- THEOREM. An accepted adding tells how many columns of the factors that it leaves are dead.
-  pub adding-matches : next .dead ≡ deadIn m (columns m (n + 1) (adding r s c store .left .factors))
+  pub adding-matches : next .dead ≡ deadIn m (columns m (n + 1) (adding s c store r .left .factors))
   unfolding addingSettled numberOf
   adding-matches =
       let go = ready-to-add r s c store (no-refusal r s c store (ap numberOf e)) in
-      let w : adding r s c store ≡ addingSettled r s store (joined n (ownRow n x) (olderFactors r s store) (ownColumn n x)) = worked-adding r s c store go in
+      let w : adding s c store r ≡ addingSettled s store r (joined n (ownRow n x) (olderFactors s store r) (ownColumn n x)) = worked-adding r s c store go in
       let given = ap (λ (o : Factoring). o .answer) (sym w) ∙ e in
       test-cases (allFinite (column (exchanged ++ ownColumn n x ∷ []) n))
       (λ t. ap (λ (q : Record). q .dead) (sym (done-same _ next (rw t at given))) ∙ ap (deadIn m) (sym left-columns))
       (λ t. never-both next 7 (sym (rw t at given)))
 
 -- ---- one column less
-module _ (r : Record) (s : Column) (store : List ℕ) (next : Record) (e : removing r s store .answer ≡ done next) where
+module _ (r : Record) (s : Column) (store : List ℕ) (next : Record) (e : removing s store r .answer ≡ done next) where
   abbrev f : Factors
-  f = factorsIn (r .rows) (r .columns) (r .pairs) s store
+  f = factorsIn s (r .rows) (r .columns) store (r .pairs)
 
   abbrev last : ℕ
   last = r .columns - 1
@@ -78,9 +78,9 @@ module _ (r : Record) (s : Column) (store : List ℕ) (next : Record) (e : remov
   abbrev g : Factors
   g = removeColumn last f
 
-  go : Ready r s store
+  go : Ready s store r
   unfolding numberOf removing
-  go = ready r s store (none-given (removingRefusal r s store) (slices s store) (removingMade r store f) (ap numberOf e))
+  go = ready r s store (none-given (removingRefusal s store r) (slices s store) (removingMade store r f) (ap numberOf e))
 
   -- the columns that remain have m rows each
   remaining : HasRows (r .rows) (g .columns) × (length (g .columns) ≡ last)
@@ -95,14 +95,14 @@ module _ (r : Record) (s : Column) (store : List ℕ) (next : Record) (e : remov
       (λ t. (rows-swapInAll last (r .rows) q cs rows, length-swapInAll last q cs ∙ wide)) (λ t. (rows, wide))
 
   -- THEOREM. An accepted removing tells how many columns of those that remain are dead.
-  pub removing-matches : next .dead ≡ deadIn (r .rows) (columns (r .rows) (r .columns - 1) (removing r s store .left .factors))
+  pub removing-matches : next .dead ≡ deadIn (r .rows) (columns (r .rows) (r .columns - 1) (removing s store r .left .factors))
   unfolding removingMade
   removing-matches =
       let m = r .rows in
       let w = worked r s store go in
       let told = done-same (recordFor m last g) next (ap (λ (o : Factoring). o .answer) (sym w) ∙ e) in
       let long : length (flat (g .columns)) ≡ last * m = length-flat m (g .columns) (remaining .0) ∙ ap (λ (k : ℕ). k * m) (remaining .1) in
-      let left : columns m last (removing r s store .left .factors) ≡ g .columns =
+      let left : columns m last (removing s store r .left .factors) ≡ g .columns =
       ap (λ (o : Factoring). columns m last (o .left .factors)) w
       ∙ columns-front m last (flat (g .columns)) (zeros m) long
       ∙ ap (λ (k : ℕ). columns m k (flat (g .columns))) (sym (remaining .1))

@@ -32,7 +32,7 @@ use Rattle.adding.proofs.Slot.{slot-columns, slot-lent, slot-part, older-exchan
 use Rattle.columns.proofs.Undone.{second-at}
 
 -- ---- what is asked of the list does not matter where the list is not good
-list-unread : (s : Column) (store : List ℕ) (r : Record) (b c : Bool) → goodList (r .rows) (min (r .rows) (r .columns)) (r .pairs) store ≡ false
+list-unread : (s : Column) (store : List ℕ) (r : Record) (b c : Bool) → goodList store (r .pairs) (r .rows) (min (r .rows) (r .columns)) ≡ false
     → heldRefusal s store r (removingAsks r b) ≡ heldRefusal s store r (removingAsks r c)
 unfolding heldRefusal firstOf
 list-unread s store r b c t = rw t
@@ -73,17 +73,17 @@ module _ (r : Record) (s : Column) (store : List ℕ) where
   swaps = pairsOf (r .pairs) store
 
   -- from what was found of the list: where it is not good, no more of it is looked at
-  pub refusal-found : (list : Bool) (number : ℕ) → RemovableIf r store list → number ≡ heldRefusal s store r (removingAsks r list)
-      → number ≡ removingRefusal r s store
+  pub refusal-found : (list : Bool) (number : ℕ) → RemovableIf store r list → number ≡ heldRefusal s store r (removingAsks r list)
+      → number ≡ removingRefusal s store r
   unfolding removingRefusal
   refusal-found list number found e =
       e
-      ∙ test-cases (goodList m (min m (r .columns)) (r .pairs) store)
+      ∙ test-cases (goodList store (r .pairs) m (min m (r .columns)))
       (λ t. ap (λ (b : Bool). heldRefusal s store r (removingAsks r b)) (found .good t))
       (λ t. list-unread s store r list (goodUndoing m n swaps) t)
 
   -- past the tests
-  pub ready : removingRefusal r s store ≡ 0 → Ready r s store
+  pub ready : removingRefusal s store r ≡ 0 → Ready s store r
   unfolding removingRefusal
   ready e =
       let p = passed s store r (removingAsks r (goodUndoing m n swaps)) e in
@@ -102,15 +102,15 @@ module _ (r : Record) (s : Column) (store : List ℕ) where
         dead = p .dead;
       }
 
-  pub refused-by : (number : ℕ) → number ≡ removingRefusal r s store → (number ≡ 0 → ⊥) → RemovedFrom r s store (Refused number r) s store
+  pub refused-by : (number : ℕ) → number ≡ removingRefusal s store r → (number ≡ 0 → ⊥) → RemovedFrom s store r (Refused number r) s store
   unfolding removing removed recordIn recordAfter
   refused-by number e ne =
-      let made = removingMade r store (factorsIn m (r .columns) (r .pairs) s store) in
-      let w = tested-some (removingRefusal r s store) (leaving (slices s store)) made (λ z. ne (e ∙ z)) in
+      let made = removingMade store r (factorsIn s m (r .columns) store (r .pairs)) in
+      let w = tested-some (removingRefusal s store r) (leaving (slices s store)) made (λ z. ne (e ∙ z)) in
       record { answer = rw w (ap refused e); told = rw w refl; factors = rw w refl; pairs = rw w refl }
 
-  module _ (go : Ready r s store) where
-    pub worked : removing r s store ≡ removingMade r store (factorsIn m (r .columns) (r .pairs) s store)
+  module _ (go : Ready s store r) where
+    pub worked : removing s store r ≡ removingMade store r (factorsIn s m (r .columns) store (r .pairs))
     unfolding removing
     worked = tested-none _ _ _ (go .none)
 
@@ -170,7 +170,7 @@ module _ (r : Record) (s : Column) (store : List ℕ) where
 
       -- no pair goes
       pub promise-kept : (dead : ℕ) → dead ≡ deadIn m (columns m n s) → undoes n swaps ≡ false
-          → RemovedFrom r s store (Accepted (recordOf m n (r .pairs) dead)) t store
+          → RemovedFrom s store r (Accepted (recordOf m n (r .pairs) dead)) t store
       unfolding removingMade removeColumn pairsBefore erased removed recordIn recordAfter
       promise-kept dead left u =
           let count = length-pairs (r .pairs) store in
@@ -187,7 +187,7 @@ module _ (r : Record) (s : Column) (store : List ℕ) where
           → length v ≡ length t
           → v ≡ onColumns m (n + 1) (rowsSwapped n (getD store (2 * r .pairs - 1) 0) 0 n) t
           → store' ≡ set (set store (2 * r .pairs - 2) 0) (2 * r .pairs - 1) 0
-          → RemovedFrom r s store (Accepted (recordOf m n (r .pairs - 1) dead)) v store'
+          → RemovedFrom s store r (Accepted (recordOf m n (r .pairs - 1) dead)) v store'
       unfolding removingMade removeColumn pairsBefore erased removed recordIn recordAfter withPair
       promise-undone dead v store' left some u kv swapped wrote =
           let p = getD store (2 * r .pairs - 1) 0 in
@@ -196,7 +196,7 @@ module _ (r : Record) (s : Column) (store : List ℕ) where
           let row : p ≡ lastPair swaps .1 = sym (second-at (r .pairs) store some) in
           let first : 2 * r .pairs - 2 ≡ 2 * (length swaps - 1) = omega (arith, length-pairs (r .pairs) store) in
           let second : 2 * r .pairs - 1 ≡ 2 * (length swaps - 1) + 1 = omega (arith, length-pairs (r .pairs) store) in
-          let fits = same-matrix m (n + 1) s t long ∙ ap (λ (k : ℕ). isMatrix m k s) (sym one-more) ∙ go .matrix in
+          let fits = same-matrix m (n + 1) s t long ∙ ap (λ (k : ℕ). isMatrix s m k) (sym one-more) ∙ go .matrix in
           let columns-are : columns m (n + 1) v ≡ swapInAll n p (columns m n s) ++ zeros m ∷ [] =
           older-exchanged m n p t v (columns m n s) (zeros m) wide fits behind swapped in
           let whole = made-of v (swapInAll n p (columns m n s)) (kv ∙ long) columns-are ∙ (λ i. flat (swapInAll n (row i) (sym older i)) ++ zeros m) in

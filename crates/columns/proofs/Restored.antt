@@ -49,11 +49,11 @@ slotOff m n o = record { answer = o .answer; left = slices (take (n * m) (o .lef
 slot-off : (m n : ℕ) (o : Factoring) → length (o .left .factors) ≡ n * m → slotOff m n (slotted m o) ≡ o
 slot-off m n o len = λ i. record { answer = o .answer; left = slices (take-at (o .left .factors) (zeros m) (n * m) len i) (o .left .store) }
 
-module _ (m n : ℕ) (a out : Column) (store : List ℕ) (told : Record) (good : factoring m (n + 1) a out store .answer ≡ done told) where
+module _ (m n : ℕ) (a out : Column) (store : List ℕ) (told : Record) (good : factoring a m (n + 1) out store .answer ≡ done told) where
   abbrev given : Given m (n + 1) a out store told
   given = accepted-given m (n + 1) a out store told good
 
-  abbrev none : factoringRefusal m (n + 1) a out store ≡ 0
+  abbrev none : factoringRefusal a m (n + 1) out store ≡ 0
   none = given .none
 
   its : Passed m (n + 1) a out store
@@ -78,7 +78,7 @@ module _ (m n : ℕ) (a out : Column) (store : List ℕ) (told : Record) (good :
   abbrev x : Column
   x = reduced m f last
 
-  fits : factoringRefusal m n front (zeros (n * m)) (replicate 128 0) ≡ 0
+  fits : factoringRefusal front m n (zeros (n * m)) (replicate 128 0) ≡ 0
   fits = front-none m (n + 1) a out store none n within
 
   long : length front ≡ n * m
@@ -134,7 +134,7 @@ module _ (m n : ℕ) (a out : Column) (store : List ℕ) (told : Record) (good :
   held-columns : columns m (n + 1) s ≡ g .columns
   held-columns = ap (λ (k : ℕ). columns m k s) (sym (wide m (n + 1) a out store none)) ∙ columns-flat m (g .columns) (shape-f m (n + 1) a out store none)
 
-  passes-tests : removingRefusal r s w ≡ 0
+  passes-tests : removingRefusal s w r ≡ 0
   unfolding removingRefusal
   passes-tests =
       let rows = its .rows in
@@ -156,10 +156,10 @@ module _ (m n : ℕ) (a out : Column) (store : List ℕ) (told : Record) (good :
         solvable = refl;
       })
 
-  held : factorsIn m (n + 1) (length (g .swaps)) s w ≡ g
+  held : factorsIn s m (n + 1) w (length (g .swaps)) ≡ g
   held = λ i. record { columns = held-columns i; swaps = pairs-store (g .swaps) i }
 
-  made : removing r s w ≡ slotted m (acceptedAs m n f)
+  made : removing s w r ≡ slotted m (acceptedAs m n f)
   unfolding removing removingMade
   made =
       tested-none _ _ _ passes-tests
@@ -172,13 +172,13 @@ module _ (m n : ℕ) (a out : Column) (store : List ℕ) (told : Record) (good :
   -- THEOREM. Taking the last column off what an accepted factoring gave is accepted and gives what factoring the columns that remain gives: the same record,
   -- factors and swap store, with zeros in the slot behind them. The slices that factoring fills may hold anything.
   pub removing-afresh : (out' : Column) (store' : List ℕ) → length out' ≡ n * m → length store' ≡ 128
-      → let o = factoring m (n + 1) a out store in
-      let left = factoring m n (take (n * m) a) out' store' in
-      (numberOf (left .answer) ≡ 0) × (removing told (o .left .factors) (o .left .store) ≡ slotted m left)
+      → let o = factoring a m (n + 1) out store in
+      let left = factoring (take (n * m) a) m n out' store' in
+      (numberOf (left .answer) ≡ 0) × (removing (o .left .factors) (o .left .store) told ≡ slotted m left)
   unfolding numberOf
   removing-afresh out' store' lo ls =
       let yes : numberOf (outcomeAt m n a .answer) ≡ 0 = front-accepted m (n + 1) a out store none n within (ap numberOf good) in
-      let left-is : factoring m n front out' store' ≡ acceptedAs m n f =
+      let left-is : factoring front m n out' store' ≡ acceptedAs m n f =
       same-outcome m n front (zeros (n * m)) (replicate 128 0) yes out' store' lo ls ∙ accepted-is m n front (zeros (n * m)) (replicate 128 0) fits yes .0 in (
         ap (λ (q : Factoring). numberOf (q .answer)) left-is,
         rw (given .told-is, given .is) (made ∙ ap (slotted m) (sym left-is)),
@@ -186,23 +186,23 @@ module _ (m n : ℕ) (a out : Column) (store : List ℕ) (told : Record) (good :
 
   -- the same with the slot left aside
   pub removing-reaches : (out' : Column) (store' : List ℕ) → length out' ≡ n * m → length store' ≡ 128
-      → let o = factoring m (n + 1) a out store in
-      let left = factoring m n (take (n * m) a) out' store' in
-      (numberOf (left .answer) ≡ 0) × (slotOff m n (removing told (o .left .factors) (o .left .store)) ≡ left)
+      → let o = factoring a m (n + 1) out store in
+      let left = factoring (take (n * m) a) m n out' store' in
+      (numberOf (left .answer) ≡ 0) × (slotOff m n (removing (o .left .factors) (o .left .store) told) ≡ left)
   removing-reaches out' store' lo ls =
       let both = removing-afresh out' store' lo ls in
-      let left = factoring m n (take (n * m) a) out' store' in
+      let left = factoring (take (n * m) a) m n out' store' in
       let none' = no-refusal m n front out' store' (both .0) in
       let len : length (left .left .factors) ≡ n * m =
       ap (λ (q : Factoring). length (q .left .factors)) (accepted-is m n front out' store' none' (both .0) .0) ∙ size-f m n front out' store' none' in
       (both .0, ap (slotOff m n) (both .1) ∙ slot-off m n left len)
 
 -- THEOREM. Where a column was added to what an accepted factoring gave, taking it off restores record, older columns and swap store; the slot holds zeros.
-pub removing-added : (m n : ℕ) (a out : Column) (store : List ℕ) (told : Record) → factoring m n a out store .answer ≡ done told
+pub removing-added : (m n : ℕ) (a out : Column) (store : List ℕ) (told : Record) → factoring a m n out store .answer ≡ done told
     → (c z : Column) → length z ≡ m
-    → let o = factoring m n a out store in
-    let added = adding told (o .left .factors ++ z) c (o .left .store) in
-    (next : Record) → added .answer ≡ done next → removing next (added .left .factors) (added .left .store) ≡ slotted m o
+    → let o = factoring a m n out store in
+    let added = adding (o .left .factors ++ z) c (o .left .store) told in
+    (next : Record) → added .answer ≡ done next → removing (added .left .factors) (added .left .store) next ≡ slotted m o
 unfolding numberOf
 removing-added m n a out store told good c z lz next accepted =
     let given = accepted-given m n a out store told good in
@@ -210,7 +210,7 @@ removing-added m n a out store told good c z lz next accepted =
     let out' = zeros ((n + 1) * m) in
     let store' : List ℕ = replicate 128 0 in
     let both = adding-afresh m n a out store told good c z out' store' lz (length-replicate ((n + 1) * m) _) refl in
-    let fresh-ok : factoring m (n + 1) (a ++ c) out' store' .answer ≡ done next = sym (both .0) ∙ accepted in
+    let fresh-ok : factoring (a ++ c) m (n + 1) out' store' .answer ≡ done next = sym (both .0) ∙ accepted in
     let undone = removing-afresh m n (a ++ c) out' store' next fresh-ok out store (sized m n out (p .slice) .size) (p .room) .1 in
     rw (both .1 (ap numberOf fresh-ok))
-    (undone ∙ ap (λ (b : Column). slotted m (factoring m n b out store)) (take-at a c (n * m) (size m n a out store (given .none))))
+    (undone ∙ ap (λ (b : Column). slotted m (factoring b m n out store)) (take-at a c (n * m) (size m n a out store (given .none))))

@@ -67,14 +67,14 @@ module _ (r : Record) (s : Column) (a b : List ℕ) (alike : SamePairs (r .pairs
   n = r .columns - 1
 
   abbrev f : Factors
-  f = factorsIn (r .rows) (r .columns) (r .pairs) s b
+  f = factorsIn s (r .rows) (r .columns) b (r .pairs)
 
-  refusal-unread : removingRefusal r s a ≡ removingRefusal r s b
+  refusal-unread : removingRefusal s a r ≡ removingRefusal s b r
   unfolding removingRefusal
   refusal-unread =
       rw (swaps-unread r a b alike) (held-unread r a b alike s (removingAsks r (goodUndoing (r .rows) n (pairsOf (r .pairs) b))))
 
-  made-unread : Unread r (removingMade r a f) (removingMade r b f)
+  made-unread : Unread r (removingMade a r f) (removingMade b r f)
   unfolding removingMade recordAfter removeColumn
   made-unread =
       let swaps = f .swaps in
@@ -90,18 +90,18 @@ module _ (r : Record) (s : Column) (a b : List ℕ) (alike : SamePairs (r .pairs
       }
 
   -- THEOREM. Two swap stores that agree on their pairs give the same answer and the same factors, and agree on the pairs of the record that is left.
-  pub removing-unread : Unread r (removing r s a) (removing r s b)
+  pub removing-unread : Unread r (removing s a r) (removing s b r)
   unfolding removing tested recordAfter
   removing-unread =
       rw (refusal-unread, swaps-unread r a b alike)
-      (cond-both (Unread r) (eqb (removingRefusal r s b) 0)
+      (cond-both (Unread r) (eqb (removingRefusal s b r) 0)
       (λ t. made-unread) (λ t. record { answer = refl; factors = refl; pairs = alike }))
 
 -- THEOREM. What followed the pairs of the record stays as it was.
-pub removing-behind : (r : Record) (s : Column) (store : List ℕ) (k : ℕ) → 2 * r .pairs ≤ k → getD (removing r s store .left .store) k 0 ≡ getD store k 0
+pub removing-behind : (r : Record) (s : Column) (store : List ℕ) (k : ℕ) → 2 * r .pairs ≤ k → getD (removing s store r .left .store) k 0 ≡ getD store k 0
 unfolding removing removingMade
 removing-behind r s store k h =
     let swaps = pairsOf (r .pairs) store in
-    tested-cases (removingRefusal r s store) (leaving (slices s store)) (removingMade r store (factorsIn (r .rows) (r .columns) (r .pairs) s store))
+    tested-cases (removingRefusal s store r) (leaving (slices s store)) (removingMade store r (factorsIn s (r .rows) (r .columns) store (r .pairs)))
     (λ o. getD (o .left .store) k 0 ≡ getD store k 0)
     (λ e. let count = length-pairs (r .pairs) store in erased-behind (r .columns - 1) swaps store k (omega arith)) (λ e. refl)

@@ -19,17 +19,17 @@ use Rattle.columns.specs.declared.Removed.{Removed}
 use Rattle.columns.specs.Removing.{goodUndoing, removingRefusal, removing, removed, recordIn}
 
 -- the list is good and can have the last column taken off it; what is said of a list that is not good does not matter
-pub record RemovableIf (r : Record) (store : List ℕ) (is : Bool) : Type 0 where
-  pub good : goodList (r .rows) (min (r .rows) (r .columns)) (r .pairs) store ≡ true
+pub record RemovableIf (store : List ℕ) (r : Record) (is : Bool) : Type 0 where
+  pub good : goodList store (r .pairs) (r .rows) (min (r .rows) (r .columns)) ≡ true
       → is ≡ goodUndoing (r .rows) (r .columns - 1) (pairsOf (r .pairs) store)
 
 -- removing is not refused by its tests; so there is a column, its slot lies within the store, the pairs lie in the swap store,
 -- the last one can be undone, and the record's dead columns are those of the factors
-pub record Ready (r : Record) (s : Column) (store : List ℕ) : Type 0 where
-  pub none : removingRefusal r s store ≡ 0
+pub record Ready (s : Column) (store : List ℕ) (r : Record) : Type 0 where
+  pub none : removingRefusal s store r ≡ 0
   pub some : 1 ≤ r .columns
   pub few : r .columns ≤ 64
-  pub matrix : isMatrix (r .rows) (r .columns) s ≡ true
+  pub matrix : isMatrix s (r .rows) (r .columns) ≡ true
   pub within : (r .columns - 1) * r .rows + r .rows ≤ length s
   pub few-pairs : r .pairs ≤ 64
   pub room : length store ≡ 128
@@ -37,13 +37,13 @@ pub record Ready (r : Record) (s : Column) (store : List ℕ) : Type 0 where
   pub dead : r .dead ≡ deadIn (r .rows) (columns (r .rows) (r .columns) s)
 
 -- the whole promise of removing
-pub record RemovedFrom (r : Record) (s : Column) (store : List ℕ) (a : Removed) (s' : Column) (store' : List ℕ) : Type 0 where
-  pub answer : removed a ≡ removing r s store .answer
-  pub told : recordIn a ≡ recordAfter r (removing r s store .answer)
-  pub factors : s' ≡ removing r s store .left .factors
-  pub pairs : store' ≡ removing r s store .left .store
+pub record RemovedFrom (s : Column) (store : List ℕ) (r : Record) (a : Removed) (s' : Column) (store' : List ℕ) : Type 0 where
+  pub answer : removed a ≡ removing s store r .answer
+  pub told : recordIn a ≡ recordAfter r (removing s store r .answer)
+  pub factors : s' ≡ removing s store r .left .factors
+  pub pairs : store' ≡ removing s store r .left .store
 
 -- what adding all columns of an m by n matrix leaves: factoring's answer, and where the factors are finite, they and the swaps
-pub record AllAdded (m n : ℕ) (a : Column) (r : Factored) (s : Column) (store : List ℕ) : Type 0 where
+pub record AllAdded (a : Column) (m n : ℕ) (r : Factored) (s : Column) (store : List ℕ) : Type 0 where
   pub answer : factored r ≡ withTossUps (tossUps m (columns m n a)) (settled m n (eliminate m (columns m n a)) .answer)
   pub held : let f = eliminate m (columns m n a) in allFinite (flat (f .columns)) ≡ true → (s ≡ flat (f .columns)) × (store ≡ storeOf (f .swaps))

@@ -26,23 +26,23 @@ abbrev pub removingAsks : Record → Bool → Asks
 removingAsks r list = record { square = false; solves = false; sizes = leb 1 (r .columns); lengths = true; list = list; numbers = true }
 
 -- the refusal before the work, 0 for none
-unfoldable pub removingRefusal : Record → Column → List ℕ → ℕ
-removingRefusal r s store = heldRefusal s store r (removingAsks r (goodUndoing (r .rows) (r .columns - 1) (pairsOf (r .pairs) store)))
+unfoldable pub removingRefusal : Column → List ℕ → Record → ℕ
+removingRefusal s store r = heldRefusal s store r (removingAsks r (goodUndoing (r .rows) (r .columns - 1) (pairsOf (r .pairs) store)))
 
 -- "The removed slot and pair become zero": the swap store, and the factors with the slot behind them
 unfoldable pub erased : ℕ → Swaps → List ℕ → List ℕ
 erased n swaps store = cond (undoes n swaps) (withPair (length swaps - 1) 0 0 store) store
 
-unfoldable pub removingMade : Record → List ℕ → Factors → Factoring
-removingMade r store f =
+unfoldable pub removingMade : List ℕ → Record → Factors → Factoring
+removingMade store r f =
     let n = r .columns - 1 in
     let g = removeColumn n f in
     record { answer = done (recordFor (r .rows) n g); left = slices (flat (g .columns) ++ zeros (r .rows)) (erased n (f .swaps) store) }
 
 -- the whole call
-unfoldable pub removing : Record → Column → List ℕ → Factoring
-removing r s store =
-    tested (removingRefusal r s store) (leaving (slices s store)) (removingMade r store (factorsIn (r .rows) (r .columns) (r .pairs) s store))
+unfoldable pub removing : Column → List ℕ → Record → Factoring
+removing s store r =
+    tested (removingRefusal s store r) (leaving (slices s store)) (removingMade store r (factorsIn s (r .rows) (r .columns) store (r .pairs)))
 
 -- ---- the answer: the record, or the refusal; and in either case the record that is left
 unfoldable pub removed : Removed → Outcome Record

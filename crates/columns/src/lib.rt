@@ -56,7 +56,7 @@ fn is_removable(swaps: &[usize], pairs: usize, m: usize, last: usize) -> bool
 
 // The same of any list; a list that is not good is not removable.
 fn is_good_to_remove(swaps: &[usize], told: Record) -> bool
-    ensures { λ r. ⌜ RemovableIf told (now (swaps .entry)) r ⌝ }
+    ensures { λ r. ⌜ RemovableIf (now (swaps .entry)) told r ⌝ }
 {
     let m = told.rows;
     let n = told.columns;
@@ -69,7 +69,7 @@ fn is_good_to_remove(swaps: &[usize], told: Record) -> bool
 
 // The number of the refusal before the work, 0 for none.
 fn removing_refusal(s: &[f64], swaps: &[usize], told: Record) -> usize
-    ensures { λ r. ⌜ r ≡ removingRefusal told (now (s .entry)) (now (swaps .entry)) ⌝ }
+    ensures { λ r. ⌜ r ≡ removingRefusal (now (s .entry)) (now (swaps .entry)) told ⌝ }
 {
     let asks = Asks {
         square: false,
@@ -96,8 +96,8 @@ fn undo(s: &mut [f64], m: usize, n: usize, swaps: &mut [usize], pairs: usize)
 
 // Takes the last column off, past the tests.
 fn remove_tested(s: &mut [f64], swaps: &mut [usize], told: Record) -> Record
-    requires { ⌜ Ready told (now s) (now swaps) ⌝ }
-    ensures { λ r. ⌜ RemovedFrom told (now (s .entry)) (now (swaps .entry)) (Removed.Accepted r) (now (s .exit)) (now (swaps .exit)) ⌝ }
+    requires { ⌜ Ready (now s) (now swaps) told ⌝ }
+    ensures { λ r. ⌜ RemovedFrom (now (s .entry)) (now (swaps .entry)) told (Removed.Accepted r) (now (s .exit)) (now (swaps .exit)) ⌝ }
 {
     let m = told.rows;
     let n = told.columns - 1;
@@ -126,10 +126,10 @@ fn remove_tested(s: &mut [f64], swaps: &mut [usize], told: Record) -> Record
 
 // Takes the last column off the factors in s: the factors before it was added, its slot zero.
 pub fn remove_column(s: &mut [f64], swaps: &mut [usize], told: Record) -> Removed
-    ensures { λ r. ⌜ removed r ≡ removing told (now (s .entry)) (now (swaps .entry)) .answer ⌝ }
-    ensures { λ r. ⌜ recordIn r ≡ recordAfter told (removing told (now (s .entry)) (now (swaps .entry)) .answer) ⌝ }
-    ensures { λ _. ⌜ now (s .exit) ≡ removing told (now (s .entry)) (now (swaps .entry)) .left .factors ⌝ }
-    ensures { λ _. ⌜ now (swaps .exit) ≡ removing told (now (s .entry)) (now (swaps .entry)) .left .store ⌝ }
+    ensures { λ r. ⌜ removed r ≡ removing (now (s .entry)) (now (swaps .entry)) told .answer ⌝ }
+    ensures { λ r. ⌜ recordIn r ≡ recordAfter told (removing (now (s .entry)) (now (swaps .entry)) told .answer) ⌝ }
+    ensures { λ _. ⌜ now (s .exit) ≡ removing (now (s .entry)) (now (swaps .entry)) told .left .factors ⌝ }
+    ensures { λ _. ⌜ now (swaps .exit) ≡ removing (now (s .entry)) (now (swaps .entry)) told .left .store ⌝ }
 {
     let number = removing_refusal(s, swaps, told);
     if number != 0 {
@@ -140,9 +140,9 @@ pub fn remove_column(s: &mut [f64], swaps: &mut [usize], told: Record) -> Remove
 
 // Adds the columns of the m by n matrix a one by one, from none on. Answers the last record, or refusal 7 where a column is refused.
 fn add_all(a: &[f64], m: usize, n: usize, out: &mut [f64], swaps: &mut [usize]) -> Factored
-    requires { ⌜ factoringRefusal m n (now a) (now out) (now swaps) ≡ 0 ⌝ }
+    requires { ⌜ factoringRefusal (now a) m n (now out) (now swaps) ≡ 0 ⌝ }
     requires { ⌜ now swaps ≡ storeOf [] ⌝ }
-    ensures { λ r. ⌜ AllAdded m n (now (a .entry)) r (now (out .exit)) (now (swaps .exit)) ⌝ }
+    ensures { λ r. ⌜ AllAdded (now (a .entry)) m n r (now (out .exit)) (now (swaps .exit)) ⌝ }
 {
     let mut told = Record {
         rows: m,
@@ -175,9 +175,9 @@ fn add_all(a: &[f64], m: usize, n: usize, out: &mut [f64], swaps: &mut [usize]) 
 
 // Factors the m by n matrix a into out by adding its columns one by one: the same outcome as `factor`, on every input.
 pub fn build_up(a: &[f64], m: usize, n: usize, out: &mut [f64], swaps: &mut [usize]) -> Factored
-    ensures { λ r. ⌜ factored r ≡ factoringAnswer m n (now (a .entry)) (now (out .entry)) (now (swaps .entry)) ⌝ }
-    ensures { λ _. ⌜ now (out .exit) ≡ factoring m n (now (a .entry)) (now (out .entry)) (now (swaps .entry)) .left .factors ⌝ }
-    ensures { λ _. ⌜ now (swaps .exit) ≡ factoring m n (now (a .entry)) (now (out .entry)) (now (swaps .entry)) .left .store ⌝ }
+    ensures { λ r. ⌜ factored r ≡ factoringAnswer (now (a .entry)) m n (now (out .entry)) (now (swaps .entry)) ⌝ }
+    ensures { λ _. ⌜ now (out .exit) ≡ factoring (now (a .entry)) m n (now (out .entry)) (now (swaps .entry)) .left .factors ⌝ }
+    ensures { λ _. ⌜ now (swaps .exit) ≡ factoring (now (a .entry)) m n (now (out .entry)) (now (swaps .entry)) .left .store ⌝ }
 {
     let number = lu::factor_refusal(a, m, n, out, swaps);
     if number != 0 {

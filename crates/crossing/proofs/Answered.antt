@@ -21,25 +21,25 @@ use Rattle.crossing.specs.Below.{Packed, packed, factorsOf, scaledBy}
 use Rattle.crossing.specs.Factors.{factorsIn, stiffness}
 
 -- what factoring made passes
-factored-passes : (n : ℕ) (a : Column) (f : Packed) → factorsOf n a ≡ done f → heldRefusal (f .factors) (f .swaps) (f .told) squareAsks ≡ 0
+factored-passes : (n : ℕ) (a : Column) (f : Packed) → factorsOf a n ≡ done f → heldRefusal (f .factors) (f .swaps) (f .told) squareAsks ≡ 0
 unfolding factorsOf
 factored-passes n a f e =
-    let o = factoring n n a a (replicate 128 0) in
-    then-done (o .answer) (λ told. done (packed told (o .left .factors) (o .left .store))) f e (λ told ok is.
+    let o = factoring a n n a (replicate 128 0) in
+    then-done (o .answer) (λ told. done (packed (o .left .factors) (o .left .store) told)) f e (λ told ok is.
     ap (λ (p : Packed). heldRefusal (p .factors) (p .swaps) (p .told) squareAsks) (sym (done-same _ f is))
     ∙ accepted-passes n n a a (replicate 128 0) told ok squareAsks (λ _. refl) refl refl refl refl refl)
 
 -- THEOREM. Where a file's matrix is factored, its quick check is answered; so its refusals are the reader's 8, 1, 3, 5 and factoring's 7.
 pub stiffness-answered : (bytes : List ℕ) (f : Packed) → factorsIn bytes ≡ done f
-    → stiffness bytes ≡ done (scaledDeterminant (f .told .rows) (f .factors) (f .told .pairs))
+    → stiffness bytes ≡ done (scaledDeterminant (f .factors) (f .told .rows) (f .told .pairs))
 unfolding stiffness factorsIn andThen scaledBy scaling
 stiffness-answered bytes f e =
-    let o = tested-done (fileRefusal bytes) (factorsOf (padsOf bytes) (matrixOf (padsOf bytes) bytes)) f e in
+    let o = tested-done (fileRefusal bytes) (factorsOf (matrixOf (padsOf bytes) bytes) (padsOf bytes)) f e in
     ap (λ (q : Outcome Packed). andThen q scaledBy) e
-    ∙ tested-none _ refused (done (scaledDeterminant (f .told .rows) (f .factors) (f .told .pairs))) (factored-passes _ _ f (o .1))
+    ∙ tested-none _ refused (done (scaledDeterminant (f .factors) (f .told .rows) (f .told .pairs))) (factored-passes _ _ f (o .1))
 
 pub stiffness-refusals : (bytes : List ℕ) (k : ℕ) → stiffness bytes ≡ refused k → factorsIn bytes ≡ refused k
 unfolding stiffness
 stiffness-refusals bytes k e =
     then-refused (factorsIn bytes) scaledBy k e (λ same. same)
-    (λ f ok _. never-both (scaledDeterminant (f .told .rows) (f .factors) (f .told .pairs)) k (sym (stiffness-answered bytes f ok) ∙ e))
+    (λ f ok _. never-both (scaledDeterminant (f .factors) (f .told .rows) (f .told .pairs)) k (sym (stiffness-answered bytes f ok) ∙ e))

@@ -59,7 +59,7 @@ module _ (n : ℕ) (a : Column) where
     pub finite : allFinite a ≡ true
 
   module _ (good : Good) where
-    is-settled : (s : List ℕ) → length s ≡ 128 → factoring n n a a s ≡ settled n n (eliminate n (columns n n a))
+    is-settled : (s : List ℕ) → length s ≡ 128 → factoring a n n a s ≡ settled n n (eliminate n (columns n n a))
     is-settled s l =
         let fits = is-matrix n n a (good .most) (good .most) (good .size) in
         worked n n a a s
@@ -77,7 +77,7 @@ module _ (n : ℕ) (a : Column) where
     factored-cases : (P : Outcome Packed → Factoring → Type 0)
         → ((p : Packed) → p .told .rows ≡ n → P (done p) (record { answer = done (p .told); left = slices (p .factors) (p .swaps) }))
         → P (refused 7) (leaving (slices (zeros (n * n)) (replicate 128 0)) 7)
-        → (s : List ℕ) → length s ≡ 128 → P (factorsOf n a) (factoring n n a a s)
+        → (s : List ℕ) → length s ≡ 128 → P (factorsOf a n) (factoring a n n a s)
     unfolding factorsOf settled andThen storeOf numbersOf
     factored-cases P accepts refuses s l =
         rw (is-settled s l, is-settled (replicate 128 0) empty-store)
@@ -86,44 +86,44 @@ module _ (n : ℕ) (a : Column) where
         made : Eliminated
         made = eliminate n (columns n n a)
 
-    factored-told : (s : List ℕ) → length s ≡ 128 → (r : Factored) → factored r ≡ factoringAnswer n n a a s
-        → factorsHeld (heldFor r) ≡ andThen (factorsOf n a) (λ p. done (p .told, tossUpsOf n a))
+    factored-told : (s : List ℕ) → length s ≡ 128 → (r : Factored) → factored r ≡ factoringAnswer a n n a s
+        → factorsHeld (heldFor r) ≡ andThen (factorsOf a n) (λ p. done (p .told, tossUpsOf a n))
     unfolding andThen factoringAnswer withTossUps
     factored-told s l r e =
         held-answer r ∙ e
-        ∙ factored-cases (λ o f. withTossUps (tossUpsOf n a) (f .answer) ≡ andThen o (λ p. done (p .told, tossUpsOf n a))) (λ p _. refl) refl s l
+        ∙ factored-cases (λ o f. withTossUps (tossUpsOf a n) (f .answer) ≡ andThen o (λ p. done (p .told, tossUpsOf a n))) (λ p _. refl) refl s l
 
-    factored-matrix : (s : List ℕ) → length s ≡ 128 → factoring n n a a s .left .factors ≡ settledIn (andThen (factorsOf n a) (λ p. done (p .factors))) a
+    factored-matrix : (s : List ℕ) → length s ≡ 128 → factoring a n n a s .left .factors ≡ settledIn (andThen (factorsOf a n) (λ p. done (p .factors))) a
     unfolding settledIn andThen
     factored-matrix s l =
         factored-cases (λ o f. f .left .factors ≡ settledIn (andThen o (λ p. done (p .factors))) a) (λ p _. refl) (ap zeros (sym (good .size))) s l
 
-    factored-swaps : (s : List ℕ) → length s ≡ 128 → factoring n n a a s .left .store ≡ swapsLeft (factorsOf n a) s
+    factored-swaps : (s : List ℕ) → length s ≡ 128 → factoring a n n a s .left .store ≡ swapsLeft (factorsOf a n) s
     unfolding swapsLeft
     factored-swaps s l = factored-cases (λ o f. f .left .store ≡ swapsLeft o s) (λ p _. refl) refl s l
 
     -- what the call ensures
     pub factored-call : (s : List ℕ) → length s ≡ 128 → (made : Factored) (a₁ : Column) (s₁ : List ℕ)
-        → (factored made ≡ factoringAnswer n n a a s) × ((a₁ ≡ factoring n n a a s .left .factors) × (s₁ ≡ factoring n n a a s .left .store))
+        → (factored made ≡ factoringAnswer a n n a s) × ((a₁ ≡ factoring a n n a s .left .factors) × (s₁ ≡ factoring a n n a s .left .store))
         → (held : Held) → heldFor made ≡ held
-        → (factorsHeld held ≡ andThen (factorsOf n a) (λ p. done (p .told, tossUpsOf n a)))
-        × ((a₁ ≡ settledIn (andThen (factorsOf n a) (λ p. done (p .factors))) a) × (s₁ ≡ swapsLeft (factorsOf n a) s))
+        → (factorsHeld held ≡ andThen (factorsOf a n) (λ p. done (p .told, tossUpsOf a n)))
+        × ((a₁ ≡ settledIn (andThen (factorsOf a n) (λ p. done (p .factors))) a) × (s₁ ≡ swapsLeft (factorsOf a n) s))
     factored-call s l made a₁ s₁ e held h =
         let told = ap factorsHeld (sym h) ∙ factored-told s l made (e .0) in
         (told, (e .1 .0 ∙ factored-matrix s l, e .1 .1 ∙ factored-swaps s l))
 
-    pub factored-rows : (p : Packed) → factorsOf n a ≡ done p → p .told .rows ≡ n
+    pub factored-rows : (p : Packed) → factorsOf a n ≡ done p → p .told .rows ≡ n
     factored-rows p =
         factored-cases (λ o f. o ≡ done p → p .told .rows ≡ n) (λ q r e. ap (λ (x : Packed). x .told .rows) (sym (done-same q p e)) ∙ r)
         (λ e. never-both p 7 (sym e)) (replicate 128 0) empty-store
 
-    pub factored-seven : (k : ℕ) → factorsOf n a ≡ refused k → k ≡ 7
+    pub factored-seven : (k : ℕ) → factorsOf a n ≡ refused k → k ≡ 7
     factored-seven k =
         factored-cases (λ o f. o ≡ refused k → k ≡ 7) (λ q r e. never-both q k e) (λ e. sym (refused-same 7 k e)) (replicate 128 0) empty-store
 
     -- what it leaves goes by the length of what was there
     pub factored-settled : (x y : Column) → length x ≡ length y
-        → settledIn (andThen (factorsOf n a) (λ p. done (p .factors))) x ≡ settledIn (andThen (factorsOf n a) (λ p. done (p .factors))) y
+        → settledIn (andThen (factorsOf a n) (λ p. done (p .factors))) x ≡ settledIn (andThen (factorsOf a n) (λ p. done (p .factors))) y
     unfolding settledIn andThen
     factored-settled x y e =
         factored-cases (λ o f. settledIn (andThen o (λ p. done (p .factors))) x ≡ settledIn (andThen o (λ p. done (p .factors))) y) (λ p _. refl)
@@ -157,29 +157,29 @@ module _ (b was : Column) (P : Outcome Column → Call (Unit {0}) Column → Typ
     (early : (k : ℕ) → (k ≡ 0 → ⊥) → Early k → P (refused k) (leaving was k))
     (seven : (m : ℕ) → P (refused 7) (leaving (zeros m) 7)) where
   solving-cases : (way : Way) (r : Record) (f : Column) (s : List ℕ) → length was ≡ r .rows
-      → P (let o = solvingBy way r f s 1 b (zeros (r .rows)) in andThen (o .answer) (λ _. done (o .left))) (solvingBy way r f s 1 b was)
+      → P (let o = solvingBy way f s r b 1 (zeros (r .rows)) in andThen (o .answer) (λ _. done (o .left))) (solvingBy way f s r b 1 was)
   unfolding seventh tested andThen
   solving-cases way r f s l =
       rw (same-matrix (r .rows) 1 (zeros (r .rows)) was (l ∙ sym (length-replicate (r .rows) zero64)))
       (test-cases (eqb number 0)
       (λ t. rw t (test-cases (allFinite made) (λ u. rw u (accepts made u)) (λ u. rw u (seven (length made)))))
-      (λ t. rw t (early number (eqb-false number 0 t) (held-early f s r (solveAsks (r .rows) 1 b (zeros (r .rows)))))))
+      (λ t. rw t (early number (eqb-false number 0 t) (held-early f s r (solveAsks b (r .rows) 1 (zeros (r .rows)))))))
     where
       number : ℕ
-      number = heldRefusal f s r (solveAsks (r .rows) 1 b (zeros (r .rows)))
+      number = heldRefusal f s r (solveAsks b (r .rows) 1 (zeros (r .rows)))
 
       made : Column
-      made = solvedBy way r f s (columns (r .rows) 1 b)
+      made = solvedBy way f s r (columns (r .rows) 1 b)
 
   solution-cases : (t : Bool) (p : Packed) → length was ≡ p .told .rows
-      → P (solutionBy t p b) (systemOf t (p .told) (p .factors) (p .swaps) 1 b was)
+      → P (solutionBy t p b) (systemOf t (p .factors) (p .swaps) (p .told) b 1 was)
   unfolding solutionBy solving trSolving
   solution-cases true p = solving-cases trSolved (p .told) (p .factors) (p .swaps)
   solution-cases false p = solving-cases solved (p .told) (p .factors) (p .swaps)
 
 module _ (t : Bool) (p : Packed) (b : Column) where
   pub solved-answer : {A : Type 0} (was : Column) → length was ≡ p .told .rows → (answer : Answer) (number : ℕ) (n : A) → number ≡ numberOf (answered answer)
-      → answered answer ≡ systemOf t (p .told) (p .factors) (p .swaps) 1 b was .answer
+      → answered answer ≡ systemOf t (p .factors) (p .swaps) (p .told) b 1 was .answer
       → tested number refused (done n) ≡ andThen (solutionBy t p b) (λ _. done n)
   unfolding andThen numberOf
   solved-answer was l answer number n d e =
@@ -187,7 +187,7 @@ module _ (t : Bool) (p : Packed) (b : Column) where
       (solution-cases b was (λ o f. tested (numberOf (f .answer)) refused (done n) ≡ andThen o (λ _. done n)) (λ x _. tested-none 0 refused (done n) refl)
       (λ k z _. tested-some k refused (done n) z) (λ m. tested-some 7 refused (done n) (λ z. omega (arith, z))) t p l)
 
-  pub solved-left : (was x : Column) → length was ≡ p .told .rows → x ≡ systemOf t (p .told) (p .factors) (p .swaps) 1 b was .left → length x ≡ length was
+  pub solved-left : (was x : Column) → length was ≡ p .told .rows → x ≡ systemOf t (p .factors) (p .swaps) (p .told) b 1 was .left → length x ≡ length was
       → x ≡ settledIn (solutionBy t p b) was
   unfolding settledIn
   solved-left was x l =
@@ -210,7 +210,7 @@ module _ (t : Bool) (p : Packed) (b : Column) where
 
 -- what the call leaves of the ranks
 abbrev pub ranksBy : ℕ → Column → List ℕ → List ℕ
-ranksBy n x was = ranking everyPad n x was .left
+ranksBy n x was = ranking everyPad x n was .left
 
 pub ranks-made : (n : ℕ) (x : Column) (was : List ℕ) → 1 ≤ n → n ≤ 64 → length x ≡ n → length was ≡ n → allFinite x ≡ true
     → ranksBy n x was ≡ ranked x (padsTo n)

@@ -52,7 +52,7 @@ pub record Read (bytes : List ℕ) (matrix readings M R : Column) (k : ℕ) : Ty
 
 -- a file whose factors and readings stand in front of their stores, M and R, with their swap store
 pub record Ready (bytes : List ℕ) (M R : Column) (swaps : List ℕ) (told : Record) : Type 0 where
-  pub factors : factorsIn bytes ≡ done (packedIn told M swaps)
+  pub factors : factorsIn bytes ≡ done (packedIn M swaps told)
   pub pads : told .rows ≡ padsOf bytes
   pub least : 1 ≤ told .rows
   pub most : told .rows ≤ 64
@@ -79,13 +79,13 @@ module _ (bytes : List ℕ) where
   not-seven =
       file-among bytes (λ k. k ≡ 7 → ⊥) (λ z. omega (arith, z)) (λ z. omega (arith, z)) (λ z. omega (arith, z)) (λ z. omega (arith, z)) (λ z. omega (arith, z))
 
-  factors-good : fileRefusal bytes ≡ 0 → factorsIn bytes ≡ factorsOf n (matrixOf n bytes)
+  factors-good : fileRefusal bytes ≡ 0 → factorsIn bytes ≡ factorsOf (matrixOf n bytes) n
   unfolding factorsIn
-  factors-good z = tested-none (fileRefusal bytes) refused (factorsOf n (matrixOf n bytes)) z
+  factors-good z = tested-none (fileRefusal bytes) refused (factorsOf (matrixOf n bytes) n) z
 
   factors-refused : (fileRefusal bytes ≡ 0 → ⊥) → factorsIn bytes ≡ refused (fileRefusal bytes)
   unfolding factorsIn
-  factors-refused h = tested-some (fileRefusal bytes) refused (factorsOf n (matrixOf n bytes)) h
+  factors-refused h = tested-some (fileRefusal bytes) refused (factorsOf (matrixOf n bytes) n) h
 
   -- ---- read into the stores, then factored there
   module _ (matrix readings : Column) (swaps : List ℕ) (lm : length matrix ≡ 4096) (lr : length readings ≡ 64) where
@@ -140,14 +140,14 @@ module _ (bytes : List ℕ) where
           ))
 
     pub held-read : (M R : Column) (k : ℕ) → Read bytes matrix readings M R k → (held : Held) (A : Column) (S : List ℕ)
-        → factorsHeld held ≡ andThen (factorsOf k (take (k * k) M)) (λ p. done (p .told, tossUpsOf k (take (k * k) M)))
-        → A ≡ settledIn (andThen (factorsOf k (take (k * k) M)) (λ p. done (p .factors))) (take (k * k) M)
-        → S ≡ swapsLeft (factorsOf k (take (k * k) M)) swaps
+        → factorsHeld held ≡ andThen (factorsOf (take (k * k) M) k) (λ p. done (p .told, tossUpsOf (take (k * k) M) k))
+        → A ≡ settledIn (andThen (factorsOf (take (k * k) M) k) (λ p. done (p .factors))) (take (k * k) M)
+        → S ≡ swapsLeft (factorsOf (take (k * k) M) k) swaps
         → (factorsHeld held ≡ holding bytes (stores matrix readings swaps) .answer)
         × (stores (A ++ drop (k * k) M) R S ≡ holding bytes (stores matrix readings swaps) .left)
     unfolding holding
     held-read M R k w held A S h a s =
-        let same : factorsOf k (take (k * k) M) ≡ factorsOf n (matrixOf n bytes) = ap₂ factorsOf (w .pads) (w .is-matrix) in
+        let same : factorsOf (take (k * k) M) k ≡ factorsOf (matrixOf n bytes) n = ap₂ factorsOf (w .is-matrix) (w .pads) in
         let all = same ∙ sym (factors-good (w .none)) in
         let sized : length (take (k * k) M) ≡ length (take (n * n) matrix) =
         w .good .size ∙ ap (λ (j : ℕ). j * j) (w .pads) ∙ taken-count (n * n) matrix (rw lm (rw (w .pads) at (w .entries))) in
@@ -158,7 +158,7 @@ module _ (bytes : List ℕ) where
         let read : R ≡ tested (fileRefusal bytes) (λ _. readings) (readingsOf n bytes ++ drop n readings) =
         w .is-readings ∙ sym (tested-none (fileRefusal bytes) (λ _. readings) (readingsOf n bytes ++ drop n readings) (w .none)) in
         let swapped : S ≡ swapsLeft (factorsIn bytes) swaps = s ∙ ap (λ (o : Outcome Packed). swapsLeft o swaps) all in
-        let tossed : tossUpsOf k (take (k * k) M) ≡ tossUpsIn bytes = ap₂ tossUpsOf (w .pads) (w .is-matrix) in
+        let tossed : tossUpsOf (take (k * k) M) k ≡ tossUpsIn bytes = ap₂ tossUpsOf (w .is-matrix) (w .pads) in
         (h ∙ ap₂ (λ (o : Outcome Packed) (t : ℕ). andThen o (λ p. done (p .told, t))) all tossed, (λ i. stores (front i ++ w .rest i) (read i) (swapped i)))
 
     -- ---- what a caller knows
@@ -167,7 +167,7 @@ module _ (bytes : List ℕ) where
       ready-by : (told : Record) (p : Packed) → factorsIn bytes ≡ done p → p .told ≡ told → length M ≡ 4096 → Ready bytes M R S told
       unfolding holding factorsIn settledIn andThen swapsLeft
       ready-by told p e d count =
-          let passed = tested-done (fileRefusal bytes) (factorsOf n (matrixOf n bytes)) p e in
+          let passed = tested-done (fileRefusal bytes) (factorsOf (matrixOf n bytes) n) p e in
           let g = file-good (passed .0) in
           let rows : told .rows ≡ n = ap (λ (r : Record). r .rows) (sym d) ∙ factored-rows n (matrixOf n bytes) g p (passed .1) in
           let matrix-left : M ≡ p .factors ++ drop (n * n) matrix =
@@ -230,19 +230,19 @@ module _ (bytes : List ℕ) where
   pub factors-few : (k : ℕ) → factorsIn bytes ≡ refused k → k ≤ 9
   unfolding factorsIn
   factors-few k e =
-      tested-refused (fileRefusal bytes) (factorsOf n (matrixOf n bytes)) k e
+      tested-refused (fileRefusal bytes) (factorsOf (matrixOf n bytes) n) k e
       (λ z d. let seven = factored-seven n (matrixOf n bytes) (file-good z) k d in omega (arith, seven))
       (λ _ d. let few = file-among bytes (λ j. j ≤ 9) (omega arith) (omega arith) (omega arith) (omega arith) (omega arith) in omega (arith, few, d))
 
   pub factors-seven : (k : ℕ) → factorsIn bytes ≡ refused k → k ≡ 7 → n ≤ 64
   unfolding factorsIn
   factors-seven k e seven =
-      tested-refused (fileRefusal bytes) (factorsOf n (matrixOf n bytes)) k e (λ z _. file-good z .most) (λ _ d. absurd (not-seven (d ∙ seven)))
+      tested-refused (fileRefusal bytes) (factorsOf (matrixOf n bytes) n) k e (λ z _. file-good z .most) (λ _ d. absurd (not-seven (d ∙ seven)))
 
   pub factors-size : (p : Packed) → factorsIn bytes ≡ done p → (1 ≤ n) × (n ≤ 64)
   unfolding factorsIn
   factors-size p e =
-      let g = file-good (tested-done (fileRefusal bytes) (factorsOf n (matrixOf n bytes)) p e .0) in
+      let g = file-good (tested-done (fileRefusal bytes) (factorsOf (matrixOf n bytes) n) p e .0) in
       (g .least, g .most)
 
   -- ---- the stiffness

@@ -84,15 +84,15 @@ module _ (bytes : List ℕ) (pad : ℕ) where
         (λ some. ap (λ (o : Outcome Packed). andThen o next) (sym (tested-some (fileRefusal bytes) refused _ some))))
 
     module _ (out : Column) where
-      pub moving-held : (told : Record) (M : Column) (S : List ℕ) → factorsIn bytes ≡ done (packedIn told M S) → told .rows ≡ n → (tossed : ℕ)
+      pub moving-held : (told : Record) (M : Column) (S : List ℕ) → factorsIn bytes ≡ done (packedIn M S told) → told .rows ≡ n → (tossed : ℕ)
           → tossed ≡ tossUpsIn bytes → (answer : Order) (x : Column)
-          → padsOrdered answer ≡ andThen (solutionBy true (packedIn told M S) (unitColumn (told .rows) (pad - 1))) (λ _. done (told .rows, tossed))
-          → x ≡ fronted (told .rows) (solutionBy true (packedIn told M S) (unitColumn (told .rows) (pad - 1))) out
+          → padsOrdered answer ≡ andThen (solutionBy true (packedIn M S told) (unitColumn (told .rows) (pad - 1))) (λ _. done (told .rows, tossed))
+          → x ≡ fronted (told .rows) (solutionBy true (packedIn M S told) (unitColumn (told .rows) (pad - 1))) out
           → (padsOrdered answer ≡ moving bytes pad out .answer) × (x ≡ moving bytes pad out .left)
       unfolding moving andThen
       moving-held told M S e d tossed t answer x p f =
-          let same : solutionBy true (packedIn told M S) (unitColumn (told .rows) (pad - 1)) ≡ movesOf bytes pad =
-          ap (λ (k : ℕ). solutionBy true (packedIn told M S) (unitColumn k (pad - 1))) d ∙ ap (λ (o : Outcome Packed). andThen o next) (sym e)
+          let same : solutionBy true (packedIn M S told) (unitColumn (told .rows) (pad - 1)) ≡ movesOf bytes pad =
+          ap (λ (k : ℕ). solutionBy true (packedIn M S told) (unitColumn k (pad - 1))) d ∙ ap (λ (o : Outcome Packed). andThen o next) (sym e)
           ∙ sym moves-are in
           (p ∙ (λ i. andThen (same i) (λ _. done (d i, t i))), f ∙ (λ i. fronted (d i) (same i) out))
 

@@ -92,17 +92,17 @@ module _ (bytes : List ℕ) where
       (λ p d f. solution-few false p (readingsOf n bytes) k f)
 
   module _ (ranks : List ℕ) (loads : Column) where
-    pub ordering-held : (told : Record) (M R : Column) (S : List ℕ) → factorsIn bytes ≡ done (packedIn told M S) → told .rows ≡ n
+    pub ordering-held : (told : Record) (M R : Column) (S : List ℕ) → factorsIn bytes ≡ done (packedIn M S told) → told .rows ≡ n
         → take (told .rows) R ≡ readingsOf n bytes
         → (tossed : ℕ) → tossed ≡ tossUpsIn bytes → (answer : Order) (r : List ℕ) (x : Column)
-        → padsOrdered answer ≡ andThen (solutionIn false told M S R) (λ _. done (told .rows, tossed))
-        → r ≡ ranksLeft (told .rows) (solutionIn false told M S R) ranks → x ≡ fronted (told .rows) (solutionIn false told M S R) loads
+        → padsOrdered answer ≡ andThen (solutionIn false M S told R) (λ _. done (told .rows, tossed))
+        → r ≡ ranksLeft (told .rows) (solutionIn false M S told R) ranks → x ≡ fronted (told .rows) (solutionIn false M S told R) loads
         → (padsOrdered answer ≡ ordering bytes ranks loads .answer)
         × ((r ≡ ordering bytes ranks loads .left .ranks) × (x ≡ ordering bytes ranks loads .left .loads))
     unfolding ordering loadsOf andThen
     ordering-held told M R S e d b tossed t answer r x p q f =
-        let same : solutionIn false told M S R ≡ loadsOf bytes =
-        ap (solutionBy false (packedIn told M S)) b ∙ ap (λ (o : Outcome Packed). andThen o (λ f. solutionBy false f (readingsOf n bytes))) (sym e) in
+        let same : solutionIn false M S told R ≡ loadsOf bytes =
+        ap (solutionBy false (packedIn M S told)) b ∙ ap (λ (o : Outcome Packed). andThen o (λ f. solutionBy false f (readingsOf n bytes))) (sym e) in
         (p ∙ (λ i. andThen (same i) (λ _. done (d i, t i))), (q ∙ (λ i. ranksLeft (d i) (same i) ranks), f ∙ (λ i. fronted (d i) (same i) loads)))
 
     pub ordering-refused : (k m : ℕ) (answer : Order) (x : Column) → factorsIn bytes ≡ refused k → m ≡ n → answer ≡ Refused k → x ≡ fronted m (refused k) loads

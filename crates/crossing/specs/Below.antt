@@ -19,37 +19,37 @@ pub record Packed : Type 0 where
   pub factors : Column
   pub swaps : List ℕ
 
-abbrev pub packed : Record → Column → List ℕ → Packed
-packed told factors swaps = record { told = told; factors = factors; swaps = swaps }
+abbrev pub packed : Column → List ℕ → Record → Packed
+packed factors swaps told = record { told = told; factors = factors; swaps = swaps }
 
 -- the factors in front of a store for the greatest matrix
-abbrev pub packedIn : Record → Column → List ℕ → Packed
-packedIn told store swaps = packed told (take (told .rows * told .rows) store) swaps
+abbrev pub packedIn : Column → List ℕ → Record → Packed
+packedIn store swaps told = packed (take (told .rows * told .rows) store) swaps told
 
 -- the n by n matrix a factored where it lies
-unfoldable pub factorsOf : ℕ → Column → Outcome Packed
-factorsOf n a =
-    let f = factoring n n a a (replicate 128 0) in
-    andThen (f .answer) (λ told. done (packed told (f .left .factors) (f .left .store)))
+unfoldable pub factorsOf : Column → ℕ → Outcome Packed
+factorsOf a n =
+    let f = factoring a n n a (replicate 128 0) in
+    andThen (f .answer) (λ told. done (packed (f .left .factors) (f .left .store) told))
 
 -- at how many of its columns the pivot was a toss-up (document 02, request 3)
-abbrev pub tossUpsOf : ℕ → Column → ℕ
-tossUpsOf n a = tossUps n (columns n n a)
+abbrev pub tossUpsOf : Column → ℕ → ℕ
+tossUpsOf a n = tossUps n (columns n n a)
 
 -- the solve that is asked for, by the system or by the transposed one, of one right-hand column
-abbrev pub systemOf : Bool → Record → Column → List ℕ → ℕ → Column → Column → Call (Unit {0}) Column
+abbrev pub systemOf : Bool → Column → List ℕ → Record → Column → ℕ → Column → Call (Unit {0}) Column
 systemOf true = trSolving
 systemOf false = solving
 
 unfoldable pub solutionBy : Bool → Packed → Column → Outcome Column
 solutionBy transposed f b =
-    let x = systemOf transposed (f .told) (f .factors) (f .swaps) 1 b (zeros (f .told .rows)) in
+    let x = systemOf transposed (f .factors) (f .swaps) (f .told) b 1 (zeros (f .told .rows)) in
     andThen (x .answer) (λ _. done (x .left))
 
 -- the same with the factors and the right-hand column in front of their stores
-abbrev pub solutionIn : Bool → Record → Column → List ℕ → Column → Outcome Column
-solutionIn transposed told store swaps b = solutionBy transposed (packedIn told store swaps) (take (told .rows) b)
+abbrev pub solutionIn : Bool → Column → List ℕ → Record → Column → Outcome Column
+solutionIn transposed store swaps told b = solutionBy transposed (packedIn store swaps told) (take (told .rows) b)
 
 -- the determinant as a significand and an exponent (document 02, request 10)
 unfoldable pub scaledBy : Packed → Outcome Scaled
-scaledBy f = scaling (f .told) (f .factors) (f .swaps)
+scaledBy f = scaling (f .factors) (f .swaps) (f .told)

@@ -17,11 +17,11 @@ use Rattle.crossing.specs.Below.{Packed, factorsOf, tossUpsOf, scaledBy}
 
 -- refused by the file's tests, else by factoring
 unfoldable pub factorsIn : List ℕ → Outcome Packed
-factorsIn bytes = tested (fileRefusal bytes) refused (factorsOf (padsOf bytes) (matrixOf (padsOf bytes) bytes))
+factorsIn bytes = tested (fileRefusal bytes) refused (factorsOf (matrixOf (padsOf bytes) bytes) (padsOf bytes))
 
 -- at how many columns of the file's matrix the pivot was a toss-up; "a refusal gives 0"
 abbrev pub tossUpsIn : List ℕ → ℕ
-tossUpsIn bytes = tossUpsOf (padsOf bytes) (matrixOf (padsOf bytes) bytes)
+tossUpsIn bytes = tossUpsOf (matrixOf (padsOf bytes) bytes) (padsOf bytes)
 
 unfoldable pub tossesGiven : Outcome Packed → ℕ → ℕ
 tossesGiven (done f) tossed = tossed

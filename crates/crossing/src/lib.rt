@@ -39,9 +39,9 @@ pub struct QuickCheck {
 // Factors the n by n matrix a where it lies.
 fn factor_pads(n: usize, a: &mut [f64], swaps: &mut [usize]) -> Held
     requires { ⌜ (1 ≤ n) × (n ≤ 64) × (length (now a) ≡ n * n) × (allFinite (now a) ≡ true) × (length (now swaps) ≡ 128) ⌝ }
-    ensures { λ r. ⌜ factorsHeld r ≡ andThen (factorsOf n (now (a .entry))) (λ p. done (p .told, tossUpsOf n (now (a .entry)))) ⌝ }
-    ensures { λ _. ⌜ now (a .exit) ≡ settledIn (andThen (factorsOf n (now (a .entry))) (λ p. done (p .factors))) (now (a .entry)) ⌝ }
-    ensures { λ _. ⌜ now (swaps .exit) ≡ swapsLeft (factorsOf n (now (a .entry))) (now (swaps .entry)) ⌝ }
+    ensures { λ r. ⌜ factorsHeld r ≡ andThen (factorsOf (now (a .entry)) n) (λ p. done (p .told, tossUpsOf (now (a .entry)) n)) ⌝ }
+    ensures { λ _. ⌜ now (a .exit) ≡ settledIn (andThen (factorsOf (now (a .entry)) n) (λ p. done (p .factors))) (now (a .entry)) ⌝ }
+    ensures { λ _. ⌜ now (swaps .exit) ≡ swapsLeft (factorsOf (now (a .entry)) n) (now (swaps .entry)) ⌝ }
 {
     match lu::factor_mut(a, n, n, swaps) {
         Factored::Accepted { told, toss_ups } => Held::Factors { told, toss_ups },
@@ -102,9 +102,9 @@ fn solve_system(
 ) -> Order
     requires { ⌜ length (now x) ≡ told .rows ⌝ }
     ensures { λ r. ⌜ padsOrdered r
-        ≡ andThen (solutionBy transposed (packed told (now (factors .entry)) (now (swaps .entry))) (now (b .entry))) (λ _. done (told .rows, «toss_ups»)) ⌝ }
+        ≡ andThen (solutionBy transposed (packed (now (factors .entry)) (now (swaps .entry)) told) (now (b .entry))) (λ _. done (told .rows, «toss_ups»)) ⌝ }
     ensures { λ _. ⌜ now (x .exit)
-        ≡ settledIn (solutionBy transposed (packed told (now (factors .entry)) (now (swaps .entry))) (now (b .entry))) (now (x .entry)) ⌝ }
+        ≡ settledIn (solutionBy transposed (packed (now (factors .entry)) (now (swaps .entry)) told) (now (b .entry))) (now (x .entry)) ⌝ }
 {
     if transposed {
         order_for(
@@ -133,9 +133,9 @@ fn solve_front(
 ) -> Order
     requires { ⌜ (told .rows ≤ 64) × (length (now matrix) ≡ 4096) × (length (now b) ≡ 64) × (length (now x) ≡ 64) ⌝ }
     ensures { λ r. ⌜ padsOrdered r
-        ≡ andThen (solutionIn transposed told (now (matrix .entry)) (now (swaps .entry)) (now (b .entry))) (λ _. done (told .rows, «toss_ups»)) ⌝ }
+        ≡ andThen (solutionIn transposed (now (matrix .entry)) (now (swaps .entry)) told (now (b .entry))) (λ _. done (told .rows, «toss_ups»)) ⌝ }
     ensures { λ _. ⌜ now (x .exit)
-        ≡ fronted (told .rows) (solutionIn transposed told (now (matrix .entry)) (now (swaps .entry)) (now (b .entry))) (now (x .entry)) ⌝ }
+        ≡ fronted (told .rows) (solutionIn transposed (now (matrix .entry)) (now (swaps .entry)) told (now (b .entry))) (now (x .entry)) ⌝ }
 {
     let n = told.rows;
     let entries = n * n;
@@ -175,11 +175,11 @@ fn rank_loads(
     requires { ⌜ (1 ≤ told .rows) × (told .rows ≤ 64) × (length (now matrix) ≡ 4096) × (length (now readings) ≡ 64) ⌝ }
     requires { ⌜ (length (now ranks) ≡ 64) × (length (now loads) ≡ 64) ⌝ }
     ensures { λ r. ⌜ padsOrdered r
-        ≡ andThen (solutionIn false told (now (matrix .entry)) (now (swaps .entry)) (now (readings .entry))) (λ _. done (told .rows, «toss_ups»)) ⌝ }
+        ≡ andThen (solutionIn false (now (matrix .entry)) (now (swaps .entry)) told (now (readings .entry))) (λ _. done (told .rows, «toss_ups»)) ⌝ }
     ensures { λ _. ⌜ now (ranks .exit)
-        ≡ ranksLeft (told .rows) (solutionIn false told (now (matrix .entry)) (now (swaps .entry)) (now (readings .entry))) (now (ranks .entry)) ⌝ }
+        ≡ ranksLeft (told .rows) (solutionIn false (now (matrix .entry)) (now (swaps .entry)) told (now (readings .entry))) (now (ranks .entry)) ⌝ }
     ensures { λ _. ⌜ now (loads .exit)
-        ≡ fronted (told .rows) (solutionIn false told (now (matrix .entry)) (now (swaps .entry)) (now (readings .entry))) (now (loads .entry)) ⌝ }
+        ≡ fronted (told .rows) (solutionIn false (now (matrix .entry)) (now (swaps .entry)) told (now (readings .entry))) (now (loads .entry)) ⌝ }
 {
     match solve_front(false, matrix, swaps, told, toss_ups, readings, loads) {
         Order::Pads {
@@ -217,7 +217,7 @@ pub fn pad_order(file: &[u8], ranks: &mut [usize; 64], loads: &mut [f64; 64]) ->
 // The scaled determinant by the factors in front of their store, or the refusal handed on.
 fn determinant_of(matrix: &[f64], swaps: &[usize], told: Record) -> ScaledDet
     requires { ⌜ (told .rows ≤ 64) × (length (now matrix) ≡ 4096) ⌝ }
-    ensures { λ r. ⌜ scaledAnswer r ≡ scaledBy (packedIn told (now (matrix .entry)) (now (swaps .entry))) ⌝ }
+    ensures { λ r. ⌜ scaledAnswer r ≡ scaledBy (packedIn (now (matrix .entry)) (now (swaps .entry)) told) ⌝ }
     ensures { λ r. ⌜ AnswerRanged r ⌝ }
 {
     let n = told.rows;
@@ -264,9 +264,10 @@ fn move_pad(
 ) -> Order
     requires { ⌜ (1 ≤ pad) × (pad ≤ told .rows) × (told .rows ≤ 64) × (length (now matrix) ≡ 4096) × (length (now out) ≡ 64) ⌝ }
     ensures { λ r. ⌜ padsOrdered r ≡ andThen
-        (solutionBy true (packedIn told (now (matrix .entry)) (now (swaps .entry))) (unitColumn (told .rows) (pad - 1))) (λ _. done (told .rows, «toss_ups»)) ⌝ }
+        (solutionBy true (packedIn (now (matrix .entry)) (now (swaps .entry)) told) (unitColumn (told .rows) (pad - 1)))
+        (λ _. done (told .rows, «toss_ups»)) ⌝ }
     ensures { λ _. ⌜ now (out .exit) ≡ fronted (told .rows)
-        (solutionBy true (packedIn told (now (matrix .entry)) (now (swaps .entry))) (unitColumn (told .rows) (pad - 1))) (now (out .entry)) ⌝ }
+        (solutionBy true (packedIn (now (matrix .entry)) (now (swaps .entry)) told) (unitColumn (told .rows) (pad - 1))) (now (out .entry)) ⌝ }
 {
     let mut unit = [0.0f64; 64];
     unit[pad - 1] = 1.0;

@@ -66,7 +66,7 @@ module _ (m n : ℕ) (s : Column) where
       let past : length diagonals ≤ j = omega (arith, diagonals-length) in
       ap (deadFrom j) (drop-of-length-le diagonals past)
 
-  pub held-dead : isMatrix m n s ≡ true → deadOf m n s ≡ deadIn m (columns m n s)
+  pub held-dead : isMatrix s m n ≡ true → deadOf s m n ≡ deadIn m (columns m n s)
   unfolding deadOf
   held-dead e = rw e
 
@@ -115,6 +115,7 @@ unfolding deadIn
 dead-snoc m cs c e =
     test-cases (ltb (length cs) m)
     (λ t. let h = ltb-true (length cs) m t in
-    rw (take-all m (cs ++ c ∷ []) (omega (arith, length-append cs (c ∷ []))), take-all m cs (omega arith)) (from-snoc 0 cs c ∙ ap (λ (k : ℕ). deadFrom 0 cs + deadAt k c) (zero-add (length cs))))
+    rw (take-all m (cs ++ c ∷ []) (omega (arith, length-append cs (c ∷ []))), take-all m cs (omega arith))
+    (from-snoc 0 cs c ∙ ap (λ (k : ℕ). deadFrom 0 cs + deadAt k c) (zero-add (length cs))))
     (λ t. let h = ltb-false (length cs) m t in
     rw (take-append-le m cs (c ∷ []) h, past-last (length cs) c (omega arith)) (sym (add-zero _)))

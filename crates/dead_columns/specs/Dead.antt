@@ -27,5 +27,5 @@ unfoldable pub deadIn : ℕ → Matrix → ℕ
 deadIn m cs = deadFrom 0 (take m cs)
 
 -- of the m by n matrix that s holds; a slice that holds none has 0
-unfoldable pub deadOf : ℕ → ℕ → Column → ℕ
-deadOf m n s = cond (isMatrix m n s) (deadIn m (columns m n s)) 0
+unfoldable pub deadOf : Column → ℕ → ℕ → ℕ
+deadOf s m n = cond (isMatrix s m n) (deadIn m (columns m n s)) 0

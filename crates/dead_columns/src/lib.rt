@@ -22,7 +22,7 @@ pub fn dead_at(col: &[f64], j: usize) -> usize
 
 // The dead columns among the first min(m, n) of the m by n matrix s; 0 where s is no such matrix.
 pub fn dead_of(s: &[f64], m: usize, n: usize) -> usize
-    ensures { λ r. ⌜ r ≡ deadOf m n (now (s .entry)) ⌝ }
+    ensures { λ r. ⌜ r ≡ deadOf (now (s .entry)) m n ⌝ }
 {
     if !store::is_matrix(s, m, n) {
         return 0;

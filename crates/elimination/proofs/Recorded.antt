@@ -65,7 +65,7 @@ rising-few m k swaps no-steps = omega arith
 rising-few m k swaps (none-more {k = j} r) = let h = rising-few m j swaps r in omega arith
 rising-few m k swaps (one-more {k = j} {swaps = t} p lo hi r) = let h = rising-few m j t r in omega (arith, length-append t ((j, p) ∷ []))
 
-pub rising-good : (m k : ℕ) (swaps : Swaps) → k ≤ 64 → Rising m k swaps → goodList m k (length swaps) (storeOf swaps) ≡ true
+pub rising-good : (m k : ℕ) (swaps : Swaps) → k ≤ 64 → Rising m k swaps → goodList (storeOf swaps) (length swaps) m k ≡ true
 rising-good m k swaps h r =
     let few = rising-few m k swaps r in
     is-good m k (length swaps) (storeOf swaps)

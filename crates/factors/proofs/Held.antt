@@ -28,10 +28,10 @@ module _ (factors : Column) (store : List ℕ) (r : Record) (asks : Asks) where
     pub cols : Inside 0 (r .columns)
     pub sizes : asks .sizes ≡ true
     pub shape : (asks .square && not (eqb (r .rows) (r .columns))) ≡ false
-    pub matrix : isMatrix (r .rows) (r .columns) factors ≡ true
+    pub matrix : isMatrix factors (r .rows) (r .columns) ≡ true
     pub room : length store ≡ 128
     pub lengths : asks .lengths ≡ true
-    pub list : goodList (r .rows) (min (r .rows) (r .columns)) (r .pairs) store ≡ true
+    pub list : goodList store (r .pairs) (r .rows) (min (r .rows) (r .columns)) ≡ true
     pub list-asked : asks .list ≡ true
     pub finite : allFinite factors ≡ true
     pub numbers : asks .numbers ≡ true
@@ -49,9 +49,9 @@ module _ (factors : Column) (store : List ℕ) (r : Record) (asks : Asks) where
   passed e =
       let m = r .rows in
       let n = r .columns in
-      let fit = isMatrix m n factors in
+      let fit = isMatrix factors m n in
       let room = eqb (length store) 128 in
-      let good = goodList m (min m n) (r .pairs) store in
+      let good = goodList store (r .pairs) m (min m n) in
       let t = first-none (heldTests factors store r asks) numbered e in
       let sizes = neither (outside 1 m || outside 0 n) (not (asks .sizes)) (t .0) in
       let both = neither (outside 1 m) (outside 0 n) (sizes .0) in
@@ -101,16 +101,16 @@ module _ (factors : Column) (store : List ℕ) (r : Record) (asks : Asks) (is : 
   pub same : r .rows ≡ r .columns
   same = square-is (r .rows) (r .columns) (rw is at (p .shape))
 
-  pub square-matrix : isMatrix (r .rows) (r .rows) factors ≡ true
-  square-matrix = ap (λ (n : ℕ). isMatrix (r .rows) n factors) same ∙ p .matrix
+  pub square-matrix : isMatrix factors (r .rows) (r .rows) ≡ true
+  square-matrix = ap (λ (n : ℕ). isMatrix factors (r .rows) n) same ∙ p .matrix
 
-  pub square-list : goodList (r .rows) (r .rows) (r .pairs) store ≡ true
+  pub square-list : goodList store (r .pairs) (r .rows) (r .rows) ≡ true
   square-list =
       let least : r .rows ≡ min (r .rows) (r .columns) = let e = same in omega arith in
-      ap (λ (n : ℕ). goodList (r .rows) n (r .pairs) store) least ∙ p .list
+      ap (λ (n : ℕ). goodList store (r .pairs) (r .rows) n) least ∙ p .list
 
 -- a matrix has no more than 64 columns
-pub too-wide : (m n : ℕ) (s : Column) → 64 < n → isMatrix m n s ≡ false
+pub too-wide : (m n : ℕ) (s : Column) → 64 < n → isMatrix s m n ≡ false
 unfolding isMatrix
 too-wide m n s h = let more = lt-leb n 64 h in test-cases (leb m 64) (λ t. rw (t, more)) (λ t. rw t)
 

@@ -190,7 +190,7 @@ pub record Recorded (i p pairs now-pairs : ℕ) (was is : List ℕ) : Type 0 whe
   pub store : is ≡ cond (eqb p i) was (withPair pairs i p was)
 
 pub recorded : (i p pairs now-pairs : ℕ) (was is : List ℕ) → pairs < 64 → length was ≡ 128
-    → now-pairs ≡ pairsWith i p pairs was → is ≡ storeWith i p pairs was → Recorded i p pairs now-pairs was is
+    → now-pairs ≡ pairsWith was pairs i p → is ≡ storeWith was pairs i p → Recorded i p pairs now-pairs was is
 unfolding pairsWith storeWith takesPair
 recorded i p pairs now-pairs was is few room count store =
     let fits : ltb pairs (length was / 2) ≡ true = lt-ltb pairs (length was / 2) (rw room few) in

@@ -37,15 +37,15 @@ unfoldable pub written : Swaps → List ℕ → List ℕ
 written swaps store = numbersOf swaps ++ drop (2 * length swaps) store
 
 -- whether the pair (i, p) is recorded behind the pairs of a store: the two numbers differ, and there is room
-unfoldable pub takesPair : ℕ → ℕ → ℕ → List ℕ → Bool
-takesPair i p pairs store = not (eqb p i) && ltb pairs (length store / 2)
+unfoldable pub takesPair : List ℕ → ℕ → ℕ → ℕ → Bool
+takesPair store pairs i p = not (eqb p i) && ltb pairs (length store / 2)
 
 -- the number of pairs then, and the store
-unfoldable pub pairsWith : ℕ → ℕ → ℕ → List ℕ → ℕ
-pairsWith i p pairs store = cond (takesPair i p pairs store) (pairs + 1) pairs
+unfoldable pub pairsWith : List ℕ → ℕ → ℕ → ℕ → ℕ
+pairsWith store pairs i p = cond (takesPair store pairs i p) (pairs + 1) pairs
 
-unfoldable pub storeWith : ℕ → ℕ → ℕ → List ℕ → List ℕ
-storeWith i p pairs store = cond (takesPair i p pairs store) (withPair pairs i p store) store
+unfoldable pub storeWith : List ℕ → ℕ → ℕ → ℕ → List ℕ
+storeWith store pairs i p = cond (takesPair store pairs i p) (withPair pairs i p store) store
 
 -- ---- the record and the slices
 
@@ -58,8 +58,8 @@ abbrev pub recordFor : ℕ → ℕ → Factors → Record
 recordFor m n f = recordOf m n (length (f .swaps)) (deadIn m (f .columns))
 
 -- the factors that the slices hold: n columns of m entries, and that many pairs
-abbrev pub factorsIn : ℕ → ℕ → ℕ → Column → List ℕ → Factors
-factorsIn m n pairs s store = record { columns = columns m n s; swaps = pairsOf pairs store }
+abbrev pub factorsIn : Column → ℕ → ℕ → List ℕ → ℕ → Factors
+factorsIn s m n store pairs = record { columns = columns m n s; swaps = pairsOf pairs store }
 
 -- what the two slices hold
 pub record Slices : Type 0 where

@@ -16,7 +16,7 @@ use Rattle.factors.specs.declared.Asks.{Asks}
 
 -- document 02, request 7: "new 9, the number doesn't match, after 5 and before 6"; 6 goes by the number, which has been compared by then
 abbrev pub deadTests : Column → Record → Bool → List (ℕ × Bool)
-deadTests factors r solves = (9, not (eqb (r .dead) (deadOf (r .rows) (r .columns) factors))) ∷ (6, solves && not (eqb (r .dead) 0)) ∷ []
+deadTests factors r solves = (9, not (eqb (r .dead) (deadOf factors (r .rows) (r .columns)))) ∷ (6, solves && not (eqb (r .dead) 0)) ∷ []
 
 -- The tests 1 to 5, 9 and 6 in their order. What a call asks besides: that the matrix is square (2), that it can be solved (6), and that the call's further
 -- sizes, lengths and numbers, and what it asks of the list, are good (1, 3, 5 and 4).
@@ -24,8 +24,8 @@ abbrev pub heldTests : Column → List ℕ → Record → Asks → List (ℕ × 
 heldTests factors store r asks =
     (1, outside 1 (r .rows) || outside 0 (r .columns) || not (asks .sizes))
     ∷ (2, asks .square && not (eqb (r .rows) (r .columns)))
-    ∷ (3, not (isMatrix (r .rows) (r .columns) factors && eqb (length store) 128 && asks .lengths))
-    ∷ (4, not (goodList (r .rows) (min (r .rows) (r .columns)) (r .pairs) store && asks .list))
+    ∷ (3, not (isMatrix factors (r .rows) (r .columns) && eqb (length store) 128 && asks .lengths))
+    ∷ (4, not (goodList store (r .pairs) (r .rows) (min (r .rows) (r .columns)) && asks .list))
     ∷ (5, not (allFinite factors && asks .numbers))
     ∷ deadTests factors r (asks .solves)
 

@@ -65,8 +65,8 @@ pub fn count(holds: bool) -> usize
 
 // Records the swap of the rows i and piv behind the pairs, unless the two are one or the store is full. Answers the number of pairs.
 pub fn record_swap(swaps: &mut [usize], pairs: usize, i: usize, piv: usize) -> usize
-    ensures { λ r. ⌜ r ≡ pairsWith i piv pairs (now (swaps .entry)) ⌝ }
-    ensures { λ _. ⌜ now (swaps .exit) ≡ storeWith i piv pairs (now (swaps .entry)) ⌝ }
+    ensures { λ r. ⌜ r ≡ pairsWith (now (swaps .entry)) pairs i piv ⌝ }
+    ensures { λ _. ⌜ now (swaps .exit) ≡ storeWith (now (swaps .entry)) pairs i piv ⌝ }
 {
     if piv == i {
         return pairs;

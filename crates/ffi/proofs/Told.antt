@@ -39,7 +39,8 @@ use Rattle.ffi.specs.Exports.{valueAfter, resultAfter, padsIn, countIn}
 
 -- ---- factoring, whose outcome with its toss-ups is o
 module _ (made : Factored) (o : Outcome (Record × ℕ)) (e : factored made ≡ o) where
-  pub factored-told : (told : Record) (own : ℕ) → made ≡ Factors told own → (0 ≡ numberOf o) × ((told .pairs ≡ pairsIn o) × ((told .dead ≡ deadColumnsIn o) × (own ≡ tossedIn o)))
+  pub factored-told : (told : Record) (own : ℕ) → made ≡ Factors told own → (0 ≡ numberOf o) ×
+      ((told .pairs ≡ pairsIn o) × ((told .dead ≡ deadColumnsIn o) × (own ≡ tossedIn o)))
   unfolding factored numberOf pairsIn deadColumnsIn tossedIn
   factored-told told own is = rw (sym e ∙ ap factored is) (refl, (refl, (refl, refl)))
 

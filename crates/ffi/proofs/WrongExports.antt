@@ -82,8 +82,8 @@ noStore = record { m = 1; n = 0; pairs = 1; dead = 1; first = []; second = []; s
 
 abbrev factors : Lent → Given
 factors x =
-    let answer = factoringAnswer (x .m) (x .n) (x .first) (x .second) (x .store) in
-    givenOf answer (factoring (x .m) (x .n) (x .first) (x .second) (x .store) .left) (pairsIn answer) (deadColumnsIn answer)
+    let answer = factoringAnswer (x .first) (x .m) (x .n) (x .second) (x .store) in
+    givenOf answer (factoring (x .first) (x .m) (x .n) (x .second) (x .store) .left) (pairsIn answer) (deadColumnsIn answer)
 
 -- the pairs, or the dead columns, as they were, where it is refused
 abbrev pairs-left : Lent → Given
@@ -102,8 +102,8 @@ wejdarox-factor = (
 abbrev adds : Lent → Given
 adds x =
     let r = recordOf (x .m) (x .n) (x .pairs) (x .dead) in
-    let o = adding r (x .first) (x .second) (x .store) in
-    givenOf (addingAnswer r (x .first) (x .second) (x .store)) (o .left) (recordAfter r (o .answer) .pairs) (recordAfter r (o .answer) .dead)
+    let o = adding (x .first) (x .second) (x .store) r in
+    givenOf (addingAnswer (x .first) (x .second) (x .store) r) (o .left) (recordAfter r (o .answer) .pairs) (recordAfter r (o .answer) .dead)
 
 -- no pairs, or no dead columns, whatever there were
 abbrev pairs-lost : Lent → Given
@@ -135,7 +135,7 @@ abbrev numbered : Call (Unit {0}) Column → ℕ × Column
 numbered o = (numberOf (o .answer), o .left)
 
 abbrev solves : Record × (Column × (List ℕ × (ℕ × (Column × Column)))) → ℕ × Column
-solves x = numbered (solving (x .0) (x .1 .0) (x .1 .1 .0) (x .1 .1 .1 .0) (x .1 .1 .1 .1 .0) (x .1 .1 .1 .1 .1))
+solves x = numbered (solving (x .1 .0) (x .1 .1 .0) (x .0) (x .1 .1 .1 .1 .0) (x .1 .1 .1 .0) (x .1 .1 .1 .1 .1))
 
 pub wejdarox-solve : TwoShutOut solves (λ x. solves (swapped (x .0), x .1))
 unfolding refuses
@@ -145,7 +145,7 @@ wejdarox-solve =
     (λ d. omega (arith, ap (λ (o : ℕ × Column). o .0) d)) (λ d. omega (arith, ap (λ (o : ℕ × Column). o .0) d))
 
 abbrev inverts : Record × (Column × (List ℕ × Column)) → ℕ × Column
-inverts x = numbered (inverting (x .0) (x .1 .0) (x .1 .1 .0) (x .1 .1 .1))
+inverts x = numbered (inverting (x .1 .0) (x .1 .1 .0) (x .0) (x .1 .1 .1))
 
 pub wejdarox-inverse : TwoShutOut inverts (λ x. inverts (swapped (x .0), x .1))
 unfolding refuses
@@ -155,7 +155,7 @@ wejdarox-inverse =
 
 -- the determinant, where a number stood before: +0.0 for every refusal
 abbrev determines : Record × (Column × (List ℕ × Float)) → ℕ × Float
-determines x = let o = determining (x .0) (x .1 .0) (x .1 .1 .0) in (numberOf o, resultAfter zero64 o (x .1 .1 .1))
+determines x = let o = determining (x .1 .0) (x .1 .1 .0) (x .0) in (numberOf o, resultAfter zero64 o (x .1 .1 .1))
 
 abbrev zeroed : Record × (Column × (List ℕ × Float)) → ℕ × Float
 zeroed x = (determines x .0, n0)
@@ -171,7 +171,7 @@ wejdarox-determinant =
 
 -- the scaled determinant, where a significand and an exponent stood before: +0.0 with 0 for every refusal
 abbrev scales : Record × (Column × (List ℕ × Scaled)) → ℕ × Scaled
-scales x = let o = scaling (x .0) (x .1 .0) (x .1 .1 .0) in (numberOf o, valueAfter o (x .1 .1 .1))
+scales x = let o = scaling (x .1 .0) (x .1 .1 .0) (x .0) in (numberOf o, valueAfter o (x .1 .1 .1))
 
 abbrev nothingLeft : Record × (Column × (List ℕ × Scaled)) → ℕ × Scaled
 nothingLeft x = (scales x .0, vanished)
@@ -191,7 +191,7 @@ wejdarox-scaled-determinant =
 
 -- the invertible test, where a truth stood before: false for every refusal
 abbrev tests : Record × (Column × (List ℕ × Bool)) → ℕ × Bool
-tests x = let o = inverseTest (x .0) (x .1 .0) (x .1 .1 .0) in (numberOf o, valueAfter o (x .1 .1 .1))
+tests x = let o = inverseTest (x .1 .0) (x .1 .1 .0) (x .0) in (numberOf o, valueAfter o (x .1 .1 .1))
 
 abbrev denied : Record × (Column × (List ℕ × Bool)) → ℕ × Bool
 denied x = (tests x .0, false)
@@ -211,7 +211,7 @@ pub record Counted : Type 0 where
 module _ (choice : Column → Choice) where
   abbrev ranks : ℕ × (Column × List ℕ) → Counted
   ranks x =
-      let o = ranking (choice (x .1 .0)) (x .0) (x .1 .0) (x .1 .1) in record { number = numberOf (o .answer); count = countIn (o .answer); left = o .left }
+      let o = ranking (choice (x .1 .0)) (x .1 .0) (x .0) (x .1 .1) in record { number = numberOf (o .answer); count = countIn (o .answer); left = o .left }
 
   abbrev sizeTold : ℕ × (Column × List ℕ) → Counted
   sizeTold x = record { number = ranks x .number; count = x .0; left = ranks x .left }
@@ -299,7 +299,7 @@ wejdarox-with-file =
 -- ---- why: the number that is told and its place; the sizes exchanged
 
 abbrev whyFactors : ℕ × (ℕ × (Column × (Column × List ℕ))) → ℕ × Place
-whyFactors x = let t = explainFactoring (x .0) (x .1 .0) (x .1 .1 .0) (x .1 .1 .1 .0) (x .1 .1 .1 .1) in (t .number, placeTold t)
+whyFactors x = let t = explainFactoring (x .1 .1 .0) (x .0) (x .1 .0) (x .1 .1 .1 .0) (x .1 .1 .1 .1) in (t .number, placeTold t)
 
 abbrev exchangedSizes : ℕ × (ℕ × (Column × (Column × List ℕ))) → ℕ × Place
 exchangedSizes x = whyFactors (x .1 .0, (x .0, x .1 .1))
@@ -312,7 +312,7 @@ wejdarox-why-factor =
 
 abbrev whySolves : Record × (Column × (List ℕ × (ℕ × (Column × Column)))) → ℕ × Spot
 whySolves x =
-    let t = explainSolving (x .0) (x .1 .0) (x .1 .1 .0) (x .1 .1 .1 .0) (x .1 .1 .1 .1 .0) (x .1 .1 .1 .1 .1) in
+    let t = explainSolving (x .1 .0) (x .1 .1 .0) (x .0) (x .1 .1 .1 .1 .0) (x .1 .1 .1 .0) (x .1 .1 .1 .1 .1) in
     (t .number, spotTold t)
 
 pub wejdarox-why-solve : TwoShutOut whySolves (λ x. whySolves (swapped (x .0), x .1))

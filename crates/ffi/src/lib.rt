@@ -40,12 +40,12 @@ pub extern "C" fn wejdarox_factor(
     dead: &mut usize,
     toss_ups: &mut usize,
 ) -> usize
-    ensures { λ r. ⌜ r ≡ numberOf (factoringAnswer m n (now (a .entry)) (now (factors .entry)) (now (swaps .entry))) ⌝ }
-    ensures { λ _. ⌜ now (factors .exit) ≡ factoring m n (now (a .entry)) (now (factors .entry)) (now (swaps .entry)) .left .factors ⌝ }
-    ensures { λ _. ⌜ now (swaps .exit) ≡ factoring m n (now (a .entry)) (now (factors .entry)) (now (swaps .entry)) .left .store ⌝ }
-    ensures { λ _. ⌜ now (pairs .exit) ≡ pairsIn (factoringAnswer m n (now (a .entry)) (now (factors .entry)) (now (swaps .entry))) ⌝ }
-    ensures { λ _. ⌜ now (dead .exit) ≡ deadColumnsIn (factoringAnswer m n (now (a .entry)) (now (factors .entry)) (now (swaps .entry))) ⌝ }
-    ensures { λ _. ⌜ now («toss_ups» .exit) ≡ tossedIn (factoringAnswer m n (now (a .entry)) (now (factors .entry)) (now (swaps .entry))) ⌝ }
+    ensures { λ r. ⌜ r ≡ numberOf (factoringAnswer (now (a .entry)) m n (now (factors .entry)) (now (swaps .entry))) ⌝ }
+    ensures { λ _. ⌜ now (factors .exit) ≡ factoring (now (a .entry)) m n (now (factors .entry)) (now (swaps .entry)) .left .factors ⌝ }
+    ensures { λ _. ⌜ now (swaps .exit) ≡ factoring (now (a .entry)) m n (now (factors .entry)) (now (swaps .entry)) .left .store ⌝ }
+    ensures { λ _. ⌜ now (pairs .exit) ≡ pairsIn (factoringAnswer (now (a .entry)) m n (now (factors .entry)) (now (swaps .entry))) ⌝ }
+    ensures { λ _. ⌜ now (dead .exit) ≡ deadColumnsIn (factoringAnswer (now (a .entry)) m n (now (factors .entry)) (now (swaps .entry))) ⌝ }
+    ensures { λ _. ⌜ now («toss_ups» .exit) ≡ tossedIn (factoringAnswer (now (a .entry)) m n (now (factors .entry)) (now (swaps .entry))) ⌝ }
 {
     match lu::factor(a, m, n, factors, swaps) {
         Factored::Accepted {
@@ -78,19 +78,20 @@ pub extern "C" fn wejdarox_add_column(
     dead: &mut usize,
     toss_ups: &mut usize,
 ) -> usize
-    ensures { λ r. ⌜ r ≡ numberOf (addingAnswer (recordOf m n (now (pairs .entry)) (now (dead .entry))) (now (factors .entry)) (now (column .entry)) (now (swaps .entry))) ⌝ }
+    ensures { λ r. ⌜ r ≡ numberOf (addingAnswer (now (factors .entry)) (now (column .entry)) (now (swaps .entry))
+        (recordOf m n (now (pairs .entry)) (now (dead .entry)))) ⌝ }
     ensures { λ _. ⌜ now (factors .exit)
-        ≡ adding (recordOf m n (now (pairs .entry)) (now (dead .entry))) (now (factors .entry)) (now (column .entry)) (now (swaps .entry)) .left .factors ⌝ }
+        ≡ adding (now (factors .entry)) (now (column .entry)) (now (swaps .entry)) (recordOf m n (now (pairs .entry)) (now (dead .entry))) .left .factors ⌝ }
     ensures { λ _. ⌜ now (swaps .exit)
-        ≡ adding (recordOf m n (now (pairs .entry)) (now (dead .entry))) (now (factors .entry)) (now (column .entry)) (now (swaps .entry)) .left .store ⌝ }
+        ≡ adding (now (factors .entry)) (now (column .entry)) (now (swaps .entry)) (recordOf m n (now (pairs .entry)) (now (dead .entry))) .left .store ⌝ }
     ensures { λ _. ⌜ now (pairs .exit)
         ≡ recordAfter (recordOf m n (now (pairs .entry)) (now (dead .entry)))
-        (adding (recordOf m n (now (pairs .entry)) (now (dead .entry))) (now (factors .entry)) (now (column .entry)) (now (swaps .entry)) .answer) .pairs ⌝ }
+        (adding (now (factors .entry)) (now (column .entry)) (now (swaps .entry)) (recordOf m n (now (pairs .entry)) (now (dead .entry))) .answer) .pairs ⌝ }
     ensures { λ _. ⌜ now (dead .exit)
         ≡ recordAfter (recordOf m n (now (pairs .entry)) (now (dead .entry)))
-        (adding (recordOf m n (now (pairs .entry)) (now (dead .entry))) (now (factors .entry)) (now (column .entry)) (now (swaps .entry)) .answer) .dead ⌝ }
+        (adding (now (factors .entry)) (now (column .entry)) (now (swaps .entry)) (recordOf m n (now (pairs .entry)) (now (dead .entry))) .answer) .dead ⌝ }
     ensures { λ _. ⌜ now («toss_ups» .exit)
-        ≡ tossedIn (addingAnswer (recordOf m n (now (pairs .entry)) (now (dead .entry))) (now (factors .entry)) (now (column .entry)) (now (swaps .entry))) ⌝ }
+        ≡ tossedIn (addingAnswer (now (factors .entry)) (now (column .entry)) (now (swaps .entry)) (recordOf m n (now (pairs .entry)) (now (dead .entry)))) ⌝ }
 {
     let was = *pairs;
     let died = *dead;
@@ -130,8 +131,9 @@ pub extern "C" fn wejdarox_solve(
     k: usize,
     x: &mut [f64],
 ) -> usize
-    ensures { λ r. ⌜ r ≡ numberOf (solving (recordOf m n pairs dead) (now (factors .entry)) (now (swaps .entry)) k (now (b .entry)) (now (x .entry)) .answer) ⌝ }
-    ensures { λ _. ⌜ now (x .exit) ≡ solving (recordOf m n pairs dead) (now (factors .entry)) (now (swaps .entry)) k (now (b .entry)) (now (x .entry)) .left ⌝ }
+    ensures { λ r. ⌜ r ≡ numberOf (solving (now (factors .entry)) (now (swaps .entry)) (recordOf m n pairs dead) (now (b .entry)) k
+        (now (x .entry)) .answer) ⌝ }
+    ensures { λ _. ⌜ now (x .exit) ≡ solving (now (factors .entry)) (now (swaps .entry)) (recordOf m n pairs dead) (now (b .entry)) k (now (x .entry)) .left ⌝ }
 {
     let told = Record {
         rows: m,
@@ -153,8 +155,8 @@ pub extern "C" fn wejdarox_inverse(
     dead: usize,
     x: &mut [f64],
 ) -> usize
-    ensures { λ r. ⌜ r ≡ numberOf (inverting (recordOf m n pairs dead) (now (factors .entry)) (now (swaps .entry)) (now (x .entry)) .answer) ⌝ }
-    ensures { λ _. ⌜ now (x .exit) ≡ inverting (recordOf m n pairs dead) (now (factors .entry)) (now (swaps .entry)) (now (x .entry)) .left ⌝ }
+    ensures { λ r. ⌜ r ≡ numberOf (inverting (now (factors .entry)) (now (swaps .entry)) (recordOf m n pairs dead) (now (x .entry)) .answer) ⌝ }
+    ensures { λ _. ⌜ now (x .exit) ≡ inverting (now (factors .entry)) (now (swaps .entry)) (recordOf m n pairs dead) (now (x .entry)) .left ⌝ }
 {
     let told = Record {
         rows: m,
@@ -176,8 +178,9 @@ pub extern "C" fn wejdarox_determinant(
     dead: usize,
     value: &mut f64,
 ) -> usize
-    ensures { λ r. ⌜ r ≡ numberOf (determining (recordOf m n pairs dead) (now (factors .entry)) (now (swaps .entry))) ⌝ }
-    ensures { λ _. ⌜ now (value .exit) ≡ resultAfter zero64 (determining (recordOf m n pairs dead) (now (factors .entry)) (now (swaps .entry))) (now (value .entry)) ⌝ }
+    ensures { λ r. ⌜ r ≡ numberOf (determining (now (factors .entry)) (now (swaps .entry)) (recordOf m n pairs dead)) ⌝ }
+    ensures { λ _. ⌜ now (value .exit) ≡ resultAfter zero64 (determining (now (factors .entry)) (now (swaps .entry)) (recordOf m n pairs dead))
+        (now (value .entry)) ⌝ }
 {
     let told = Record {
         rows: m,
@@ -211,12 +214,12 @@ pub extern "C" fn wejdarox_scaled_determinant(
     significand: &mut f64,
     exponent: &mut i32,
 ) -> usize
-    ensures { λ r. ⌜ r ≡ numberOf (scaling (recordOf m n pairs dead) (now (factors .entry)) (now (swaps .entry))) ⌝ }
+    ensures { λ r. ⌜ r ≡ numberOf (scaling (now (factors .entry)) (now (swaps .entry)) (recordOf m n pairs dead)) ⌝ }
     ensures { λ _. ⌜ now (significand .exit)
-        ≡ valueAfter (scaling (recordOf m n pairs dead) (now (factors .entry)) (now (swaps .entry)))
+        ≡ valueAfter (scaling (now (factors .entry)) (now (swaps .entry)) (recordOf m n pairs dead))
         (scaled (now (significand .entry)) (now (exponent .entry))) .significand ⌝ }
     ensures { λ _. ⌜ now (exponent .exit)
-        ≡ valueAfter (scaling (recordOf m n pairs dead) (now (factors .entry)) (now (swaps .entry)))
+        ≡ valueAfter (scaling (now (factors .entry)) (now (swaps .entry)) (recordOf m n pairs dead))
         (scaled (now (significand .entry)) (now (exponent .entry))) .exponent ⌝ }
 {
     let told = Record {
@@ -247,9 +250,9 @@ pub extern "C" fn wejdarox_is_invertible(
     dead: usize,
     invertible: &mut bool,
 ) -> usize
-    ensures { λ r. ⌜ r ≡ numberOf (inverseTest (recordOf m n pairs dead) (now (factors .entry)) (now (swaps .entry))) ⌝ }
+    ensures { λ r. ⌜ r ≡ numberOf (inverseTest (now (factors .entry)) (now (swaps .entry)) (recordOf m n pairs dead)) ⌝ }
     ensures { λ _. ⌜ now (invertible .exit)
-        ≡ valueAfter (inverseTest (recordOf m n pairs dead) (now (factors .entry)) (now (swaps .entry))) (now (invertible .entry)) ⌝ }
+        ≡ valueAfter (inverseTest (now (factors .entry)) (now (swaps .entry)) (recordOf m n pairs dead)) (now (invertible .entry)) ⌝ }
 {
     let told = Record {
         rows: m,
@@ -291,9 +294,9 @@ pub extern "C" fn wejdarox_rank(
     ranks: &mut [usize],
     count: &mut usize,
 ) -> usize
-    ensures { λ r. ⌜ r ≡ numberOf (ranking (loaded (now (loads .entry))) n (now (loads .entry)) (now (ranks .entry)) .answer) ⌝ }
-    ensures { λ _. ⌜ now (ranks .exit) ≡ ranking (loaded (now (loads .entry))) n (now (loads .entry)) (now (ranks .entry)) .left ⌝ }
-    ensures { λ _. ⌜ now (count .exit) ≡ countIn (ranking (loaded (now (loads .entry))) n (now (loads .entry)) (now (ranks .entry)) .answer) ⌝ }
+    ensures { λ r. ⌜ r ≡ numberOf (ranking (loaded (now (loads .entry))) (now (loads .entry)) n (now (ranks .entry)) .answer) ⌝ }
+    ensures { λ _. ⌜ now (ranks .exit) ≡ ranking (loaded (now (loads .entry))) (now (loads .entry)) n (now (ranks .entry)) .left ⌝ }
+    ensures { λ _. ⌜ now (count .exit) ≡ countIn (ranking (loaded (now (loads .entry))) (now (loads .entry)) n (now (ranks .entry)) .answer) ⌝ }
 {
     tell_count(ranking::rank(loads, n, ranks), count)
 }
@@ -306,9 +309,9 @@ pub extern "C" fn wejdarox_rank_all(
     ranks: &mut [usize],
     count: &mut usize,
 ) -> usize
-    ensures { λ r. ⌜ r ≡ numberOf (ranking everyPad n (now (loads .entry)) (now (ranks .entry)) .answer) ⌝ }
-    ensures { λ _. ⌜ now (ranks .exit) ≡ ranking everyPad n (now (loads .entry)) (now (ranks .entry)) .left ⌝ }
-    ensures { λ _. ⌜ now (count .exit) ≡ countIn (ranking everyPad n (now (loads .entry)) (now (ranks .entry)) .answer) ⌝ }
+    ensures { λ r. ⌜ r ≡ numberOf (ranking everyPad (now (loads .entry)) n (now (ranks .entry)) .answer) ⌝ }
+    ensures { λ _. ⌜ now (ranks .exit) ≡ ranking everyPad (now (loads .entry)) n (now (ranks .entry)) .left ⌝ }
+    ensures { λ _. ⌜ now (count .exit) ≡ countIn (ranking everyPad (now (loads .entry)) n (now (ranks .entry)) .answer) ⌝ }
 {
     tell_count(ranking::rank_all(loads, n, ranks), count)
 }

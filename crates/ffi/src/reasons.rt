@@ -81,12 +81,12 @@ pub extern "C" fn wejdarox_why_factor(
     column: &mut usize,
     row: &mut usize,
 ) -> usize
-    ensures { λ r. ⌜ r ≡ explainFactoring m n (now (a .entry)) (now (factors .entry)) (now (swaps .entry)) .number ⌝ }
-    ensures { λ _. ⌜ now (factors .exit) ≡ factoring m n (now (a .entry)) (now (factors .entry)) (now (swaps .entry)) .left .factors ⌝ }
-    ensures { λ _. ⌜ now (swaps .exit) ≡ factoring m n (now (a .entry)) (now (factors .entry)) (now (swaps .entry)) .left .store ⌝ }
-    ensures { λ _. ⌜ now (step .exit) ≡ placeTold (explainFactoring m n (now (a .entry)) (now (factors .entry)) (now (swaps .entry))) .step ⌝ }
-    ensures { λ _. ⌜ now (column .exit) ≡ placeTold (explainFactoring m n (now (a .entry)) (now (factors .entry)) (now (swaps .entry))) .column ⌝ }
-    ensures { λ _. ⌜ now (row .exit) ≡ placeTold (explainFactoring m n (now (a .entry)) (now (factors .entry)) (now (swaps .entry))) .row ⌝ }
+    ensures { λ r. ⌜ r ≡ explainFactoring (now (a .entry)) m n (now (factors .entry)) (now (swaps .entry)) .number ⌝ }
+    ensures { λ _. ⌜ now (factors .exit) ≡ factoring (now (a .entry)) m n (now (factors .entry)) (now (swaps .entry)) .left .factors ⌝ }
+    ensures { λ _. ⌜ now (swaps .exit) ≡ factoring (now (a .entry)) m n (now (factors .entry)) (now (swaps .entry)) .left .store ⌝ }
+    ensures { λ _. ⌜ now (step .exit) ≡ placeTold (explainFactoring (now (a .entry)) m n (now (factors .entry)) (now (swaps .entry))) .step ⌝ }
+    ensures { λ _. ⌜ now (column .exit) ≡ placeTold (explainFactoring (now (a .entry)) m n (now (factors .entry)) (now (swaps .entry))) .column ⌝ }
+    ensures { λ _. ⌜ now (row .exit) ≡ placeTold (explainFactoring (now (a .entry)) m n (now (factors .entry)) (now (swaps .entry))) .row ⌝ }
 {
     let reason = of_factoring(why::why_factor(a, m, n, factors, swaps));
     *step = reason.first;
@@ -111,14 +111,14 @@ pub extern "C" fn wejdarox_why_solve(
     column: &mut usize,
     row: &mut usize,
 ) -> usize
-    ensures { λ r. ⌜ r ≡ explainSolving (recordOf m n pairs dead) (now (factors .entry)) (now (swaps .entry)) k (now (b .entry)) (now (x .entry)) .number ⌝ }
-    ensures { λ _. ⌜ now (x .exit) ≡ solving (recordOf m n pairs dead) (now (factors .entry)) (now (swaps .entry)) k (now (b .entry)) (now (x .entry)) .left ⌝ }
+    ensures { λ r. ⌜ r ≡ explainSolving (now (factors .entry)) (now (swaps .entry)) (recordOf m n pairs dead) (now (b .entry)) k (now (x .entry)) .number ⌝ }
+    ensures { λ _. ⌜ now (x .exit) ≡ solving (now (factors .entry)) (now (swaps .entry)) (recordOf m n pairs dead) (now (b .entry)) k (now (x .entry)) .left ⌝ }
     ensures { λ _. ⌜ now (pass .exit)
-        ≡ spotTold (explainSolving (recordOf m n pairs dead) (now (factors .entry)) (now (swaps .entry)) k (now (b .entry)) (now (x .entry))) .pass ⌝ }
+        ≡ spotTold (explainSolving (now (factors .entry)) (now (swaps .entry)) (recordOf m n pairs dead) (now (b .entry)) k (now (x .entry))) .pass ⌝ }
     ensures { λ _. ⌜ now (column .exit)
-        ≡ spotTold (explainSolving (recordOf m n pairs dead) (now (factors .entry)) (now (swaps .entry)) k (now (b .entry)) (now (x .entry))) .column ⌝ }
+        ≡ spotTold (explainSolving (now (factors .entry)) (now (swaps .entry)) (recordOf m n pairs dead) (now (b .entry)) k (now (x .entry))) .column ⌝ }
     ensures { λ _. ⌜ now (row .exit)
-        ≡ spotTold (explainSolving (recordOf m n pairs dead) (now (factors .entry)) (now (swaps .entry)) k (now (b .entry)) (now (x .entry))) .row ⌝ }
+        ≡ spotTold (explainSolving (now (factors .entry)) (now (swaps .entry)) (recordOf m n pairs dead) (now (b .entry)) k (now (x .entry))) .row ⌝ }
 {
     let told = Record {
         rows: m,

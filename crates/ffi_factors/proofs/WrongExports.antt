@@ -31,7 +31,7 @@ pub record Given : Type 0 where
 
 abbrev removes : Record × (Column × List ℕ) → Given
 removes x =
-    let o = removing (x .0) (x .1 .0) (x .1 .1) in
+    let o = removing (x .1 .0) (x .1 .1) (x .0) in
     let after = recordAfter (x .0) (o .answer) in
     record { number = numberOf (o .answer); factors = o .left .factors; store = o .left .store; pairs = after .pairs; dead = after .dead }
 
@@ -63,7 +63,7 @@ abbrev numbered : Call (Unit {0}) Column → ℕ × Column
 numbered o = (numberOf (o .answer), o .left)
 
 abbrev lowers : Record × (Column × (List ℕ × Column)) → ℕ × Column
-lowers x = numbered (lowering (x .0) (x .1 .0) (x .1 .1 .0) (x .1 .1 .1))
+lowers x = numbered (lowering (x .1 .0) (x .1 .1 .0) (x .0) (x .1 .1 .1))
 
 pub wejdarox-l : TwoShutOut lowers (λ x. lowers (swapped (x .0), x .1))
 unfolding refuses
@@ -72,7 +72,7 @@ wejdarox-l =
     (λ d. omega (arith, ap (λ (o : ℕ × Column). o .0) d)) (λ d. omega (arith, ap (λ (o : ℕ × Column). o .0) d))
 
 abbrev uppers : Record × (Column × (List ℕ × Column)) → ℕ × Column
-uppers x = numbered (uppering (x .0) (x .1 .0) (x .1 .1 .0) (x .1 .1 .1))
+uppers x = numbered (uppering (x .1 .0) (x .1 .1 .0) (x .0) (x .1 .1 .1))
 
 pub wejdarox-u : TwoShutOut uppers (λ x. uppers (swapped (x .0), x .1))
 unfolding refuses
@@ -81,7 +81,7 @@ wejdarox-u =
     (λ d. omega (arith, ap (λ (o : ℕ × Column). o .0) d)) (λ d. omega (arith, ap (λ (o : ℕ × Column). o .0) d))
 
 abbrev trSolves : Record × (Column × (List ℕ × (ℕ × (Column × Column)))) → ℕ × Column
-trSolves x = numbered (trSolving (x .0) (x .1 .0) (x .1 .1 .0) (x .1 .1 .1 .0) (x .1 .1 .1 .1 .0) (x .1 .1 .1 .1 .1))
+trSolves x = numbered (trSolving (x .1 .0) (x .1 .1 .0) (x .0) (x .1 .1 .1 .1 .0) (x .1 .1 .1 .0) (x .1 .1 .1 .1 .1))
 
 pub wejdarox-tr-solve : TwoShutOut trSolves (λ x. trSolves (swapped (x .0), x .1))
 unfolding refuses

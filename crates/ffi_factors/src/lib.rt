@@ -21,17 +21,17 @@ pub extern "C" fn wejdarox_remove_column(
     pairs: &mut usize,
     dead: &mut usize,
 ) -> usize
-    ensures { λ r. ⌜ r ≡ numberOf (removing (recordOf m n (now (pairs .entry)) (now (dead .entry))) (now (factors .entry)) (now (swaps .entry)) .answer) ⌝ }
+    ensures { λ r. ⌜ r ≡ numberOf (removing (now (factors .entry)) (now (swaps .entry)) (recordOf m n (now (pairs .entry)) (now (dead .entry))) .answer) ⌝ }
     ensures { λ _. ⌜ now (factors .exit)
-        ≡ removing (recordOf m n (now (pairs .entry)) (now (dead .entry))) (now (factors .entry)) (now (swaps .entry)) .left .factors ⌝ }
+        ≡ removing (now (factors .entry)) (now (swaps .entry)) (recordOf m n (now (pairs .entry)) (now (dead .entry))) .left .factors ⌝ }
     ensures { λ _. ⌜ now (swaps .exit)
-        ≡ removing (recordOf m n (now (pairs .entry)) (now (dead .entry))) (now (factors .entry)) (now (swaps .entry)) .left .store ⌝ }
+        ≡ removing (now (factors .entry)) (now (swaps .entry)) (recordOf m n (now (pairs .entry)) (now (dead .entry))) .left .store ⌝ }
     ensures { λ _. ⌜ now (pairs .exit)
         ≡ recordAfter (recordOf m n (now (pairs .entry)) (now (dead .entry)))
-        (removing (recordOf m n (now (pairs .entry)) (now (dead .entry))) (now (factors .entry)) (now (swaps .entry)) .answer) .pairs ⌝ }
+        (removing (now (factors .entry)) (now (swaps .entry)) (recordOf m n (now (pairs .entry)) (now (dead .entry))) .answer) .pairs ⌝ }
     ensures { λ _. ⌜ now (dead .exit)
         ≡ recordAfter (recordOf m n (now (pairs .entry)) (now (dead .entry)))
-        (removing (recordOf m n (now (pairs .entry)) (now (dead .entry))) (now (factors .entry)) (now (swaps .entry)) .answer) .dead ⌝ }
+        (removing (now (factors .entry)) (now (swaps .entry)) (recordOf m n (now (pairs .entry)) (now (dead .entry))) .answer) .dead ⌝ }
 {
     let was = *pairs;
     let died = *dead;
@@ -63,12 +63,12 @@ pub extern "C" fn wejdarox_build_up(
     dead: &mut usize,
     toss_ups: &mut usize,
 ) -> usize
-    ensures { λ r. ⌜ r ≡ numberOf (factoringAnswer m n (now (a .entry)) (now (factors .entry)) (now (swaps .entry))) ⌝ }
-    ensures { λ _. ⌜ now (factors .exit) ≡ factoring m n (now (a .entry)) (now (factors .entry)) (now (swaps .entry)) .left .factors ⌝ }
-    ensures { λ _. ⌜ now (swaps .exit) ≡ factoring m n (now (a .entry)) (now (factors .entry)) (now (swaps .entry)) .left .store ⌝ }
-    ensures { λ _. ⌜ now (pairs .exit) ≡ pairsIn (factoringAnswer m n (now (a .entry)) (now (factors .entry)) (now (swaps .entry))) ⌝ }
-    ensures { λ _. ⌜ now (dead .exit) ≡ deadColumnsIn (factoringAnswer m n (now (a .entry)) (now (factors .entry)) (now (swaps .entry))) ⌝ }
-    ensures { λ _. ⌜ now («toss_ups» .exit) ≡ tossedIn (factoringAnswer m n (now (a .entry)) (now (factors .entry)) (now (swaps .entry))) ⌝ }
+    ensures { λ r. ⌜ r ≡ numberOf (factoringAnswer (now (a .entry)) m n (now (factors .entry)) (now (swaps .entry))) ⌝ }
+    ensures { λ _. ⌜ now (factors .exit) ≡ factoring (now (a .entry)) m n (now (factors .entry)) (now (swaps .entry)) .left .factors ⌝ }
+    ensures { λ _. ⌜ now (swaps .exit) ≡ factoring (now (a .entry)) m n (now (factors .entry)) (now (swaps .entry)) .left .store ⌝ }
+    ensures { λ _. ⌜ now (pairs .exit) ≡ pairsIn (factoringAnswer (now (a .entry)) m n (now (factors .entry)) (now (swaps .entry))) ⌝ }
+    ensures { λ _. ⌜ now (dead .exit) ≡ deadColumnsIn (factoringAnswer (now (a .entry)) m n (now (factors .entry)) (now (swaps .entry))) ⌝ }
+    ensures { λ _. ⌜ now («toss_ups» .exit) ≡ tossedIn (factoringAnswer (now (a .entry)) m n (now (factors .entry)) (now (swaps .entry))) ⌝ }
 {
     match columns::build_up(a, m, n, factors, swaps) {
         Factored::Accepted {
@@ -100,8 +100,8 @@ pub extern "C" fn wejdarox_l(
     dead: usize,
     x: &mut [f64],
 ) -> usize
-    ensures { λ r. ⌜ r ≡ numberOf (lowering (recordOf m n pairs dead) (now (factors .entry)) (now (swaps .entry)) (now (x .entry)) .answer) ⌝ }
-    ensures { λ _. ⌜ now (x .exit) ≡ lowering (recordOf m n pairs dead) (now (factors .entry)) (now (swaps .entry)) (now (x .entry)) .left ⌝ }
+    ensures { λ r. ⌜ r ≡ numberOf (lowering (now (factors .entry)) (now (swaps .entry)) (recordOf m n pairs dead) (now (x .entry)) .answer) ⌝ }
+    ensures { λ _. ⌜ now (x .exit) ≡ lowering (now (factors .entry)) (now (swaps .entry)) (recordOf m n pairs dead) (now (x .entry)) .left ⌝ }
 {
     let told = Record {
         rows: m,
@@ -123,8 +123,8 @@ pub extern "C" fn wejdarox_u(
     dead: usize,
     x: &mut [f64],
 ) -> usize
-    ensures { λ r. ⌜ r ≡ numberOf (uppering (recordOf m n pairs dead) (now (factors .entry)) (now (swaps .entry)) (now (x .entry)) .answer) ⌝ }
-    ensures { λ _. ⌜ now (x .exit) ≡ uppering (recordOf m n pairs dead) (now (factors .entry)) (now (swaps .entry)) (now (x .entry)) .left ⌝ }
+    ensures { λ r. ⌜ r ≡ numberOf (uppering (now (factors .entry)) (now (swaps .entry)) (recordOf m n pairs dead) (now (x .entry)) .answer) ⌝ }
+    ensures { λ _. ⌜ now (x .exit) ≡ uppering (now (factors .entry)) (now (swaps .entry)) (recordOf m n pairs dead) (now (x .entry)) .left ⌝ }
 {
     let told = Record {
         rows: m,
@@ -149,9 +149,9 @@ pub extern "C" fn wejdarox_tr_solve(
     x: &mut [f64],
 ) -> usize
     ensures { λ r. ⌜ r
-        ≡ numberOf (trSolving (recordOf m n pairs dead) (now (factors .entry)) (now (swaps .entry)) k (now (b .entry)) (now (x .entry)) .answer) ⌝ }
+        ≡ numberOf (trSolving (now (factors .entry)) (now (swaps .entry)) (recordOf m n pairs dead) (now (b .entry)) k (now (x .entry)) .answer) ⌝ }
     ensures { λ _. ⌜ now (x .exit)
-        ≡ trSolving (recordOf m n pairs dead) (now (factors .entry)) (now (swaps .entry)) k (now (b .entry)) (now (x .entry)) .left ⌝ }
+        ≡ trSolving (now (factors .entry)) (now (swaps .entry)) (recordOf m n pairs dead) (now (b .entry)) k (now (x .entry)) .left ⌝ }
 {
     let told = Record {
         rows: m,

@@ -19,8 +19,8 @@ pub extern "C" fn wejdarox_solve_lower_triangular(
     k: usize,
     x: &mut [f64],
 ) -> usize
-    ensures { λ r. ⌜ r ≡ numberOf (solving Lower n k (now (t .entry)) (now (b .entry)) (now (x .entry)) .answer) ⌝ }
-    ensures { λ _. ⌜ now (x .exit) ≡ solving Lower n k (now (t .entry)) (now (b .entry)) (now (x .entry)) .left ⌝ }
+    ensures { λ r. ⌜ r ≡ numberOf (solving Lower (now (t .entry)) n (now (b .entry)) k (now (x .entry)) .answer) ⌝ }
+    ensures { λ _. ⌜ now (x .exit) ≡ solving Lower (now (t .entry)) n (now (b .entry)) k (now (x .entry)) .left ⌝ }
 {
     refusals::number_of(solve::solve_lower_triangular(t, n, b, k, x))
 }
@@ -34,8 +34,8 @@ pub extern "C" fn wejdarox_solve_upper_triangular(
     k: usize,
     x: &mut [f64],
 ) -> usize
-    ensures { λ r. ⌜ r ≡ numberOf (solving Upper n k (now (t .entry)) (now (b .entry)) (now (x .entry)) .answer) ⌝ }
-    ensures { λ _. ⌜ now (x .exit) ≡ solving Upper n k (now (t .entry)) (now (b .entry)) (now (x .entry)) .left ⌝ }
+    ensures { λ r. ⌜ r ≡ numberOf (solving Upper (now (t .entry)) n (now (b .entry)) k (now (x .entry)) .answer) ⌝ }
+    ensures { λ _. ⌜ now (x .exit) ≡ solving Upper (now (t .entry)) n (now (b .entry)) k (now (x .entry)) .left ⌝ }
 {
     refusals::number_of(solve::solve_upper_triangular(t, n, b, k, x))
 }
@@ -50,8 +50,8 @@ pub extern "C" fn wejdarox_solve_lower_triangular_with_diag(
     x: &mut [f64],
     diag: f64,
 ) -> usize
-    ensures { λ r. ⌜ r ≡ numberOf (solving (GivenDiagonal diag) n k (now (t .entry)) (now (b .entry)) (now (x .entry)) .answer) ⌝ }
-    ensures { λ _. ⌜ now (x .exit) ≡ solving (GivenDiagonal diag) n k (now (t .entry)) (now (b .entry)) (now (x .entry)) .left ⌝ }
+    ensures { λ r. ⌜ r ≡ numberOf (solving (GivenDiagonal diag) (now (t .entry)) n (now (b .entry)) k (now (x .entry)) .answer) ⌝ }
+    ensures { λ _. ⌜ now (x .exit) ≡ solving (GivenDiagonal diag) (now (t .entry)) n (now (b .entry)) k (now (x .entry)) .left ⌝ }
 {
     refusals::number_of(solve::solve_lower_triangular_with_diag(t, n, b, k, x, diag))
 }
@@ -66,8 +66,8 @@ pub extern "C" fn wejdarox_solve_lower_triangular_with_diag_corrected(
     x: &mut [f64],
     diag: f64,
 ) -> usize
-    ensures { λ r. ⌜ r ≡ numberOf (solving (CorrectedDiagonal diag) n k (now (t .entry)) (now (b .entry)) (now (x .entry)) .answer) ⌝ }
-    ensures { λ _. ⌜ now (x .exit) ≡ solving (CorrectedDiagonal diag) n k (now (t .entry)) (now (b .entry)) (now (x .entry)) .left ⌝ }
+    ensures { λ r. ⌜ r ≡ numberOf (solving (CorrectedDiagonal diag) (now (t .entry)) n (now (b .entry)) k (now (x .entry)) .answer) ⌝ }
+    ensures { λ _. ⌜ now (x .exit) ≡ solving (CorrectedDiagonal diag) (now (t .entry)) n (now (b .entry)) k (now (x .entry)) .left ⌝ }
 {
     refusals::number_of(solve::solve_lower_triangular_with_diag_corrected(t, n, b, k, x, diag))
 }
@@ -81,8 +81,8 @@ pub extern "C" fn wejdarox_tr_solve_lower_triangular(
     k: usize,
     x: &mut [f64],
 ) -> usize
-    ensures { λ r. ⌜ r ≡ numberOf (solving TransposedLower n k (now (t .entry)) (now (b .entry)) (now (x .entry)) .answer) ⌝ }
-    ensures { λ _. ⌜ now (x .exit) ≡ solving TransposedLower n k (now (t .entry)) (now (b .entry)) (now (x .entry)) .left ⌝ }
+    ensures { λ r. ⌜ r ≡ numberOf (solving TransposedLower (now (t .entry)) n (now (b .entry)) k (now (x .entry)) .answer) ⌝ }
+    ensures { λ _. ⌜ now (x .exit) ≡ solving TransposedLower (now (t .entry)) n (now (b .entry)) k (now (x .entry)) .left ⌝ }
 {
     refusals::number_of(solve::tr_solve_lower_triangular(t, n, b, k, x))
 }
@@ -96,8 +96,8 @@ pub extern "C" fn wejdarox_tr_solve_upper_triangular(
     k: usize,
     x: &mut [f64],
 ) -> usize
-    ensures { λ r. ⌜ r ≡ numberOf (solving TransposedUpper n k (now (t .entry)) (now (b .entry)) (now (x .entry)) .answer) ⌝ }
-    ensures { λ _. ⌜ now (x .exit) ≡ solving TransposedUpper n k (now (t .entry)) (now (b .entry)) (now (x .entry)) .left ⌝ }
+    ensures { λ r. ⌜ r ≡ numberOf (solving TransposedUpper (now (t .entry)) n (now (b .entry)) k (now (x .entry)) .answer) ⌝ }
+    ensures { λ _. ⌜ now (x .exit) ≡ solving TransposedUpper (now (t .entry)) n (now (b .entry)) k (now (x .entry)) .left ⌝ }
 {
     refusals::number_of(solve::tr_solve_upper_triangular(t, n, b, k, x))
 }
@@ -111,9 +111,9 @@ pub extern "C" fn wejdarox_append_permutation(
     i: usize,
     i2: usize,
 ) -> usize
-    ensures { λ r. ⌜ r ≡ numberOf (appending d i i2 (now (pairs .entry)) (now (swaps .entry)) .answer) ⌝ }
-    ensures { λ _. ⌜ now (swaps .exit) ≡ appending d i i2 (now (pairs .entry)) (now (swaps .entry)) .left .store ⌝ }
-    ensures { λ _. ⌜ now (pairs .exit) ≡ appending d i i2 (now (pairs .entry)) (now (swaps .entry)) .left .pairs ⌝ }
+    ensures { λ r. ⌜ r ≡ numberOf (appending (now (swaps .entry)) (now (pairs .entry)) d i i2 .answer) ⌝ }
+    ensures { λ _. ⌜ now (swaps .exit) ≡ appending (now (swaps .entry)) (now (pairs .entry)) d i i2 .left .store ⌝ }
+    ensures { λ _. ⌜ now (pairs .exit) ≡ appending (now (swaps .entry)) (now (pairs .entry)) d i i2 .left .pairs ⌝ }
 {
     let was = *pairs;
     match permutation_sequence::append_permutation(swaps, was, d, i, i2) {
@@ -140,8 +140,8 @@ pub extern "C" fn wejdarox_permute_rows(
     swaps: &[usize],
     pairs: usize,
 ) -> usize
-    ensures { λ r. ⌜ r ≡ numberOf (permutingRows false m n pairs (now (swaps .entry)) (now (a .entry)) .answer) ⌝ }
-    ensures { λ _. ⌜ now (a .exit) ≡ permutingRows false m n pairs (now (swaps .entry)) (now (a .entry)) .left ⌝ }
+    ensures { λ r. ⌜ r ≡ numberOf (permutingRows false (now (a .entry)) m n (now (swaps .entry)) pairs .answer) ⌝ }
+    ensures { λ _. ⌜ now (a .exit) ≡ permutingRows false (now (a .entry)) m n (now (swaps .entry)) pairs .left ⌝ }
 {
     refusals::number_of(permutation_sequence::permute_rows(a, m, n, swaps, pairs))
 }
@@ -155,8 +155,8 @@ pub extern "C" fn wejdarox_inv_permute_rows(
     swaps: &[usize],
     pairs: usize,
 ) -> usize
-    ensures { λ r. ⌜ r ≡ numberOf (permutingRows true m n pairs (now (swaps .entry)) (now (a .entry)) .answer) ⌝ }
-    ensures { λ _. ⌜ now (a .exit) ≡ permutingRows true m n pairs (now (swaps .entry)) (now (a .entry)) .left ⌝ }
+    ensures { λ r. ⌜ r ≡ numberOf (permutingRows true (now (a .entry)) m n (now (swaps .entry)) pairs .answer) ⌝ }
+    ensures { λ _. ⌜ now (a .exit) ≡ permutingRows true (now (a .entry)) m n (now (swaps .entry)) pairs .left ⌝ }
 {
     refusals::number_of(permutation_sequence::inv_permute_rows(a, m, n, swaps, pairs))
 }
@@ -170,8 +170,8 @@ pub extern "C" fn wejdarox_permute_columns(
     swaps: &[usize],
     pairs: usize,
 ) -> usize
-    ensures { λ r. ⌜ r ≡ numberOf (permutingColumns false m n pairs (now (swaps .entry)) (now (a .entry)) .answer) ⌝ }
-    ensures { λ _. ⌜ now (a .exit) ≡ permutingColumns false m n pairs (now (swaps .entry)) (now (a .entry)) .left ⌝ }
+    ensures { λ r. ⌜ r ≡ numberOf (permutingColumns false (now (a .entry)) m n (now (swaps .entry)) pairs .answer) ⌝ }
+    ensures { λ _. ⌜ now (a .exit) ≡ permutingColumns false (now (a .entry)) m n (now (swaps .entry)) pairs .left ⌝ }
 {
     refusals::number_of(permutation_sequence::permute_columns(a, m, n, swaps, pairs))
 }
@@ -185,8 +185,8 @@ pub extern "C" fn wejdarox_inv_permute_columns(
     swaps: &[usize],
     pairs: usize,
 ) -> usize
-    ensures { λ r. ⌜ r ≡ numberOf (permutingColumns true m n pairs (now (swaps .entry)) (now (a .entry)) .answer) ⌝ }
-    ensures { λ _. ⌜ now (a .exit) ≡ permutingColumns true m n pairs (now (swaps .entry)) (now (a .entry)) .left ⌝ }
+    ensures { λ r. ⌜ r ≡ numberOf (permutingColumns true (now (a .entry)) m n (now (swaps .entry)) pairs .answer) ⌝ }
+    ensures { λ _. ⌜ now (a .exit) ≡ permutingColumns true (now (a .entry)) m n (now (swaps .entry)) pairs .left ⌝ }
 {
     refusals::number_of(permutation_sequence::inv_permute_columns(a, m, n, swaps, pairs))
 }

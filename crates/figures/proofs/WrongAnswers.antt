@@ -42,7 +42,7 @@ abbrev Sides : Type 0
 Sides = ℕ × (ℕ × (Column × (Column × Column)))
 
 abbrev bySides : Pass → Sides → Call (Unit {0}) Column
-bySides pass x = solving pass (x .0) (x .1 .0) (x .1 .1 .0) (x .1 .1 .1 .0) (x .1 .1 .1 .1)
+bySides pass x = solving pass (x .1 .1 .0) (x .0) (x .1 .1 .1 .0) (x .1 .0) (x .1 .1 .1 .1)
 
 -- rows (2, 0) and (0, 4), right-hand side (4, 8): 2 and 2, by every pass that reads the diagonal
 abbrev diagonal : Sides
@@ -124,7 +124,7 @@ not-the-undivided =
 
 -- idle; and the same whatever it is given
 abbrev inPlace : Pass × (ℕ × (ℕ × (Column × Column))) → Column
-inPlace x = solvedInPlace (x .0) (x .1 .0) (x .1 .1 .0) (x .1 .1 .1 .0) (x .1 .1 .1 .1)
+inPlace x = solvedInPlace (x .0) (x .1 .1 .1 .0) (x .1 .0) (x .1 .1 .1 .1) (x .1 .1 .0)
 
 pub solve-in-place : Strong inPlace (ShutsOut inPlace (λ x. x .1 .1 .1 .1))
 unfolding solves
@@ -134,7 +134,7 @@ solve-in-place =
 
 -- the same by rows
 abbrev inRows : Bool × (ℕ × (ℕ × (Column × Column))) → Column
-inRows x = solvedInPlace (passOf (x .0)) (x .1 .0) (x .1 .1 .0) (x .1 .1 .1 .0) (x .1 .1 .1 .1)
+inRows x = solvedInPlace (passOf (x .0)) (x .1 .1 .1 .0) (x .1 .0) (x .1 .1 .1 .1) (x .1 .1 .0)
 
 pub solve-in-place-by-rows : Strong inRows (ShutsOut inRows (λ x. x .1 .1 .1 .1))
 unfolding solves
@@ -144,7 +144,7 @@ solve-in-place-by-rows =
 
 -- the same always; and the first entry alone tested
 abbrev zeroThere : ℕ × Column → Bool
-zeroThere x = zeroOnDiagonal (x .0) (x .1)
+zeroThere x = zeroOnDiagonal (x .1) (x .0)
 
 pub zero-on-diagonal : Strong zeroThere (ShutsOut zeroThere (λ x. isZero (entry (x .1) 0)))
 unfolding solves
@@ -165,8 +165,8 @@ packed = (recordOf 2 2 0 0, (n2 ∷ n1 ∷ n0 ∷ n4 ∷ [], storeOf []))
 abbrev no-rows : Held
 no-rows = (recordOf 0 2 0 0, (n2 ∷ n1 ∷ n0 ∷ n4 ∷ [], storeOf []))
 
-abbrev triangle : (Record → Column → List ℕ → Column → Call (Unit {0}) Column) → Held × Column → Call (Unit {0}) Column
-triangle call x = call (x .0 .0) (x .0 .1 .0) (x .0 .1 .1) (x .1)
+abbrev triangle : (Column → List ℕ → Record → Column → Call (Unit {0}) Column) → Held × Column → Call (Unit {0}) Column
+triangle call x = call (x .0 .1 .0) (x .0 .1 .1) (x .0 .0) (x .1)
 
 -- a name for all that has to unfold for L and U to compute
 unfoldable pub triangles : Type 0
@@ -186,7 +186,7 @@ unfolding triangles
 inverse = both (triangle inverting) (λ x. x .1) ((recordOf 1 1 0 0, (n1 ∷ [], storeOf [])), zeros 1) refl (λ d. let z : _≡_ {A = ℕ} 0 1 = cc in omega arith)
 
 abbrev loadsBy : Held × (ℕ × (Column × Column)) → Call (Unit {0}) Column
-loadsBy x = lu-solving (x .0 .0) (x .0 .1 .0) (x .0 .1 .1) (x .1 .0) (x .1 .1 .0) (x .1 .1 .1)
+loadsBy x = lu-solving (x .0 .1 .0) (x .0 .1 .1) (x .0 .0) (x .1 .1 .0) (x .1 .0) (x .1 .1 .1)
 
 pub solve : BothShutOut loadsBy (λ x. x .1 .1 .1)
 unfolding triangles
@@ -194,7 +194,7 @@ solve = both loadsBy (λ x. x .1 .1 .1) (packed, (1, (n4 ∷ n8 ∷ [], ones 2))
 
 -- the transposed solve; and a program that solves the system itself gives 2 and 1 where this gives 0 and 2
 abbrev trLoadsBy : Held × (ℕ × (Column × Column)) → Call (Unit {0}) Column
-trLoadsBy x = trSolving (x .0 .0) (x .0 .1 .0) (x .0 .1 .1) (x .1 .0) (x .1 .1 .0) (x .1 .1 .1)
+trLoadsBy x = trSolving (x .0 .1 .0) (x .0 .1 .1) (x .0 .0) (x .1 .1 .0) (x .1 .0) (x .1 .1 .1)
 
 abbrev tr-packed : Held × (ℕ × (Column × Column))
 tr-packed = (packed, (1, (n4 ∷ n8 ∷ [], ones 2)))
@@ -213,7 +213,7 @@ not-the-system =
 
 -- the same always; and the product without the sign
 abbrev determinantBy : Held → Outcome Float
-determinantBy x = determining (x .0) (x .1 .0) (x .1 .1)
+determinantBy x = determining (x .1 .0) (x .1 .1) (x .0)
 
 abbrev unsigned : Held → Outcome Float
 unsigned x = done (diagonalProduct (x .0 .rows) (columns (x .0 .rows) (x .0 .rows) (x .1 .0)))
@@ -226,7 +226,7 @@ determinant =
 
 -- the same always; and never a refusal
 abbrev invertibleBy : Held → Outcome Bool
-invertibleBy x = inverseTest (x .0) (x .1 .0) (x .1 .1)
+invertibleBy x = inverseTest (x .1 .0) (x .1 .1) (x .0)
 
 pub is-invertible : Strong invertibleBy ((test : Held → Bool) → ShutsOut invertibleBy (λ x. done (test x)))
 unfolding triangles
@@ -253,15 +253,15 @@ held-refusal =
 -- factoring, building up and adding, toss-ups and all: one outcome. What they shut out is in WrongPrograms; building up has factoring's meaning.
 abbrev factors : ℕ × (ℕ × (Column × (Column × List ℕ))) → Outcome (Record × ℕ) × Slices
 factors x = (
-  factoringAnswer (x .0) (x .1 .0) (x .1 .1 .0) (x .1 .1 .1 .0) (x .1 .1 .1 .1),
-  factoring (x .0) (x .1 .0) (x .1 .1 .0) (x .1 .1 .1 .0) (x .1 .1 .1 .1) .left,
+  factoringAnswer (x .1 .1 .0) (x .0) (x .1 .0) (x .1 .1 .1 .0) (x .1 .1 .1 .1),
+  factoring (x .1 .1 .0) (x .0) (x .1 .0) (x .1 .1 .1 .0) (x .1 .1 .1 .1) .left,
 )
 
 pub factor : OneOutcome factors
 factor = one-outcome factors
 
 abbrev adds : Record × (Column × (Column × List ℕ)) → Outcome (Record × ℕ) × Slices
-adds x = (addingAnswer (x .0) (x .1 .0) (x .1 .1 .0) (x .1 .1 .1), adding (x .0) (x .1 .0) (x .1 .1 .0) (x .1 .1 .1) .left)
+adds x = (addingAnswer (x .1 .0) (x .1 .1 .0) (x .1 .1 .1) (x .0), adding (x .1 .0) (x .1 .1 .0) (x .1 .1 .1) (x .0) .left)
 
 pub add-column : OneOutcome adds
 add-column = one-outcome adds

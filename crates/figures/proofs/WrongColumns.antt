@@ -156,7 +156,7 @@ min-call = two least (λ x. x .0) (1, 0) (0, 0) (1, 1) (λ d. omega (arith, d)) 
 
 -- any slice that is not empty
 abbrev fits : ℕ × (ℕ × Column) → Bool
-fits x = isMatrix (x .0) (x .1 .0) (x .1 .1)
+fits x = isMatrix (x .1 .1) (x .0) (x .1 .0)
 
 pub is-matrix : TwoShutOut fits (λ x. ltb 0 (length (x .1 .1)))
 unfolding runs

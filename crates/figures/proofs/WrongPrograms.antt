@@ -38,7 +38,7 @@ abbrev pub Program : Type 0
 Program = ℕ → ℕ → Column → Column → List ℕ → Factoring
 
 abbrev pub Meets : Program → Type 0
-Meets p = (m n : ℕ) (a out : Column) (store : List ℕ) → p m n a out store ≡ factoring m n a out store
+Meets p = (m n : ℕ) (a out : Column) (store : List ℕ) → p m n a out store ≡ factoring a m n out store
 
 -- accepted, with these factors and swaps
 abbrev accepted : Record → Column → Swaps → Factoring
@@ -51,7 +51,7 @@ a = n0 ∷ n2 ∷ n1 ∷ n0 ∷ []
 abbrev given : Factoring
 given = accepted (recordOf 2 2 1 0) (n2 ∷ n0 ∷ n0 ∷ n1 ∷ []) ((0, 1) ∷ [])
 
-first-line : factoring 2 2 a (ones 4) (replicate 128 1) ≡ given
+first-line : factoring a 2 2 (ones 4) (replicate 128 1) ≡ given
 first-line = let e = ap (λ l. getD l 0 (determinant (done n0))) every-line in cc
 
 module _ (p : Program) (meets : Meets p) where
@@ -79,7 +79,7 @@ module _ (p : Program) (meets : Meets p) where
       → told .pairs ≡ length (eliminate m (columns m n a) .swaps)
   unfolding recordAfter
   count-recorded m n a out store told e =
-      let ok : factoring m n a out store .answer ≡ done told = sym (ap (λ (o : Factoring). o .answer) (meets m n a out store)) ∙ e in
+      let ok : factoring a m n out store .answer ≡ done told = sym (ap (λ (o : Factoring). o .answer) (meets m n a out store)) ∙ e in
       let d : done told ≡ done (recordFor m n (eliminate m (columns m n a))) =
       sym ok ∙ ap (λ (o : Factoring). o .answer) (accepted-is m n a out store told ok) in
       ap (λ (o : Outcome Record). recordAfter told o .pairs) d
@@ -99,9 +99,9 @@ abbrev two : Column
 two = n1 ∷ n0 ∷ []
 
 abbrev before : Factoring
-before = factoring 2 1 one (ones 2) (replicate 128 1)
+before = factoring one 2 1 (ones 2) (replicate 128 1)
 
-added-line : adding (toldIn 2 1 before) (before .left .factors ++ ones 2) two (before .left .store) ≡ given
+added-line : adding (before .left .factors ++ ones 2) two (before .left .store) (toldIn 2 1 before) ≡ given
 added-line = let e = ap (λ l. getD l 3 (determinant (done n0))) every-line in cc
 
 factored-one : before ≡ accepted (recordOf 2 1 1 0) (n2 ∷ n0 ∷ []) ((0, 1) ∷ [])
@@ -109,15 +109,15 @@ unfolding computes
 factored-one = refl
 
 -- a program that merely copies the raw column behind the factors, from the second column on, does not meet adding's contract
-pub not-a-copying-add : (p : AddingProgram) → ((r : Record) (s c : Column) (store : List ℕ) → p r s c store ≡ adding r s c store)
+pub not-a-copying-add : (p : AddingProgram) → ((r : Record) (s c : Column) (store : List ℕ) → p r s c store ≡ adding s c store r)
     → ((r : Record) (s c : Column) (store : List ℕ) → 0 < r .columns → p r s c store .left .factors ≡ take (r .columns * r .rows) s ++ c) → ⊥
 unfolding recordAfter
 not-a-copying-add p meets copies =
     let r = recordOf 2 1 1 0 in
     let s = n2 ∷ n0 ∷ n1 ∷ n1 ∷ [] in
     let store = storeOf ((0, 1) ∷ []) in
-    let there : adding r s two store ≡ given =
-    ap (λ (o : Factoring). adding (toldIn 2 1 o) (o .left .factors ++ ones 2) two (o .left .store)) (sym factored-one) ∙ added-line in
+    let there : adding s two store r ≡ given =
+    ap (λ (o : Factoring). adding (o .left .factors ++ ones 2) two (o .left .store) (toldIn 2 1 o)) (sym factored-one) ∙ added-line in
     let e : n2 ∷ n0 ∷ n0 ∷ n1 ∷ [] ≡ n2 ∷ n0 ∷ n1 ∷ n0 ∷ [] =
     sym (ap (λ (o : Factoring). o .left .factors) (meets r s two store ∙ there)) ∙ copies r s two store (omega arith) in
     let z : _≡_ {A = ℕ} 0 1 = cc in
@@ -128,7 +128,7 @@ abbrev Removal : Type 0
 Removal = Record × (Column × List ℕ)
 
 abbrev removes : Removal → Factoring
-removes x = removing (x .0) (x .1 .0) (x .1 .1)
+removes x = removing (x .1 .0) (x .1 .1) (x .0)
 
 -- the factors of the columns (4, 2, 0) and (0, 1, 2): the second exchanged the rows 1 and 2; and the same with no columns recorded
 abbrev half : Float

@@ -21,7 +21,7 @@ abbrev Loads : Type 0
 Loads = ℕ × (Column × List ℕ)
 
 abbrev listedBy : (Column → Choice) → Loads → Call ℕ (List ℕ)
-listedBy choice x = ranking (choice (x .1 .0)) (x .0) (x .1 .0) (x .1 .1)
+listedBy choice x = ranking (choice (x .1 .0)) (x .1 .0) (x .0) (x .1 .1)
 
 abbrev short : Loads → Call ℕ (List ℕ)
 short = listedBy loaded
@@ -82,8 +82,8 @@ not-count-of-all = by-count short countOfAll 1 3 refl refl (λ d. omega (arith, 
 -- the slots behind as they were
 abbrev slotsKept : Loads → Call ℕ (List ℕ)
 slotsKept (n, (loads, was)) =
-    let ranks = listing (loaded loads) n loads in
-    tested (rankingRefusal n loads was) (leaving was) (record { answer = done (length ranks); left = ranks ++ drop (length ranks) was })
+    let ranks = listing (loaded loads) loads n in
+    tested (rankingRefusal loads n was) (leaving was) (record { answer = done (length ranks); left = ranks ++ drop (length ranks) was })
 
 pub not-slots-kept : ShutsOut short slotsKept
 unfolding ranks

@@ -54,12 +54,12 @@ abbrev out : Given → Column
 out x = zeros (x .1 .0 * x .0)
 
 abbrev explains : Given → Told Place
-explains x = explainFactoring (x .0) (x .1 .0) (x .1 .1) (out x) (replicate 128 0)
+explains x = explainFactoring (x .1 .1) (x .0) (x .1 .0) (out x) (replicate 128 0)
 
 -- a program that is right but for the place
 abbrev tellsBy : (ℕ → Matrix → Option Place) → Given → Told Place
 tellsBy place x =
-    tested (factoringRefusal (x .0) (x .1 .0) (x .1 .1) (out x) (replicate 128 0)) toldNumber
+    tested (factoringRefusal (x .1 .1) (x .0) (x .1 .0) (out x) (replicate 128 0)) toldNumber
     (overflowed (place (x .0) (columns (x .0) (x .1 .0) (x .1 .1))))
 
 -- row r as it stood before rows i and p were exchanged
@@ -121,15 +121,15 @@ abbrev Sides : Type 0
 Sides = ℕ × (Column × (ℕ × Column))
 
 abbrev solveRefusal : Sides → ℕ
-solveRefusal x = heldRefusal (x .1 .0) (storeOf []) (recordOf (x .0) (x .0) 0 0) (solveAsks (x .0) (x .1 .1 .0) (x .1 .1 .1) (zeros (x .1 .1 .0 * x .0)))
+solveRefusal x = heldRefusal (x .1 .0) (storeOf []) (recordOf (x .0) (x .0) 0 0) (solveAsks (x .1 .1 .1) (x .0) (x .1 .1 .0) (zeros (x .1 .1 .0 * x .0)))
 
 abbrev tells : Sides → Told Spot
-tells x = explainSolving (recordOf (x .0) (x .0) 0 0) (x .1 .0) (storeOf []) (x .1 .1 .0) (x .1 .1 .1) (zeros (x .1 .1 .0 * x .0))
+tells x = explainSolving (x .1 .0) (storeOf []) (recordOf (x .0) (x .0) 0 0) (x .1 .1 .1) (x .1 .1 .0) (zeros (x .1 .1 .0 * x .0))
 
 -- a program that is right but for the place
 abbrev solvesBy : (ℕ → Matrix → Matrix → Option Spot) → Sides → Told Spot
 solvesBy spot x =
-    tested (solveRefusal x) (refusedSolving (x .0) (x .1 .0))
+    tested (solveRefusal x) (refusedSolving (x .1 .0) (x .0))
     (overflowed (spot (x .0) (columns (x .0) (x .0) (x .1 .0)) (columns (x .0) (x .1 .1 .0) (x .1 .1 .1))))
 
 -- the rows above it before row i's quotient

@@ -24,7 +24,7 @@ abbrev -n0 : Float
 
 -- sizes and a slice; a number with a minus sign is taken for one that is not zero
 abbrev counts : ℕ × (ℕ × Column) → ℕ
-counts x = deadOf (x .0) (x .1 .0) (x .1 .1)
+counts x = deadOf (x .1 .1) (x .0) (x .1 .0)
 
 abbrev isMinus : Float → Bool
 isMinus (fin sign digits exponent) = sign
@@ -35,7 +35,7 @@ abbrev unsignedAlone : Column → Column
 unsignedAlone s = map (λ v. cond (isMinus v) n1 v) s
 
 abbrev plusAlone : ℕ × (ℕ × Column) → ℕ
-plusAlone x = deadOf (x .0) (x .1 .0) (unsignedAlone (x .1 .1))
+plusAlone x = deadOf (unsignedAlone (x .1 .1)) (x .0) (x .1 .0)
 
 pub dead-of : Strong counts (ShutsOut counts plusAlone)
 unfolding computes
@@ -69,7 +69,7 @@ abbrev Widened : Type 0
 Widened = Record × (Column × Column)
 
 abbrev deadOfAdded : Widened → ℕ
-deadOfAdded x = recordAfter (x .0) (adding (x .0) (x .1 .0) (x .1 .1) (storeOf []) .answer) .dead
+deadOfAdded x = recordAfter (x .0) (adding (x .1 .0) (x .1 .1) (storeOf []) (x .0) .answer) .dead
 
 abbrev forgotten : Widened → ℕ
 forgotten x = cond (ltb (x .0 .columns) (x .0 .rows)) (deadOfAdded x) 0
@@ -86,7 +86,7 @@ abbrev refusals : Held → ℕ
 refusals x = heldRefusal (x .1 .1) (storeOf []) (x .1 .0) (x .0)
 
 abbrev rightNumber : Held → Record
-rightNumber x = let r = x .1 .0 in recordOf (r .rows) (r .columns) (r .pairs) (deadOf (r .rows) (r .columns) (x .1 .1))
+rightNumber x = let r = x .1 .0 in recordOf (r .rows) (r .columns) (r .pairs) (deadOf (x .1 .1) (r .rows) (r .columns))
 
 abbrev unlookedAt : Held → ℕ
 unlookedAt x = heldRefusal (x .1 .1) (storeOf []) (rightNumber x) (x .0)

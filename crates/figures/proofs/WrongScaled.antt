@@ -32,7 +32,7 @@ abbrev Held : Type 0
 Held = Record × (Column × List ℕ)
 
 abbrev scales : Held → Outcome Scaled
-scales x = scaling (x .0) (x .1 .0) (x .1 .1)
+scales x = scaling (x .1 .0) (x .1 .1) (x .0)
 
 -- a program that is right but for how it takes one diagonal more, and for the sign that the number of swaps gives
 abbrev Turn : Type 0
@@ -42,7 +42,7 @@ abbrev made : Turn → (ℕ → Scaled → Scaled) → Held → Scaled
 made turn sign x =
     let n = x .0 .rows in
     let cs = columns n n (x .1 .0) in
-    cond (zeroOnDiagonal n (x .1 .0)) vanished (sign (x .0 .pairs) (turnsFrom (λ i r. turn r (entry (column cs i) i)) 0 n start))
+    cond (zeroOnDiagonal (x .1 .0) n) vanished (sign (x .0 .pairs) (turnsFrom (λ i r. turn r (entry (column cs i) i)) 0 n start))
 
 abbrev scalesWith : Turn → (ℕ → Scaled → Scaled) → Held → Outcome Scaled
 scalesWith turn sign x = tested (heldRefusal (x .1 .0) (x .1 .1) (x .0) squareAsks) refused (done (made turn sign x))
@@ -81,7 +81,7 @@ abbrev takenApart : Float → Scaled
 takenApart v = cond (isZero v) vanished (partsOf v)
 
 abbrev fromPlain : Held → Outcome Scaled
-fromPlain x = andThen (determining (x .0) (x .1 .0) (x .1 .1)) (λ v. done (takenApart v))
+fromPlain x = andThen (determining (x .1 .0) (x .1 .1) (x .0)) (λ v. done (takenApart v))
 
 -- factors of two rows by their diagonal, without a swap
 abbrev diagonal : Float → Float → Held

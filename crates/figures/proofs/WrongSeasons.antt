@@ -36,7 +36,7 @@ hands-over = Unit {0}
 -- ---- the band of factors: a size and the factors
 
 abbrev bands : ℕ × Column → ℕ
-bands x = bandOn (x .0) (x .1)
+bands x = bandOn (x .1) (x .0)
 
 -- 2^600
 abbrev large : Float
@@ -54,14 +54,14 @@ abbrev lowerBand : ℕ → ℕ
 lowerBand e = cond (leb e 0) 0 (cond (leb e 511) 1 (cond (leb e 1023) 2 (cond (leb e 1534) 3 (cond (leb e 2046) 4 5))))
 
 abbrev lower : ℕ × Column → ℕ
-lower x = cond (isMatrix (x .0) (x .0) (x .1)) (lowerBand (biased (leastOnDiagonal (x .0) (columns (x .0) (x .0) (x .1))))) 5
+lower x = cond (isMatrix (x .1) (x .0) (x .0)) (lowerBand (biased (leastOnDiagonal (x .0) (columns (x .0) (x .0) (x .1))))) 5
 
 -- the greatest magnitude on the diagonal
 abbrev greaterAt : Matrix → ℕ → Float → Float
 greaterAt cs i most = let x = magnitude (entry (column cs i) i) in cond (lt most x) x most
 
 abbrev greatest : ℕ × Column → ℕ
-greatest x = cond (isMatrix (x .0) (x .0) (x .1)) (bandOf (biased (turnsFrom (greaterAt (columns (x .0) (x .0) (x .1))) 0 (x .0) zero64))) 5
+greatest x = cond (isMatrix (x .1) (x .0) (x .0)) (bandOf (biased (turnsFrom (greaterAt (columns (x .0) (x .0) (x .1))) 0 (x .0) zero64))) 5
 
 pub band : TwoShutOut bands lower
 unfolding hands-over
@@ -142,7 +142,7 @@ not-idle-listed = by-count idleListed (none, idleFile) 10 (λ d. omega (arith, d
 
 -- a refused file banded, by the factors that it has
 abbrev bandedBy : Outcome Packed → List ℕ → List ℕ
-bandedBy (done f) b = oneMoreAt (bandOn (f .told .rows) (f .factors)) b
+bandedBy (done f) b = oneMoreAt (bandOn (f .factors) (f .told .rows)) b
 bandedBy (refused number) b = b
 
 abbrev refusedBanded : Season × File → Call (Unit {0}) Season
@@ -156,7 +156,8 @@ not-refused-banded = by-count refusedBanded (none, singularFile) 11 (λ d. omega
 -- 1023 in the lower band, and the greatest on the diagonal instead of the least: another band of the factors
 abbrev bandedAs : (ℕ × Column → ℕ) → Season × File → Call (Unit {0}) Season
 bandedAs f =
-    leftBy (λ s file. counted s (andThen (factorsIn file) (λ p. andThen (telling file) (λ t. done (record { pads = t .pads; band = f (p .told .rows, p .factors) })))))
+    leftBy (λ s file. counted s (andThen (factorsIn file)
+    (λ p. andThen (telling file) (λ t. done (record { pads = t .pads; band = f (p .told .rows, p .factors) })))))
 
 pub not-lower-band : ShutsOut hands (bandedAs lower)
 unfolding hands-over countsOf
@@ -196,4 +197,5 @@ oneRow = 1 ∷ replicate 9 0 ++ 1 ∷ 0 ∷ 0 ∷ 0 ∷ 1 ∷ 0 ∷ 1 ∷ []
 pub from-counts : TwoShutOut seasonFrom filesFirst
 unfolding hands-over seasonFrom
 from-counts =
-    two seasonFrom filesFirst oneRow oneRow (replicate 17 0) (λ d. omega (arith, ap (λ (s : Season). s .pads) d)) (λ d. omega (arith, ap (λ (s : Season). s .files) d))
+    two seasonFrom filesFirst oneRow oneRow (replicate 17 0) (λ d. omega (arith, ap (λ (s : Season). s .pads) d))
+    (λ d. omega (arith, ap (λ (s : Season). s .files) d))

@@ -36,8 +36,8 @@ swap = 0 ∷ 1 ∷ replicate 126 0
 abbrev Permuted : Type 0
 Permuted = ℕ × (ℕ × (ℕ × (List ℕ × Column)))
 
-abbrev permutes : (ℕ → ℕ → ℕ → List ℕ → Column → Call (Unit {0}) Column) → Permuted → Call (Unit {0}) Column
-permutes call x = call (x .0) (x .1 .0) (x .1 .1 .0) (x .1 .1 .1 .0) (x .1 .1 .1 .1)
+abbrev permutes : (Column → ℕ → ℕ → List ℕ → ℕ → Call (Unit {0}) Column) → Permuted → Call (Unit {0}) Column
+permutes call x = call (x .1 .1 .1 .1) (x .0) (x .1 .0) (x .1 .1 .1 .0) (x .1 .1 .0)
 
 abbrev slice : Permuted → Column
 slice x = x .1 .1 .1 .1
@@ -81,10 +81,10 @@ apply-to-rows =
 -- ---- the tests: the same always; and the list untested
 
 abbrev refusal : ℕ × Permuted → ℕ
-refusal x = permutingRefusal (x .0) (x .1 .0) (x .1 .1 .0) (x .1 .1 .1 .0) (x .1 .1 .1 .1 .0) (slice (x .1))
+refusal x = permutingRefusal (slice (x .1)) (x .1 .0) (x .1 .1 .0) (x .1 .1 .1 .1 .0) (x .1 .1 .1 .0) (x .0)
 
 abbrev list-untested : ℕ × Permuted → ℕ
-list-untested x = permutingRefusal (x .0) (x .1 .0) (x .1 .1 .0) 0 (x .1 .1 .1 .1 .0) (slice (x .1))
+list-untested x = permutingRefusal (slice (x .1)) (x .1 .0) (x .1 .1 .0) (x .1 .1 .1 .1 .0) 0 (x .0)
 
 pub permuting-refusal : Strong refusal (ShutsOut refusal list-untested)
 unfolding applies
@@ -94,7 +94,7 @@ permuting-refusal =
 
 -- bound, most, count, store: the same always; and the pairs unread
 abbrev isGood : ℕ × (ℕ × (ℕ × List ℕ)) → Bool
-isGood x = goodList (x .0) (x .1 .0) (x .1 .1 .0) (x .1 .1 .1)
+isGood x = goodList (x .1 .1 .1) (x .1 .1 .0) (x .0) (x .1 .0)
 
 pub is-good-list : Strong isGood (ShutsOut isGood (λ x. holds (x .1 .1 .0) (x .1 .1 .1)))
 unfolding applies
@@ -116,7 +116,7 @@ abbrev Append : Type 0
 Append = ℕ × (ℕ × (ℕ × (ℕ × List ℕ)))
 
 abbrev appends : Append → Call (Unit {0}) Listed
-appends x = appending (x .0) (x .1 .0) (x .1 .1 .0) (x .1 .1 .1 .0) (x .1 .1 .1 .1)
+appends x = appending (x .1 .1 .1 .1) (x .1 .1 .1 .0) (x .0) (x .1 .0) (x .1 .1 .0)
 
 -- the pair (0, 1) for two rows; and for none, which is refused
 abbrev fresh : Append

@@ -64,25 +64,25 @@ one-and-a-little = fin false (2 ^ 51 + 1) (negsuc 50)
 -- ---- the calls on a fresh factoring of an n by n matrix, with one right-hand column
 
 abbrev solvedFor : ℕ → Column → Column → Shown
-solvedFor n a b = let o = fresh n n a in numbers (solving (toldIn n n o) (o .left .factors) (o .left .store) 1 b (ones n))
+solvedFor n a b = let o = fresh n n a in numbers (solving (o .left .factors) (o .left .store) (toldIn n n o) b 1 (ones n))
 
 abbrev determinantFor : ℕ → Column → Shown
-determinantFor n a = let o = fresh n n a in determinant (determining (toldIn n n o) (o .left .factors) (o .left .store))
+determinantFor n a = let o = fresh n n a in determinant (determining (o .left .factors) (o .left .store) (toldIn n n o))
 
 abbrev invertibleFor : ℕ → Column → Shown
-invertibleFor n a = let o = fresh n n a in invertible (inverseTest (toldIn n n o) (o .left .factors) (o .left .store))
+invertibleFor n a = let o = fresh n n a in invertible (inverseTest (o .left .factors) (o .left .store) (toldIn n n o))
 
 -- m by 1 numbers factored, and one more column added
 abbrev addedTo : ℕ → Column → Column → Shown
-addedTo m a c = let o = fresh m 1 a in factors (adding (toldIn m 1 o) (o .left .factors ++ ones m) c (o .left .store))
+addedTo m a c = let o = fresh m 1 a in factors (adding (o .left .factors ++ ones m) c (o .left .store) (toldIn m 1 o))
 
 -- a triangular solve of two rows and one right-hand column
 abbrev solvedBy : Pass → Column → Column → Shown
-solvedBy pass t b = numbers (solvingTriangle pass 2 1 t b (ones 2))
+solvedBy pass t b = numbers (solvingTriangle pass t 2 b 1 (ones 2))
 
 -- the pads of these loads, in slots of ones
 abbrev ranked : Column → Shown
-ranked loads = let n = length loads in ranks (ranking (loaded loads) n loads (replicate n 1))
+ranked loads = let n = length loads in ranks (ranking (loaded loads) loads n (replicate n 1))
 
 -- ---- what the document gives: packed factors with their swaps, of which so many columns are dead (document 02, request 7), or 7 with +0.0 and a swap store
 -- of zeros

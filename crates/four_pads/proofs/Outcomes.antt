@@ -77,7 +77,7 @@ module _ (s : System) where
     abbrev factors : Factors
     factors = record { columns = F; swaps = w e }
 
-    past : factoring 4 4 a (zeros 16) (replicate 128 0) ≡ settled 4 4 factors
+    past : factoring a 4 4 (zeros 16) (replicate 128 0) ≡ settled 4 4 factors
     unfolding factoring factoringRefusal tested firstOf outside isMatrix columns flat
     past =
         let fine = and-first (allFinite a) (allFinite b) ok in
@@ -93,7 +93,7 @@ module _ (s : System) where
 
     module _ (finite : allFinite (flat F) ≡ true) where
       -- of the tests of a solve only the diagonal's is left
-      diagonal-left : heldRefusal (flat F) (storeOf (w e)) (recordFor 4 4 factors) (solveAsks 4 1 b (zeros 4)) ≡ cond (isDead (f e)) 6 0
+      diagonal-left : heldRefusal (flat F) (storeOf (w e)) (recordFor 4 4 factors) (solveAsks b 4 1 (zeros 4)) ≡ cond (isDead (f e)) 6 0
       unfolding heldRefusal firstOf outside isMatrix columns flat deadOf
       diagonal-left =
           let few = rising-few 4 4 (w e) rising in

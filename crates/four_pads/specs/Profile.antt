@@ -24,9 +24,9 @@ pub record Solution : Type 0 where
 -- the general path, on a matrix by its columns in a row: factoring, then the solve for the readings
 unfoldable pub generalPath : Column → Column → Outcome Solution
 generalPath a readings =
-    let f = factoring 4 4 a (zeros 16) (replicate 128 0) in
+    let f = factoring a 4 4 (zeros 16) (replicate 128 0) in
     andThen (f .answer) (λ told.
-    let x = solving told (f .left .factors) (f .left .store) 1 readings (zeros 4) in
+    let x = solving (f .left .factors) (f .left .store) told readings 1 (zeros 4) in
     andThen (x .answer) (λ _. done (record { told = told; factors = f .left .factors; store = f .left .store; loads = x .left })))
 
 -- a refusal's number, and zeros

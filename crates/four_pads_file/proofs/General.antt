@@ -36,7 +36,7 @@ use Rattle.four_pads_file.specs.declared.FourNumbers.{FourNumbers}
 -- ---- a matrix of sixteen finite numbers
 module _ (a b : Column) (size : length a ≡ 16) (fine : allFinite a ≡ true) where
   -- factoring into any slice of sixteen numbers
-  is-settled : (out : Column) → length out ≡ 16 → factoring 4 4 a out (replicate 128 0) ≡ settled 4 4 (eliminate 4 (columns 4 4 a))
+  is-settled : (out : Column) → length out ≡ 16 → factoring a 4 4 out (replicate 128 0) ≡ settled 4 4 (eliminate 4 (columns 4 4 a))
   is-settled out l =
       worked 4 4 a out (replicate 128 0)
       (passes 4 4 a out (replicate 128 0)
@@ -53,16 +53,16 @@ module _ (a b : Column) (size : length a ≡ 16) (fine : allFinite a ≡ true) w
   made = eliminate 4 (columns 4 4 a)
 
   abbrev solvedFor : Call (Unit {0}) Column
-  solvedFor = solving (recordFor 4 4 made) (flat (made .columns)) (storeOf (made .swaps)) 1 b (zeros 4)
+  solvedFor = solving (flat (made .columns)) (storeOf (made .swaps)) (recordFor 4 4 made) b 1 (zeros 4)
 
-  general-is : generalPath a b ≡ andThen (factorsOf 4 a) (λ f. withLoads f (solutionBy false f b))
+  general-is : generalPath a b ≡ andThen (factorsOf a 4) (λ f. withLoads f (solutionBy false f b))
   unfolding generalPath factorsOf solutionBy settled andThen
   general-is =
       rw (is-settled a size, is-settled (zeros 16) refl)
       (test-cases (allFinite (flat (made .columns))) (λ t. rw t (sym (then-then (solvedFor .answer) (λ _. done (solvedFor .left)) _))) (λ t. rw t refl))
 
   -- past the test of the numbers
-  pub four-general : allFinite b ≡ true → fourOf a b ≡ profileOf (andThen (factorsOf 4 a) (λ f. withLoads f (solutionBy false f b)))
+  pub four-general : allFinite b ≡ true → fourOf a b ≡ profileOf (andThen (factorsOf a 4) (λ f. withLoads f (solutionBy false f b)))
   unfolding fourOf
   four-general e = ap profileOf (tested-none (firstOf (fourTests a b)) refused (generalPath a b) (none-first (fourTests a b) (rw (fine, e), tt)) ∙ general-is)
 
@@ -87,7 +87,7 @@ module _ (bytes : List ℕ) where
 
   general-refused : (fileRefusal bytes ≡ 0 → ⊥) → generalPathIn bytes ≡ refused (fileRefusal bytes)
   unfolding generalPathIn factorsIn andThen
-  general-refused some = rw (tested-some (fileRefusal bytes) refused (factorsOf n (matrixOf n bytes)) some) refl
+  general-refused some = rw (tested-some (fileRefusal bytes) refused (factorsOf (matrixOf n bytes) n) some) refl
 
   pub file-refused : (number : ℕ) → number ≡ sizedRefusal bytes 4 lent → (number ≡ 0 → ⊥) → refusedWith number ≡ fourPadsIn bytes
   unfolding fourPadsIn profileOf
@@ -115,7 +115,7 @@ module _ (bytes : List ℕ) where
     -- as if the size stood there
     at-four : (k : ℕ) → k ≡ 4 → (allFinite (matrixOf k bytes) && allFinite (readingsOf k bytes)) ≡ true
         → fourOf (matrixOf k bytes ++ drop (k * k) (zeros 16)) (readingsOf k bytes ++ drop k (zeros 4))
-        ≡ profileOf (andThen (factorsOf k (matrixOf k bytes)) (λ f. withLoads f (solutionBy false f (readingsOf k bytes))))
+        ≡ profileOf (andThen (factorsOf (matrixOf k bytes) k) (λ f. withLoads f (solutionBy false f (readingsOf k bytes))))
     at-four k e h =
         let a = matrixOf 4 bytes in
         let b = readingsOf 4 bytes in
@@ -127,7 +127,7 @@ module _ (bytes : List ℕ) where
     pub file-loaded : fourOf (filled bytes lent .matrix) (filled bytes lent .readings) ≡ fourPadsIn bytes
     unfolding fourPadsIn generalPathIn factorsIn
     file-loaded =
-        rw (tested-none size refused (generalPathIn bytes) (parts .0), tested-none (fileRefusal bytes) refused (factorsOf n (matrixOf n bytes)) (parts .1))
+        rw (tested-none size refused (generalPathIn bytes) (parts .0), tested-none (fileRefusal bytes) refused (factorsOf (matrixOf n bytes) n) (parts .1))
         (at-four n four finite-parts)
 
 -- ---- what was read, and what becomes of it

@@ -60,7 +60,7 @@ module _ (m n : ℕ) (s : List Float) where
       ) refl
 
 -- the head's columns are there
-pub reaches : (m n i j : ℕ) (s : List Float) → isMatrix m n s ≡ true → i + 4 ≤ j → j < n → Reaches m i j (length s)
+pub reaches : (m n i j : ℕ) (s : List Float) → isMatrix s m n ≡ true → i + 4 ≤ j → j < n → Reaches m i j (length s)
 reaches m n i j s fits right hj =
     let size = sized m n s fits .size in
     record {

@@ -104,7 +104,7 @@ module _ (i from m n : ℕ) (s : List Float) where
   not-stepped out = cond-cases (λ (x : Matrix). columns m n s ≡ x) (leb (i + 4) (min m from)) (λ t. absurd (out (leb-true (i + 4) (min m from) t))) (λ t. refl)
 
   -- THE LAW of the call, for those above
-  pub stepped-columns : (t : List Float) → isMatrix m n s ≡ true → i + 4 ≤ m → i + 4 ≤ from → t ≡ onColumns m n (fourStepped m i from) s
+  pub stepped-columns : (t : List Float) → isMatrix s m n ≡ true → i + 4 ≤ m → i + 4 ≤ from → t ≡ onColumns m n (fourStepped m i from) s
       → columns m n t ≡ eachFrom (λ j c. fourSteps i (columns m n s) c) from (columns m n s)
   stepped-columns t fits hm hf made =
       let cs = columns m n s in
@@ -131,7 +131,7 @@ module _ (i j m n : ℕ) (s : List Float) where
       cond-cases (λ (x : Matrix). columns m n s ≡ x) (leb (i + 4) (min m j)) (λ t. sym (set-out (columns m n s) j _ (rw length-columns out))) (λ t. refl)
 
   -- THE LAW of the call, for those above
-  pub on-column : (t : List Float) → isMatrix m n s ≡ true → i + 4 ≤ m → i + 4 ≤ j → j < n → t ≡ onColumns m n (fourSteppedOn m i j) s
+  pub on-column : (t : List Float) → isMatrix s m n ≡ true → i + 4 ≤ m → i + 4 ≤ j → j < n → t ≡ onColumns m n (fourSteppedOn m i j) s
       → columns m n t ≡ fourStepsIn i j (columns m n s)
   on-column t fits hm right hj made =
       let cs = columns m n s in

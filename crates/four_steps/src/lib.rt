@@ -20,7 +20,7 @@ struct Four {
 
 // The rows i + 1 to i + 3 of column j after the four steps.
 fn head(s: &mut [f64], m: usize, n: usize, i: usize, j: usize)
-    requires { ⌜ (isMatrix m n (now s) ≡ true) × (i + 4 ≤ m) × (i + 4 ≤ j) × (j < n) ⌝ }
+    requires { ⌜ (isMatrix (now s) m n ≡ true) × (i + 4 ≤ m) × (i + 4 ≤ j) × (j < n) ⌝ }
     requires { ⌜ Reaches m i j (length (now s)) ⌝ }
     ensures { λ _. ⌜ columns m n (now (s .exit)) ≡ headIn i j (columns m n (now (s .entry))) ⌝ }
 {
@@ -46,7 +46,7 @@ fn head(s: &mut [f64], m: usize, n: usize, i: usize, j: usize)
 
 // Minus the numbers of the rows i to i + 3 of column j: what its steps multiply by.
 fn minus(s: &[f64], m: usize, n: usize, i: usize, j: usize) -> Four
-    requires { ⌜ (isMatrix m n (now s) ≡ true) × (i + 4 ≤ m) × (j < n) ⌝ }
+    requires { ⌜ (isMatrix (now s) m n ≡ true) × (i + 4 ≤ m) × (j < n) ⌝ }
     ensures { λ f. ⌜ f ≡ minusOf i (column (columns m n (now (s .entry))) j) ⌝ }
 {
     let r1 = i + 1;
@@ -63,7 +63,7 @@ fn minus(s: &[f64], m: usize, n: usize, i: usize, j: usize) -> Four
 
 // Row r of column j after the steps, f being what they multiply by.
 fn number(s: &[f64], m: usize, n: usize, i: usize, f: Four, j: usize, r: usize) -> f64
-    requires { ⌜ (isMatrix m n (now s) ≡ true) × (i + 4 ≤ j) × (j < n) × (r < m) ⌝ }
+    requires { ⌜ (isMatrix (now s) m n ≡ true) × (i + 4 ≤ j) × (j < n) × (r < m) ⌝ }
     ensures { λ x. ⌜ x ≡ addFour i (columns m n (now (s .entry))) f r (entry (column (columns m n (now (s .entry))) j) r) ⌝ }
 {
     let a0 = i * m;
@@ -79,7 +79,7 @@ fn number(s: &[f64], m: usize, n: usize, i: usize, f: Four, j: usize, r: usize) 
 
 // The rows k to k + 3 in the same way.
 fn numbers(s: &[f64], m: usize, n: usize, i: usize, f: Four, j: usize, k: usize) -> Four
-    requires { ⌜ (isMatrix m n (now s) ≡ true) × (i + 4 ≤ j) × (j < n) × (k + 4 ≤ m) ⌝ }
+    requires { ⌜ (isMatrix (now s) m n ≡ true) × (i + 4 ≤ j) × (j < n) × (k + 4 ≤ m) ⌝ }
     ensures { λ x. ⌜ x ≡ fourRows i (columns m n (now (s .entry))) f k (column (columns m n (now (s .entry))) j) ⌝ }
 {
     let first = number(s, m, n, i, f, j, k);
@@ -96,7 +96,7 @@ fn numbers(s: &[f64], m: usize, n: usize, i: usize, f: Four, j: usize, k: usize)
 
 // Writes x over the rows k to k + 3 of column j.
 fn write_four(s: &mut [f64], m: usize, n: usize, j: usize, k: usize, x: Four)
-    requires { ⌜ (isMatrix m n (now s) ≡ true) × (j < n) × (k + 4 ≤ m) ⌝ }
+    requires { ⌜ (isMatrix (now s) m n ≡ true) × (j < n) × (k + 4 ≤ m) ⌝ }
     ensures { λ _. ⌜ columns m n (now (s .exit)) ≡ set (columns m n (now (s .entry))) j (writtenFour k x (column (columns m n (now (s .entry))) j)) ⌝ }
 {
     let k1 = k + 1;
@@ -111,7 +111,7 @@ fn write_four(s: &mut [f64], m: usize, n: usize, j: usize, k: usize, x: Four)
 
 // Row r of column j, below row i + 3.
 fn row(s: &mut [f64], m: usize, n: usize, i: usize, f: Four, j: usize, r: usize)
-    requires { ⌜ (isMatrix m n (now s) ≡ true) × (i + 4 ≤ j) × (j < n) × (i + 4 ≤ r) × (r < m) × (f ≡ minusOf i (column (columns m n (now s)) j)) ⌝ }
+    requires { ⌜ (isMatrix (now s) m n ≡ true) × (i + 4 ≤ j) × (j < n) × (i + 4 ≤ r) × (r < m) × (f ≡ minusOf i (column (columns m n (now s)) j)) ⌝ }
     ensures { λ _. ⌜ tailLeft i j (r + 1) (columns m n (now (s .exit))) ≡ tailLeft i j r (columns m n (now (s .entry))) ⌝ }
     ensures { λ _. ⌜ f ≡ minusOf i (column (columns m n (now (s .exit))) j) ⌝ }
 {
@@ -121,7 +121,7 @@ fn row(s: &mut [f64], m: usize, n: usize, i: usize, f: Four, j: usize, r: usize)
 
 // The rows of column j from row i + 4 on.
 fn tail(s: &mut [f64], m: usize, n: usize, i: usize, j: usize)
-    requires { ⌜ (isMatrix m n (now s) ≡ true) × (i + 4 ≤ m) × (i + 4 ≤ j) × (j < n) ⌝ }
+    requires { ⌜ (isMatrix (now s) m n ≡ true) × (i + 4 ≤ m) × (i + 4 ≤ j) × (j < n) ⌝ }
     ensures { λ _. ⌜ columns m n (now (s .exit)) ≡ tailLeft i j (i + 4) (columns m n (now (s .entry))) ⌝ }
 {
     let f = minus(s, m, n, i, j);
@@ -134,7 +134,7 @@ fn tail(s: &mut [f64], m: usize, n: usize, i: usize, j: usize)
 
 // The rows of the columns j and j + 1 from row i + 4 on, four at a time: a multiplier is read once for both columns. Answers the first row that is left.
 fn two_by_four(s: &mut [f64], m: usize, n: usize, i: usize, j: usize) -> usize
-    requires { ⌜ (isMatrix m n (now s) ≡ true) × (i + 4 ≤ m) × (i + 4 ≤ j) × (j + 1 < n) ⌝ }
+    requires { ⌜ (isMatrix (now s) m n ≡ true) × (i + 4 ≤ m) × (i + 4 ≤ j) × (j + 1 < n) ⌝ }
     ensures { λ k. ⌜ (i + 4 ≤ k) × (k ≤ m) × (m < k + 4) ⌝ }
     ensures { λ k. ⌜ tailsLeft i j k (columns m n (now (s .exit))) ≡ tailsLeft i j (i + 4) (columns m n (now (s .entry))) ⌝ }
 {
@@ -164,7 +164,7 @@ fn write_two(col: &mut [f64], k: usize, x: f64, y: f64)
 
 // The rows k and k + 1 of the columns j and j + 1, where both are there. Answers the first row that is left.
 fn two_by_two(s: &mut [f64], m: usize, n: usize, i: usize, j: usize, k: usize) -> usize
-    requires { ⌜ (isMatrix m n (now s) ≡ true) × (i + 4 ≤ m) × (i + 4 ≤ j) × (j + 1 < n) × (i + 4 ≤ k) × (k ≤ m) × (m < k + 4) ⌝ }
+    requires { ⌜ (isMatrix (now s) m n ≡ true) × (i + 4 ≤ m) × (i + 4 ≤ j) × (j + 1 < n) × (i + 4 ≤ k) × (k ≤ m) × (m < k + 4) ⌝ }
     ensures { λ r. ⌜ (i + 4 ≤ r) × (r ≤ m) × (m < r + 2) ⌝ }
     ensures { λ r. ⌜ tailsLeft i j r (columns m n (now (s .exit))) ≡ tailsLeft i j k (columns m n (now (s .entry))) ⌝ }
 {
@@ -190,7 +190,7 @@ fn two_by_two(s: &mut [f64], m: usize, n: usize, i: usize, j: usize, k: usize) -
 
 // Row k of the columns j and j + 1, where it is there.
 fn two_by_one(s: &mut [f64], m: usize, n: usize, i: usize, j: usize, k: usize)
-    requires { ⌜ (isMatrix m n (now s) ≡ true) × (i + 4 ≤ m) × (i + 4 ≤ j) × (j + 1 < n) × (i + 4 ≤ k) × (m < k + 2) ⌝ }
+    requires { ⌜ (isMatrix (now s) m n ≡ true) × (i + 4 ≤ m) × (i + 4 ≤ j) × (j + 1 < n) × (i + 4 ≤ k) × (m < k + 2) ⌝ }
     ensures { λ _. ⌜ columns m n (now (s .exit)) ≡ tailsLeft i j k (columns m n (now (s .entry))) ⌝ }
 {
     if m <= k {
@@ -205,7 +205,7 @@ fn two_by_one(s: &mut [f64], m: usize, n: usize, i: usize, j: usize, k: usize)
 
 // The steps i to i + 3 on column j, by those columns.
 fn steps_on(s: &mut [f64], m: usize, n: usize, i: usize, j: usize)
-    requires { ⌜ (isMatrix m n (now s) ≡ true) × (i + 4 ≤ m) × (i + 4 ≤ j) × (j < n) ⌝ }
+    requires { ⌜ (isMatrix (now s) m n ≡ true) × (i + 4 ≤ m) × (i + 4 ≤ j) × (j < n) ⌝ }
     ensures { λ _. ⌜ columns m n (now (s .exit)) ≡ fourStepsIn i j (columns m n (now (s .entry))) ⌝ }
 {
     head(s, m, n, i, j);
@@ -214,7 +214,7 @@ fn steps_on(s: &mut [f64], m: usize, n: usize, i: usize, j: usize)
 
 // The same on the columns j and j + 1.
 fn steps_on_two(s: &mut [f64], m: usize, n: usize, i: usize, j: usize)
-    requires { ⌜ (isMatrix m n (now s) ≡ true) × (i + 4 ≤ m) × (i + 4 ≤ j) × (j + 1 < n) ⌝ }
+    requires { ⌜ (isMatrix (now s) m n ≡ true) × (i + 4 ≤ m) × (i + 4 ≤ j) × (j + 1 < n) ⌝ }
     ensures { λ _. ⌜ columns m n (now (s .exit)) ≡ setTwo j (fourSteps i (columns m n (now (s .entry)))) (columns m n (now (s .entry))) ⌝ }
 {
     let j1 = j + 1;
@@ -227,7 +227,7 @@ fn steps_on_two(s: &mut [f64], m: usize, n: usize, i: usize, j: usize)
 
 // The same on column j and, where there is one, the next. Answers the column behind.
 fn steps_from(s: &mut [f64], m: usize, n: usize, i: usize, j: usize) -> usize
-    requires { ⌜ (isMatrix m n (now s) ≡ true) × (i + 4 ≤ m) × (i + 4 ≤ j) × (j < n) ⌝ }
+    requires { ⌜ (isMatrix (now s) m n ≡ true) × (i + 4 ≤ m) × (i + 4 ≤ j) × (j < n) ⌝ }
     ensures { λ r. ⌜ (j < r) × Onward i j (columns m n (now (s .entry))) r (columns m n (now (s .exit))) ⌝ }
 {
     let next = j + 1;

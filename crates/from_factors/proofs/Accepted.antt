@@ -29,7 +29,7 @@ use Rattle.lu.proofs.Told.{passed}
 use Rattle.lu.proofs.Shape.{factorsOf, wide, shape-f, size-f, rising, few}
 use Rattle.adding.proofs.Afresh.{Given, accepted-given}
 
-module _ (m n : ℕ) (a out : Column) (store : List ℕ) (told : Record) (ok : factoring m n a out store .answer ≡ done told) where
+module _ (m n : ℕ) (a out : Column) (store : List ℕ) (told : Record) (ok : factoring a m n out store .answer ≡ done told) where
   abbrev f : Factors
   f = factorsOf m n a
 
@@ -37,17 +37,17 @@ module _ (m n : ℕ) (a out : Column) (store : List ℕ) (told : Record) (ok : f
   given = accepted-given m n a out store told ok
 
   -- THEOREM. An accepted factoring leaves the factors and the swaps of the elimination.
-  pub accepted-is : factoring m n a out store ≡ acceptedAs m n (eliminate m (columns m n a))
+  pub accepted-is : factoring a m n out store ≡ acceptedAs m n (eliminate m (columns m n a))
   accepted-is = given .is
 
   -- THEOREM. The columns of its factors are those of the elimination, and the pairs of its store are the recorded swaps.
-  pub accepted-columns : columns m n (factoring m n a out store .left .factors) ≡ eliminate m (columns m n a) .columns
+  pub accepted-columns : columns m n (factoring a m n out store .left .factors) ≡ eliminate m (columns m n a) .columns
   accepted-columns =
       ap (λ (o : Factoring). columns m n (o .left .factors)) accepted-is
       ∙ ap (λ (k : ℕ). columns m k (flat (f .columns))) (sym (wide m n a out store (given .none)))
       ∙ columns-flat m (f .columns) (shape-f m n a out store (given .none))
 
-  pub accepted-pairs : pairsOf (told .pairs) (factoring m n a out store .left .store) ≡ eliminate m (columns m n a) .swaps
+  pub accepted-pairs : pairsOf (told .pairs) (factoring a m n out store .left .store) ≡ eliminate m (columns m n a) .swaps
   accepted-pairs = rw (given .told-is, accepted-is) (pairs-store (f .swaps))
 
   -- what a call may ask
@@ -58,7 +58,8 @@ module _ (m n : ℕ) (a out : Column) (store : List ℕ) (told : Record) (ok : f
 
     held-columns : columns m n (flat (f .columns)) ≡ f .columns
     held-columns =
-        ap (λ (k : ℕ). columns m k (flat (f .columns))) (sym (wide m n a out store (given .none))) ∙ columns-flat m (f .columns) (shape-f m n a out store (given .none))
+        ap (λ (k : ℕ). columns m k (flat (f .columns))) (sym (wide m n a out store (given .none))) ∙ columns-flat m (f .columns)
+        (shape-f m n a out store (given .none))
 
     made-passes : heldRefusal (flat (f .columns)) (storeOf (f .swaps)) (recordFor m n f) asks ≡ 0
     made-passes =
@@ -82,5 +83,5 @@ module _ (m n : ℕ) (a out : Column) (store : List ℕ) (told : Record) (ok : f
         })
 
     -- THEOREM. Its record, factors and store pass the tests of a call that asks for no solve, and for a square matrix only where it is one.
-    pub accepted-passes : let o = factoring m n a out store in heldRefusal (o .left .factors) (o .left .store) told asks ≡ 0
+    pub accepted-passes : let o = factoring a m n out store in heldRefusal (o .left .factors) (o .left .store) told asks ≡ 0
     accepted-passes = rw (given .told-is, accepted-is) made-passes

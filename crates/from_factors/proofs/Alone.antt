@@ -52,21 +52,21 @@ module _ (way : Way) (keeps : Keeps way) where
     swaps = pairsOf (r .pairs) store
 
     abbrev call : Call (Unit {0}) Column
-    call = solvingBy way r factors store k b x
+    call = solvingBy way factors store r b k x
 
     -- a call that its tests let pass
-    made : heldRefusal factors store r (solveAsks n k b x) ≡ 0 → call ≡ seventh (solvedBy way r factors store (columns n k b))
-    made e = tested-none (heldRefusal factors store r (solveAsks n k b x)) (leaving x) (seventh (solvedBy way r factors store (columns n k b))) e
+    made : heldRefusal factors store r (solveAsks b n k x) ≡ 0 → call ≡ seventh (solvedBy way factors store r (columns n k b))
+    made e = tested-none (heldRefusal factors store r (solveAsks b n k x)) (leaving x) (seventh (solvedBy way factors store r (columns n k b))) e
 
-    none : numberOf (call .answer) ≡ 0 → heldRefusal factors store r (solveAsks n k b x) ≡ 0
-    none e = none-given (heldRefusal factors store r (solveAsks n k b x)) x _ e
+    none : numberOf (call .answer) ≡ 0 → heldRefusal factors store r (solveAsks b n k x) ≡ 0
+    none e = none-given (heldRefusal factors store r (solveAsks b n k x)) x _ e
 
     way-columns : numberOf (call .answer) ≡ 0 → columns n k (call .left) ≡ solvedAll way n cs swaps (columns n k b)
     unfolding solvedAll
     way-columns e =
         let o = made (none e) in
-        let p = passed factors store r (solveAsks n k b x) (none e) in
-        let sides = and-first (isMatrix n k b) (isMatrix n k x) (p .lengths) in
+        let p = passed factors store r (solveAsks b n k x) (none e) in
+        let sides = and-first (isMatrix b n k) (isMatrix x n k) (p .lengths) in
         let all = solvedAll way n cs swaps (columns n k b) in
         let wide : length all ≡ k = length-each _ 0 (columns n k b) ∙ length-columns n k b in
         let tall : HasRows n all = each-rows n _ 0 (columns n k b) (λ j c e. keeps n cs swaps c ∙ e) (columns-rows n k b (sized n k b sides .size)) in
@@ -79,14 +79,14 @@ module _ (way : Way) (keeps : Keeps way) where
     unfolding solvedAll
     way-column j h e = ap (λ (c : Matrix). column c j) (way-columns e) ∙ each-at _ 0 (columns n k b) j [] (omega arith) (rw length-columns h)
 
-    way-seven : heldRefusal factors store r (solveAsks n k b x) ≡ 0
+    way-seven : heldRefusal factors store r (solveAsks b n k x) ≡ 0
         → numberOf (call .answer) ≡ cond (allFinite (flat (solvedAll way n cs swaps (columns n k b)))) 0 7
-    way-seven e = ap (λ (q : Call (Unit {0}) Column). numberOf (q .answer)) (made e) ∙ seventh-number (solvedBy way r factors store (columns n k b))
+    way-seven e = ap (λ (q : Call (Unit {0}) Column). numberOf (q .answer)) (made e) ∙ seventh-number (solvedBy way factors store r (columns n k b))
 
   way-alone : (r : Record) (factors : Column) (store : List ℕ) (k l : ℕ) (b d x y : Column) (i j : ℕ) → i < k → j < l
-      → numberOf (solvingBy way r factors store k b x .answer) ≡ 0 → numberOf (solvingBy way r factors store l d y .answer) ≡ 0
+      → numberOf (solvingBy way factors store r b k x .answer) ≡ 0 → numberOf (solvingBy way factors store r d l y .answer) ≡ 0
       → column (columns (r .rows) k b) i ≡ column (columns (r .rows) l d) j
-      → column (columns (r .rows) k (solvingBy way r factors store k b x .left)) i ≡ column (columns (r .rows) l (solvingBy way r factors store l d y .left)) j
+      → column (columns (r .rows) k (solvingBy way factors store r b k x .left)) i ≡ column (columns (r .rows) l (solvingBy way factors store r d l y .left)) j
   way-alone r factors store k l b d x y i j hi hj e f same =
       way-column r factors store k b x i hi e
       ∙ ap (way (r .rows) (columns (r .rows) (r .rows) factors) (pairsOf (r .pairs) store)) same
@@ -95,41 +95,41 @@ module _ (way : Way) (keeps : Keeps way) where
 -- ---- the two calls
 module _ (r : Record) (factors : Column) (store : List ℕ) (k : ℕ) (b x : Column) where
   -- THEOREM. An accepted solution column is its own right-hand column, solved.
-  pub accepted-column : (j : ℕ) → j < k → numberOf (solving r factors store k b x .answer) ≡ 0
-      → column (columns (r .rows) k (solving r factors store k b x .left)) j
+  pub accepted-column : (j : ℕ) → j < k → numberOf (solving factors store r b k x .answer) ≡ 0
+      → column (columns (r .rows) k (solving factors store r b k x .left)) j
       ≡ solved (r .rows) (columns (r .rows) (r .rows) factors) (pairsOf (r .pairs) store) (column (columns (r .rows) k b) j)
   unfolding solving
   accepted-column = way-column solved solve-keeps r factors store k b x
 
-  pub accepted-tr-column : (j : ℕ) → j < k → numberOf (trSolving r factors store k b x .answer) ≡ 0
-      → column (columns (r .rows) k (trSolving r factors store k b x .left)) j
+  pub accepted-tr-column : (j : ℕ) → j < k → numberOf (trSolving factors store r b k x .answer) ≡ 0
+      → column (columns (r .rows) k (trSolving factors store r b k x .left)) j
       ≡ trSolved (r .rows) (columns (r .rows) (r .rows) factors) (pairsOf (r .pairs) store) (column (columns (r .rows) k b) j)
   unfolding trSolving
   accepted-tr-column = way-column trSolved tr-solve-keeps r factors store k b x
 
   -- THEOREM. A call that its tests let pass is refused with 7 exactly where some number of some solved column is not finite.
-  pub seven-by-all : heldRefusal factors store r (solveAsks (r .rows) k b x) ≡ 0
-      → numberOf (solving r factors store k b x .answer) ≡ cond (allFinite (solvedBy solved r factors store (columns (r .rows) k b))) 0 7
+  pub seven-by-all : heldRefusal factors store r (solveAsks b (r .rows) k x) ≡ 0
+      → numberOf (solving factors store r b k x .answer) ≡ cond (allFinite (solvedBy solved factors store r (columns (r .rows) k b))) 0 7
   unfolding solving
   seven-by-all = way-seven solved solve-keeps r factors store k b x
 
-  pub tr-seven-by-all : heldRefusal factors store r (solveAsks (r .rows) k b x) ≡ 0
-      → numberOf (trSolving r factors store k b x .answer) ≡ cond (allFinite (solvedBy trSolved r factors store (columns (r .rows) k b))) 0 7
+  pub tr-seven-by-all : heldRefusal factors store r (solveAsks b (r .rows) k x) ≡ 0
+      → numberOf (trSolving factors store r b k x .answer) ≡ cond (allFinite (solvedBy trSolved factors store r (columns (r .rows) k b))) 0 7
   unfolding trSolving
   tr-seven-by-all = way-seven trSolved tr-solve-keeps r factors store k b x
 
 -- THEOREM. Two accepted calls by one record, factors and store: equal right-hand columns, wherever they stand and whatever stands beside them, have
 -- equal solution columns.
 pub column-alone : (r : Record) (factors : Column) (store : List ℕ) (k l : ℕ) (b d x y : Column) (i j : ℕ) → i < k → j < l
-    → numberOf (solving r factors store k b x .answer) ≡ 0 → numberOf (solving r factors store l d y .answer) ≡ 0
+    → numberOf (solving factors store r b k x .answer) ≡ 0 → numberOf (solving factors store r d l y .answer) ≡ 0
     → column (columns (r .rows) k b) i ≡ column (columns (r .rows) l d) j
-    → column (columns (r .rows) k (solving r factors store k b x .left)) i ≡ column (columns (r .rows) l (solving r factors store l d y .left)) j
+    → column (columns (r .rows) k (solving factors store r b k x .left)) i ≡ column (columns (r .rows) l (solving factors store r d l y .left)) j
 unfolding solving
 column-alone = way-alone solved solve-keeps
 
 pub tr-column-alone : (r : Record) (factors : Column) (store : List ℕ) (k l : ℕ) (b d x y : Column) (i j : ℕ) → i < k → j < l
-    → numberOf (trSolving r factors store k b x .answer) ≡ 0 → numberOf (trSolving r factors store l d y .answer) ≡ 0
+    → numberOf (trSolving factors store r b k x .answer) ≡ 0 → numberOf (trSolving factors store r d l y .answer) ≡ 0
     → column (columns (r .rows) k b) i ≡ column (columns (r .rows) l d) j
-    → column (columns (r .rows) k (trSolving r factors store k b x .left)) i ≡ column (columns (r .rows) l (trSolving r factors store l d y .left)) j
+    → column (columns (r .rows) k (trSolving factors store r b k x .left)) i ≡ column (columns (r .rows) l (trSolving factors store r d l y .left)) j
 unfolding trSolving
 tr-column-alone = way-alone trSolved tr-solve-keeps

@@ -1,5 +1,5 @@
--- The number of dead columns (document 02, request 7) says what the diagonal says, once it has been compared: the invertible test answers whether no zero stands
--- there, and refusal 6 is given exactly where one does. By the tests in their order. Assumes nothing.
+-- The number of dead columns (document 02, request 7) says what the diagonal says, once it has been compared: the invertible test answers whether no zero
+-- stands there, and refusal 6 is given exactly where one does. By the tests in their order. Assumes nothing.
 use mathlib.Core.Path.{_≡_, refl, sym, ap, _∙_}
 use mathlib.Core.Logic.{_↔_}
 use mathlib.Core.Bool.{Bool, true, false, not, _&&_, _||_}
@@ -33,15 +33,15 @@ twice false = refl
 
 module _ (factors : Column) (store : List ℕ) (r : Record) where
   -- past the tests of a square matrix, the number is not 0 exactly where a zero stands on the diagonal
-  pub dead-zero : (asks : Asks) → asks .square ≡ true → Passed factors store r asks → zeroOnDiagonal (r .rows) factors ≡ not (eqb (r .dead) 0)
+  pub dead-zero : (asks : Asks) → asks .square ≡ true → Passed factors store r asks → zeroOnDiagonal factors (r .rows) ≡ not (eqb (r .dead) 0)
   unfolding zeroOnDiagonal
   dead-zero asks square p =
       let e = same factors store r asks square p in
-      let there = ap (λ (k : ℕ). deadOf (r .rows) k factors) e ∙ held-dead (r .rows) (r .columns) factors (p .matrix) ∙ sym (p .dead) in
+      let there = ap (λ (k : ℕ). deadOf factors (r .rows) k) e ∙ held-dead (r .rows) (r .columns) factors (p .matrix) ∙ sym (p .dead) in
       ap (λ (k : ℕ). not (eqb k 0)) there
 
   -- THEOREM. Past the tests the invertible test answers whether no zero stands on the diagonal.
-  pub invertible-is : heldRefusal factors store r squareAsks ≡ 0 → inverseTest r factors store ≡ done (not (zeroOnDiagonal (r .rows) factors))
+  pub invertible-is : heldRefusal factors store r squareAsks ≡ 0 → inverseTest factors store r ≡ done (not (zeroOnDiagonal factors (r .rows)))
   unfolding inverseTest
   invertible-is none =
       tested-none _ refused _ none ∙ ap done (twice (eqb (r .dead) 0) ∙ ap not (sym (dead-zero squareAsks refl (passed factors store r squareAsks none))))
@@ -49,7 +49,7 @@ module _ (factors : Column) (store : List ℕ) (r : Record) where
   -- ---- refusal 6, of a call that asks for a square matrix and solves
   module _ (asks : Asks) (square : asks .square ≡ true) (solves : asks .solves ≡ true) where
     -- THEOREM. Where no test holds, no zero stands on the diagonal.
-    pub passed-nonzero : heldRefusal factors store r asks ≡ 0 → zeroOnDiagonal (r .rows) factors ≡ false
+    pub passed-nonzero : heldRefusal factors store r asks ≡ 0 → zeroOnDiagonal factors (r .rows) ≡ false
     passed-nonzero none =
         let p = passed factors store r asks none in
         dead-zero asks square p ∙ (rw solves at (p .solvable))
@@ -77,7 +77,13 @@ module _ (factors : Column) (store : List ℕ) (r : Record) where
         ne k e = omega (arith, e)
 
     others : Each (λ k. k ≡ 6 → ⊥) ahead
-    others = (λ e. omega (arith, e), (λ e. omega (arith, e), (λ e. omega (arith, e), (λ e. omega (arith, e), (λ e. omega (arith, e), (λ e. omega (arith, e), tt))))))
+    others = (
+      λ e. omega (arith, e),
+      (
+        λ e. omega (arith, e),
+        (λ e. omega (arith, e), (λ e. omega (arith, e), (λ e. omega (arith, e), (λ e. omega (arith, e), tt)))),
+      ),
+    )
 
     -- so where 6 is given, none of them holds
     earlier : heldRefusal factors store r asks ≡ 6 → heldRefusal factors store r before ≡ 0
@@ -85,7 +91,8 @@ module _ (factors : Column) (store : List ℕ) (r : Record) where
     earlier e =
         let last : List (ℕ × Bool) = (6, asks .solves && not (eqb (r .dead) 0)) ∷ [] in
         test-cases (eqb (firstOf ahead) 0)
-        (λ t. first-behind ahead ((6, false) ∷ []) numbered ∙ tested-none (firstOf ahead) (λ k. k) (firstOf ((6, false) ∷ [])) (eqb-true (firstOf ahead) 0 t) ∙ none)
+        (λ t. first-behind ahead ((6, false) ∷ []) numbered ∙ tested-none (firstOf ahead) (λ k. k) (firstOf ((6, false) ∷ []))
+        (eqb-true (firstOf ahead) 0 t) ∙ none)
         (λ t.
         let is = first-behind ahead last numbered ∙ tested-some (firstOf ahead) (λ k. k) (firstOf last) (eqb-false (firstOf ahead) 0 t) in
         absurd (first-among (λ k. k ≡ 6 → ⊥) ahead (λ z. omega (arith, z)) others (sym is ∙ e)))
@@ -98,7 +105,7 @@ module _ (factors : Column) (store : List ℕ) (r : Record) where
     six-passed e = passed factors store r before (earlier e)
 
     -- THEOREM. Where 6 is given, one does.
-    pub six-zero : heldRefusal factors store r asks ≡ 6 → zeroOnDiagonal (r .rows) factors ≡ true
+    pub six-zero : heldRefusal factors store r asks ≡ 6 → zeroOnDiagonal factors (r .rows) ≡ true
     six-zero e =
         let p = six-passed e in
         test-cases (eqb (r .dead) 0)

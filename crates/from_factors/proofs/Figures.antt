@@ -36,7 +36,8 @@ use Rattle.from_factors.specs.Determinant.{timesDiagonal, diagonalProduc
 unfoldable pub computes : Type 0
 unfolding add sub mul div neg eq lt ofBits eachFrom turnsFrom listOf isZero magnitude searchFrom pivotRow exchanged scaleFrom axpyFrom allFinite columns flat
     isMatrix onColumns swapInAll stepColumn stepColumns eliminated firstOf outside seventh tested andThen recordAfter pairsOf holds goodPair goodPairs goodList
-    permutedBy signOf upperRow keptRow solvedRow turn solvedColumn zeroCount deadFrom deadIn deadOf recordSwap multipliers scaled pivotStep step eliminate numbersOf
+    permutedBy signOf upperRow keptRow solvedRow turn solvedColumn zeroCount deadFrom deadIn deadOf recordSwap multipliers scaled pivotStep step
+    eliminate numbersOf
     storeOf factoringRefusal settled factoring heldRefusal solved solvedAll solving unitColumn inverting timesDiagonal diagonalProduct numberOr7 producing
     determining inverseTest update reduced addColumn addingRefusal written addingSettled adding
 computes = Unit {0}
@@ -72,7 +73,7 @@ ones n = replicate n n1
 
 -- a fresh factoring of m by n numbers
 abbrev pub fresh : ℕ → ℕ → Column → Factoring
-fresh m n a = factoring m n a (ones (n * m)) (replicate 128 1)
+fresh m n a = factoring a m n (ones (n * m)) (replicate 128 1)
 
 -- its record; one of no pairs where it is refused
 abbrev pub toldIn : ℕ → ℕ → Factoring → Record
@@ -84,7 +85,7 @@ leaves x = record { answer = done tt; left = x }
 
 -- the inverse of the first line's matrix: columns (0, 1) and (0.5, 0)
 pub inverse-figure : let o = fresh 2 2 (n0 ∷ n2 ∷ n1 ∷ n0 ∷ []) in
-    inverting (toldIn 2 2 o) (o .left .factors) (o .left .store) (ones 4) ≡ leaves (n0 ∷ n1 ∷ small 0 ∷ n0 ∷ [])
+    inverting (o .left .factors) (o .left .store) (toldIn 2 2 o) (ones 4) ≡ leaves (n0 ∷ n1 ∷ small 0 ∷ n0 ∷ [])
 unfolding computes
 inverse-figure = refl
 
@@ -96,12 +97,12 @@ unfolding computes addProduct addBlock eightSums pairSums dotOf transposedUpperR
 transposes = Unit {0}
 
 -- rows (2, 0) and (2, 4), packed as U (2, 4) with the multiplier 1; transposed, the right-hand side (4, 8) gives 0 and 2
-pub transposed-figure : trSolving (recordOf 2 2 0 0) (n2 ∷ n1 ∷ n0 ∷ n4 ∷ []) (storeOf []) 1 (n4 ∷ n8 ∷ []) (ones 2) ≡ leaves (n0 ∷ n2 ∷ [])
+pub transposed-figure : trSolving (n2 ∷ n1 ∷ n0 ∷ n4 ∷ []) (storeOf []) (recordOf 2 2 0 0) (n4 ∷ n8 ∷ []) 1 (ones 2) ≡ leaves (n0 ∷ n2 ∷ [])
 unfolding transposes
 transposed-figure = refl
 
 -- the swaps (0, 1) and (1, 2) alone, in reverse: 1, 2, 4 become 4, 1, 2; in order they would be 2, 4, 1
 pub reverse-figure : let unit = n1 ∷ n0 ∷ n0 ∷ n0 ∷ n1 ∷ n0 ∷ n0 ∷ n0 ∷ n1 ∷ [] in
-    trSolving (recordOf 3 3 2 0) unit (storeOf ((0, 1) ∷ (1, 2) ∷ [])) 1 (n1 ∷ n2 ∷ n4 ∷ []) (ones 3) ≡ leaves (n4 ∷ n1 ∷ n2 ∷ [])
+    trSolving unit (storeOf ((0, 1) ∷ (1, 2) ∷ [])) (recordOf 3 3 2 0) (n1 ∷ n2 ∷ n4 ∷ []) 1 (ones 3) ≡ leaves (n4 ∷ n1 ∷ n2 ∷ [])
 unfolding transposes
 reverse-figure = refl

@@ -14,12 +14,12 @@ use Rattle.from_factors.specs.Solving.{Way, solvedBy}
 
 pub promise-solved : (way : Way) (r : Record) (factors : Column) (store : List ℕ) (bs cs : Matrix) (refusal number : ℕ)
     (was work : Column) (n : ℕ) (a : Answer) (s : Column)
-    → number ≡ refusal → number ≡ 0 → work ≡ solvedBy way r factors store bs → bs ≡ cs → n ≡ numberOf (seventh work .answer)
+    → number ≡ refusal → number ≡ 0 → work ≡ solvedBy way factors store r bs → bs ≡ cs → n ≡ numberOf (seventh work .answer)
     → answered a ≡ tested n refused (done tt)
-    → s ≡ seventh work .left → Promise (tested refusal (leaving was) (seventh (solvedBy way r factors store cs))) a s
+    → s ≡ seventh work .left → Promise (tested refusal (leaving was) (seventh (solvedBy way factors store r cs))) a s
 promise-solved way r factors store bs cs refusal number was work n a s e none made same count answer left =
-    let is : work ≡ solvedBy way r factors store cs = made ∙ ap (solvedBy way r factors store) same in
-    promise-made refusal number was (seventh (solvedBy way r factors store cs)) a s e none
+    let is : work ≡ solvedBy way factors store r cs = made ∙ ap (solvedBy way factors store r) same in
+    promise-made refusal number was (seventh (solvedBy way factors store r cs)) a s e none
     (answer ∙ seventh-answer work n count ∙ ap (λ (c : Column). seventh c .answer) is)
     (left ∙ ap (λ (c : Column). seventh c .left) is)
 

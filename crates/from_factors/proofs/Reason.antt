@@ -89,7 +89,7 @@ module _ (n : ℕ) (cs : Matrix) (swaps : Swaps) (bs : Matrix) where
 
 -- ---- the call
 module _ (r : Record) (factors : Column) (store : List ℕ) (k : ℕ) (b x : Column)
-    (none-before : heldRefusal factors store r (solveAsks (r .rows) k b x) ≡ 0) where
+    (none-before : heldRefusal factors store r (solveAsks b (r .rows) k x) ≡ 0) where
   abbrev n : ℕ
   n = r .rows
 
@@ -99,22 +99,22 @@ module _ (r : Record) (factors : Column) (store : List ℕ) (k : ℕ) (b x : Col
   abbrev swaps : Swaps
   swaps = pairsOf (r .pairs) store
 
-  pub sides : isMatrix n k b ≡ true
-  sides = and-first (isMatrix n k b) (isMatrix n k x) (passed factors store r (solveAsks n k b x) none-before .lengths)
+  pub sides : isMatrix b n k ≡ true
+  sides = and-first (isMatrix b n k) (isMatrix x n k) (passed factors store r (solveAsks b n k x) none-before .lengths)
 
   pub sides-size : length b ≡ k * n
   sides-size = sized n k b sides .size
 
   pub sides-finite : allFinite (flat (columns n k b)) ≡ true
-  sides-finite = ap allFinite (flat-columns n k b sides-size) ∙ passed factors store r (solveAsks n k b x) none-before .numbers
+  sides-finite = ap allFinite (flat-columns n k b sides-size) ∙ passed factors store r (solveAsks b n k x) none-before .numbers
 
-  pub seven : numberOf (solving r factors store k b x .answer) ≡ cond (allFinite (flat (solvedAll solved n cs swaps (columns n k b)))) 0 7
+  pub seven : numberOf (solving factors store r b k x .answer) ≡ cond (allFinite (flat (solvedAll solved n cs swaps (columns n k b)))) 0 7
   unfolding solving
   seven = ap (λ (o : Call (Unit {0}) Column). numberOf (o .answer)) (tested-none _ (leaving x) _ none-before) ∙ seventh-number _
 
   -- THEOREM. Of a solve that passes the tests, by cases: it is accepted and there is no reason, or it gives 7 and the reason is as `Explained` says.
   pub solving-cases : (P : ℕ → Option Stored → Type 0) → P 0 none → ((p : Stored) → Explained n cs swaps (columns n k b) p → P 7 (some p))
-      → P (numberOf (solving r factors store k b x .answer)) (solveReason n cs swaps (columns n k b))
+      → P (numberOf (solving factors store r b k x .answer)) (solveReason n cs swaps (columns n k b))
   solving-cases P accepted refused =
-      solve-cases n cs swaps (columns n k b) (columns-rows n k b sides-size) sides-finite (P (numberOf (solving r factors store k b x .answer)))
+      solve-cases n cs swaps (columns n k b) (columns-rows n k b sides-size) sides-finite (P (numberOf (solving factors store r b k x .answer)))
       (λ e. rw (seven, e) accepted) (λ p e y. rw (seven, e) (refused p y))

@@ -78,10 +78,10 @@ module _ (r : Record) (factors : Column) (store : List ℕ) where
   module _ (k : ℕ) (bs : Matrix) (wide : length bs ≡ k) (rows : HasRows n bs) (fine : allFinite (flat bs) ≡ true) where
     -- 7 is given exactly when some solved column holds a number that is not finite; P tells it of column j
     through : (way : Way) (P : ℕ → Type 0) → ((j : ℕ) → j < k → (allFinite (way n cs swaps (column bs j)) ≡ false) ↔ P j)
-        → (seventh (solvedBy way r factors store bs) .answer ≡ refused 7) ↔ ((j : ℕ) × (j < k) × P j)
+        → (seventh (solvedBy way factors store r bs) .answer ≡ refused 7) ↔ ((j : ℕ) × (j < k) × P j)
     unfolding solvedAll
     through way P one =
-        let both = Iff·trans (seventh-refused (solvedBy way r factors store bs)) (each-spoilt (way n cs swaps) bs) in (
+        let both = Iff·trans (seventh-refused (solvedBy way factors store r bs)) (each-spoilt (way n cs swaps) bs) in (
           λ e. let s = both .0 e in let h : s .0 < k = rw wide at (s .1) in (s .0, h, one (s .0) h .0 (s .2)),
           λ s. both .1 (s .0, rw wide (s .1), one (s .0) (s .1) .1 (s .2)),
         )
@@ -89,7 +89,7 @@ module _ (r : Record) (factors : Column) (store : List ℕ) where
     row-of : (j : ℕ) → j < k → length (column bs j) ≡ n
     row-of j h = rows j (rw wide h)
 
-    solved-seven : (seventh (solvedBy solved r factors store bs) .answer ≡ refused 7)
+    solved-seven : (seventh (solvedBy solved factors store r bs) .answer ≡ refused 7)
         ↔ ((j : ℕ) × (j < k) × InEither (GivenDiagonal one64) Upper n cs (permute swaps (column bs j)))
     unfolding solved
     solved-seven = through solved (λ j. InEither (GivenDiagonal one64) Upper n cs (permute swaps (column bs j))) λ j h.
@@ -97,7 +97,7 @@ module _ (r : Record) (factors : Column) (store : List ℕ) where
         two-passes (GivenDiagonal one64) Upper n cs (permute swaps b) (length-permute swaps b ∙ row-of j h)
         (finite-permute swaps b ∙ column-finite bs fine j)
 
-    tr-solved-seven : (seventh (solvedBy trSolved r factors store bs) .answer ≡ refused 7)
+    tr-solved-seven : (seventh (solvedBy trSolved factors store r bs) .answer ≡ refused 7)
         ↔ ((j : ℕ) × (j < k) × InEither TransposedUpper TransposedUnitLower n cs (column bs j))
     unfolding trSolved
     tr-solved-seven = through trSolved (λ j. InEither TransposedUpper TransposedUnitLower n cs (column bs j)) λ j h.
@@ -106,28 +106,28 @@ module _ (r : Record) (factors : Column) (store : List ℕ) where
         (two-passes TransposedUpper TransposedUnitLower n cs b (row-of j h) (column-finite bs fine j))
 
   -- ---- the two solves of k right-hand columns b
-  module _ (k : ℕ) (b x : Column) (none-before : heldRefusal factors store r (solveAsks n k b x) ≡ 0) where
+  module _ (k : ℕ) (b x : Column) (none-before : heldRefusal factors store r (solveAsks b n k x) ≡ 0) where
     sides-size : length b ≡ k * n
-    sides-size = sized n k b (and-first (isMatrix n k b) (isMatrix n k x) (passed factors store r (solveAsks n k b x) none-before .lengths)) .size
+    sides-size = sized n k b (and-first (isMatrix b n k) (isMatrix x n k) (passed factors store r (solveAsks b n k x) none-before .lengths)) .size
 
     sides-finite : allFinite (flat (columns n k b)) ≡ true
-    sides-finite = ap allFinite (flat-columns n k b sides-size) ∙ passed factors store r (solveAsks n k b x) none-before .numbers
+    sides-finite = ap allFinite (flat-columns n k b sides-size) ∙ passed factors store r (solveAsks b n k x) none-before .numbers
 
     -- THEOREM. A solve that passes its tests is refused with 7 exactly when for some right-hand column, its rows swapped, the unit lower pass or the upper pass
     -- behind it stored, at any turn, a number that was not finite.
-    pub solving-seven : (solving r factors store k b x .answer ≡ refused 7)
+    pub solving-seven : (solving factors store r b k x .answer ≡ refused 7)
         ↔ ((j : ℕ) × (j < k) × InEither (GivenDiagonal one64) Upper n cs (permute swaps (column (columns n k b) j)))
     unfolding solving
     solving-seven =
-        rw (tested-none _ (leaving x) (seventh (solvedBy solved r factors store (columns n k b))) none-before)
+        rw (tested-none _ (leaving x) (seventh (solvedBy solved factors store r (columns n k b))) none-before)
         (solved-seven k (columns n k b) (length-columns n k b) (columns-rows n k b sides-size) sides-finite)
 
     -- THEOREM. The same of a transposed solve, by the transposed upper and the transposed unit lower pass; the swaps come last and store nothing new.
-    pub tr-solving-seven : (trSolving r factors store k b x .answer ≡ refused 7)
+    pub tr-solving-seven : (trSolving factors store r b k x .answer ≡ refused 7)
         ↔ ((j : ℕ) × (j < k) × InEither TransposedUpper TransposedUnitLower n cs (column (columns n k b) j))
     unfolding trSolving
     tr-solving-seven =
-        rw (tested-none _ (leaving x) (seventh (solvedBy trSolved r factors store (columns n k b))) none-before)
+        rw (tested-none _ (leaving x) (seventh (solvedBy trSolved factors store r (columns n k b))) none-before)
         (tr-solved-seven k (columns n k b) (length-columns n k b) (columns-rows n k b sides-size) sides-finite)
 
 -- ---- the inverse
@@ -149,14 +149,14 @@ identity-finite n = columns-finite (identity n) λ j h.
     let hj : j < n = rw length-list at h in rw (list-at n (unitColumn n) j [] hj) (unit-finite n j)
 
 -- THEOREM. The same of an inverse, the right-hand columns being the identity's.
-pub inverting-seven : (r : Record) (factors : Column) (store : List ℕ) (x : Column) → heldRefusal factors store r (inverseAsks (r .rows) x) ≡ 0
+pub inverting-seven : (r : Record) (factors : Column) (store : List ℕ) (x : Column) → heldRefusal factors store r (inverseAsks x (r .rows)) ≡ 0
     → let n = r .rows in
-    (inverting r factors store x .answer ≡ refused 7)
+    (inverting factors store r x .answer ≡ refused 7)
     ↔ ((j : ℕ) × (j < n) × InEither (GivenDiagonal one64) Upper n (columns n n factors) (permute (pairsOf (r .pairs) store) (column (identity n) j)))
 unfolding inverting
 inverting-seven r factors store x none-before =
     let n = r .rows in
-    rw (tested-none _ (leaving x) (seventh (solvedBy solved r factors store (identity n))) none-before)
+    rw (tested-none _ (leaving x) (seventh (solvedBy solved factors store r (identity n))) none-before)
     (solved-seven r factors store n (identity n) (length-list n (unitColumn n)) (unit-rows n) (identity-finite n))
 
 -- ---- the determinant
@@ -184,14 +184,14 @@ number-seven x = (
 -- THEOREM. A determinant that passes its tests is refused with 7 exactly when some running product of the diagonal is not finite.
 pub determining-seven : (r : Record) (factors : Column) (store : List ℕ) → heldRefusal factors store r squareAsks ≡ 0
     → let n = r .rows in
-    (determining r factors store ≡ refused 7) ↔ ((q : ℕ) × (q ≤ n) × (finite (turnsFrom (timesDiagonal (columns n n factors)) 0 q one64) ≡ false))
+    (determining factors store r ≡ refused 7) ↔ ((q : ℕ) × (q ≤ n) × (finite (turnsFrom (timesDiagonal (columns n n factors)) 0 q one64) ≡ false))
 unfolding determining producing andThen determinantOf diagonalProduct
 determining-seven r factors store none-before =
     let n = r .rows in
     let cs = columns n n factors in
     let product = turnsFrom (timesDiagonal cs) 0 n one64 in
     let whole = determinantOf n cs (r .pairs) in
-    let is : determining r factors store ≡ numberOr7 whole =
+    let is : determining factors store r ≡ numberOr7 whole =
     ap (λ (o : Outcome Float). andThen o (λ d. numberOr7 (mul binary64 d (signOf (r .pairs))))) (tested-none _ refused (done product) none-before) in
     let seven = number-seven whole in (
       λ e. (n, omega arith, sym (signed-finite (r .pairs) product (product-fits n cs)) ∙ seven .0 (sym is ∙ e)),

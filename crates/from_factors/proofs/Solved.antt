@@ -25,8 +25,8 @@ use Rattle.from_factors.specs.Solving.{solved, trSolved, solvedAll}
 module _ (n k : ℕ) where
   -- y holds the columns of x, f done to each
   pub record Each (f : Column → Column) (x y : Column) : Type 0 where
-    pub was : isMatrix n k x ≡ true
-    pub is : isMatrix n k y ≡ true
+    pub was : isMatrix x n k ≡ true
+    pub is : isMatrix y n k ≡ true
     pub each : columns n k y ≡ eachFrom (λ j c. f c) 0 (columns n k x)
 
   -- three in a row
@@ -37,7 +37,7 @@ module _ (n k : ℕ) where
       ∙ ap flat (r .each ∙ ap (each h) (q .each ∙ ap (each g) (p .each) ∙ each-each _ _ 0 (columns n k x)) ∙ each-each _ _ 0 (columns n k x))
 
   -- rows swapped, and one pass
-  pub by-swaps : (backwards : Bool) (most pairs : ℕ) (store : List ℕ) (x y : Column) → isMatrix n k x ≡ true → goodList n most pairs store ≡ true
+  pub by-swaps : (backwards : Bool) (most pairs : ℕ) (store : List ℕ) (x y : Column) → isMatrix x n k ≡ true → goodList store pairs n most ≡ true
       → y ≡ onColumns n k (rowsPermuted (inOrder backwards (held pairs store))) x → length y ≡ length x
       → Each (permute (inOrder backwards (pairsOf pairs store))) x y
   by-swaps backwards most pairs store x y h list made long =
@@ -53,7 +53,7 @@ module _ (n k : ℕ) where
             (each-rows n _ 0 (columns n k x) (λ j c e. length-permute swaps c ∙ e) (columns-rows n k x (sized n k x h .size)));
       }
 
-  pub by-pass : (pass : Pass) (factors x y : Column) → isMatrix n n factors ≡ true → isMatrix n k x ≡ true → y ≡ solvedInPlace pass n k factors x
+  pub by-pass : (pass : Pass) (factors x y : Column) → isMatrix factors n n ≡ true → isMatrix x n k ≡ true → y ≡ solvedInPlace pass factors n x k
       → length y ≡ length x
       → Each (solvedColumn pass n (columns n n factors)) x y
   unfolding solvedFrom
@@ -61,10 +61,10 @@ module _ (n k : ℕ) where
       record { was = h; is = same-matrix n k x y long ∙ h; each = ap (columns n k) made ∙ in-place-columns pass n k factors x matrix h }
 
   module _ (most pairs : ℕ) (factors x y z w : Column) (store : List ℕ)
-      (matrix : isMatrix n n factors ≡ true) (sides : isMatrix n k x ≡ true) (list : goodList n most pairs store ≡ true) where
+      (matrix : isMatrix factors n n ≡ true) (sides : isMatrix x n k ≡ true) (list : goodList store pairs n most ≡ true) where
     -- x is permuted to y, which the unit lower pass makes z, which the upper pass makes w
     pub passes-solve : y ≡ onColumns n k (rowsPermuted (inOrder false (held pairs store))) x → length y ≡ length x
-        → z ≡ solvedInPlace (GivenDiagonal one64) n k factors y → length z ≡ length y → w ≡ solvedInPlace Upper n k factors z → length w ≡ length z
+        → z ≡ solvedInPlace (GivenDiagonal one64) factors n y k → length z ≡ length y → w ≡ solvedInPlace Upper factors n z k → length w ≡ length z
         → w ≡ flat (solvedAll solved n (columns n n factors) (pairsOf pairs store) (columns n k x))
     unfolding solvedAll solved inOrder
     passes-solve permuted y-long lower z-long upper w-long =
@@ -73,8 +73,8 @@ module _ (n k : ℕ) where
         three _ _ _ x y z w p q (by-pass Upper factors z w matrix (q .is) upper w-long)
 
     -- the transposed upper pass makes x to y, which the transposed unit lower pass makes z, which is permuted in reverse to w
-    pub passes-tr-solve : y ≡ solvedInPlace TransposedUpper n k factors x → length y ≡ length x
-        → z ≡ solvedInPlace TransposedUnitLower n k factors y → length z ≡ length y
+    pub passes-tr-solve : y ≡ solvedInPlace TransposedUpper factors n x k → length y ≡ length x
+        → z ≡ solvedInPlace TransposedUnitLower factors n y k → length z ≡ length y
         → w ≡ onColumns n k (rowsPermuted (inOrder true (held pairs store))) z → length w ≡ length z
         → w ≡ flat (solvedAll trSolved n (columns n n factors) (pairsOf pairs store) (columns n k x))
     unfolding solvedAll trSolved inOrder

@@ -12,32 +12,32 @@ use Rattle.from_factors.specs.Determinant.{squareAsks, producing, determ
 
 module _ (r : Record) (factors : Column) (a b : List ℕ) (alike : SamePairs (r .pairs) a b) where
   -- THEOREM. Two swap stores that agree on their pairs give the same outcome: of a solve, of a transposed solve and of an inverse,
-  pub solving-unread : (k : ℕ) (y x : Column) → solving r factors a k y x ≡ solving r factors b k y x
+  pub solving-unread : (k : ℕ) (y x : Column) → solving factors a r y k x ≡ solving factors b r y k x
   unfolding solving
-  solving-unread k y x = rw (held-unread r a b alike factors (solveAsks (r .rows) k y x), swaps-unread r a b alike)
+  solving-unread k y x = rw (held-unread r a b alike factors (solveAsks y (r .rows) k x), swaps-unread r a b alike)
 
-  pub tr-solving-unread : (k : ℕ) (y x : Column) → trSolving r factors a k y x ≡ trSolving r factors b k y x
+  pub tr-solving-unread : (k : ℕ) (y x : Column) → trSolving factors a r y k x ≡ trSolving factors b r y k x
   unfolding trSolving
-  tr-solving-unread k y x = rw (held-unread r a b alike factors (solveAsks (r .rows) k y x), swaps-unread r a b alike)
+  tr-solving-unread k y x = rw (held-unread r a b alike factors (solveAsks y (r .rows) k x), swaps-unread r a b alike)
 
-  pub inverting-unread : (x : Column) → inverting r factors a x ≡ inverting r factors b x
+  pub inverting-unread : (x : Column) → inverting factors a r x ≡ inverting factors b r x
   unfolding inverting
-  inverting-unread x = rw (held-unread r a b alike factors (inverseAsks (r .rows) x), swaps-unread r a b alike)
+  inverting-unread x = rw (held-unread r a b alike factors (inverseAsks x (r .rows)), swaps-unread r a b alike)
 
   -- of the determinant and of the invertible test,
-  pub determining-unread : determining r factors a ≡ determining r factors b
+  pub determining-unread : determining factors a r ≡ determining factors b r
   unfolding determining producing
   determining-unread = rw (held-unread r a b alike factors squareAsks)
 
-  pub inverse-test-unread : inverseTest r factors a ≡ inverseTest r factors b
+  pub inverse-test-unread : inverseTest factors a r ≡ inverseTest factors b r
   unfolding inverseTest
   inverse-test-unread = rw (held-unread r a b alike factors squareAsks)
 
   -- and of reading L and U
-  pub lowering-unread : (out : Column) → lowering r factors a out ≡ lowering r factors b out
+  pub lowering-unread : (out : Column) → lowering factors a r out ≡ lowering factors b r out
   unfolding lowering
-  lowering-unread out = rw (held-unread r a b alike factors (readAsks (r .rows) (min (r .rows) (r .columns)) out))
+  lowering-unread out = rw (held-unread r a b alike factors (readAsks out (r .rows) (min (r .rows) (r .columns))))
 
-  pub uppering-unread : (out : Column) → uppering r factors a out ≡ uppering r factors b out
+  pub uppering-unread : (out : Column) → uppering factors a r out ≡ uppering factors b r out
   unfolding uppering
-  uppering-unread out = rw (held-unread r a b alike factors (readAsks (min (r .rows) (r .columns)) (r .columns) out))
+  uppering-unread out = rw (held-unread r a b alike factors (readAsks out (min (r .rows) (r .columns)) (r .columns)))

@@ -26,7 +26,7 @@ module _ (f : ℕ → Column) (m n : ℕ) where
     pub size : length s ≡ n * m
     pub left : eachFrom (λ i c. f i) j (columns m n s) ≡ listOf n f
 
-  pub written-start : (s : Column) → isMatrix m n s ≡ true → Written 0 s
+  pub written-start : (s : Column) → isMatrix s m n ≡ true → Written 0 s
   written-start s h =
       record { size = sized m n s h .size; left = each-list f (columns m n s) ∙ ap (λ (k : ℕ). listOf k f) (length-columns m n s) }
 

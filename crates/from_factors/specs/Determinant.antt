@@ -45,11 +45,11 @@ unfoldable pub numberOr7 : Float → Outcome Float
 numberOr7 x = cond (finite x) (done x) (refused 7)
 
 -- the product of the diagonal without the sign, or the refusal before the work
-unfoldable pub producing : Record → Column → List ℕ → Outcome Float
-producing r factors store = tested (heldRefusal factors store r squareAsks) refused (done (diagonalProduct (r .rows) (columns (r .rows) (r .rows) factors)))
+unfoldable pub producing : Column → List ℕ → Record → Outcome Float
+producing factors store r = tested (heldRefusal factors store r squareAsks) refused (done (diagonalProduct (r .rows) (columns (r .rows) (r .rows) factors)))
 
-unfoldable pub determining : Record → Column → List ℕ → Outcome Float
-determining r factors store = andThen (producing r factors store) (λ d. numberOr7 (mul binary64 d (signOf (r .pairs))))
+unfoldable pub determining : Column → List ℕ → Record → Outcome Float
+determining factors store r = andThen (producing factors store r) (λ d. numberOr7 (mul binary64 d (signOf (r .pairs))))
 
 -- ---- the invertible test: document 02, request 7, "answers from" the number of dead columns, which the tests have compared
 
@@ -58,5 +58,5 @@ unfoldable pub testedInverse : Invertible → Outcome Bool
 testedInverse (Is holds) = done holds
 testedInverse (NotTested number) = refused number
 
-unfoldable pub inverseTest : Record → Column → List ℕ → Outcome Bool
-inverseTest r factors store = tested (heldRefusal factors store r squareAsks) refused (done (eqb (r .dead) 0))
+unfoldable pub inverseTest : Column → List ℕ → Record → Outcome Bool
+inverseTest factors store r = tested (heldRefusal factors store r squareAsks) refused (done (eqb (r .dead) 0))

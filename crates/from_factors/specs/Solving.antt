@@ -49,33 +49,33 @@ abbrev pub identity : ℕ → Matrix
 identity n = listOf n (unitColumn n)
 
 -- the right-hand sides solved by the factors of the record
-abbrev pub solvedBy : Way → Record → Column → List ℕ → Matrix → Column
-solvedBy way r factors store bs = flat (solvedAll way (r .rows) (columns (r .rows) (r .rows) factors) (pairsOf (r .pairs) store) bs)
+abbrev pub solvedBy : Way → Column → List ℕ → Record → Matrix → Column
+solvedBy way factors store r bs = flat (solvedAll way (r .rows) (columns (r .rows) (r .rows) factors) (pairsOf (r .pairs) store) bs)
 
 -- ---- the calls
 
-abbrev pub solveAsks : ℕ → ℕ → Column → Column → Asks
-solveAsks n k b x =
-    record { square = true; solves = true; sizes = not (outside 1 k); lengths = isMatrix n k b && isMatrix n k x; list = true; numbers = allFinite b }
+abbrev pub solveAsks : Column → ℕ → ℕ → Column → Asks
+solveAsks b n k x =
+    record { square = true; solves = true; sizes = not (outside 1 k); lengths = isMatrix b n k && isMatrix x n k; list = true; numbers = allFinite b }
 
 -- k right-hand columns b, and the slice for the solution, which held x
-abbrev pub solvingBy : Way → Record → Column → List ℕ → ℕ → Column → Column → Call (Unit {0}) Column
-solvingBy way r factors store k b x =
-    tested (heldRefusal factors store r (solveAsks (r .rows) k b x)) (leaving x)
-    (seventh (solvedBy way r factors store (columns (r .rows) k b)))
+abbrev pub solvingBy : Way → Column → List ℕ → Record → Column → ℕ → Column → Call (Unit {0}) Column
+solvingBy way factors store r b k x =
+    tested (heldRefusal factors store r (solveAsks b (r .rows) k x)) (leaving x)
+    (seventh (solvedBy way factors store r (columns (r .rows) k b)))
 
-unfoldable pub solving : Record → Column → List ℕ → ℕ → Column → Column → Call (Unit {0}) Column
-solving r factors store k b x = solvingBy solved r factors store k b x
+unfoldable pub solving : Column → List ℕ → Record → Column → ℕ → Column → Call (Unit {0}) Column
+solving factors store r b k x = solvingBy solved factors store r b k x
 
 -- "refusals: as for solve, in the same order"
-unfoldable pub trSolving : Record → Column → List ℕ → ℕ → Column → Column → Call (Unit {0}) Column
-trSolving r factors store k b x = solvingBy trSolved r factors store k b x
+unfoldable pub trSolving : Column → List ℕ → Record → Column → ℕ → Column → Call (Unit {0}) Column
+trSolving factors store r b k x = solvingBy trSolved factors store r b k x
 
-abbrev pub inverseAsks : ℕ → Column → Asks
-inverseAsks n x = record { square = true; solves = true; sizes = true; lengths = isMatrix n n x; list = true; numbers = true }
+abbrev pub inverseAsks : Column → ℕ → Asks
+inverseAsks x n = record { square = true; solves = true; sizes = true; lengths = isMatrix x n n; list = true; numbers = true }
 
 -- "solve with the identity"
-unfoldable pub inverting : Record → Column → List ℕ → Column → Call (Unit {0}) Column
-inverting r factors store x =
-    tested (heldRefusal factors store r (inverseAsks (r .rows) x)) (leaving x)
-    (seventh (solvedBy solved r factors store (identity (r .rows))))
+unfoldable pub inverting : Column → List ℕ → Record → Column → Call (Unit {0}) Column
+inverting factors store r x =
+    tested (heldRefusal factors store r (inverseAsks x (r .rows))) (leaving x)
+    (seventh (solvedBy solved factors store r (identity (r .rows))))

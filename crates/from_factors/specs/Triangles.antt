@@ -28,18 +28,18 @@ unfoldable pub upperFactor : ℕ → ℕ → Matrix → Matrix
 upperFactor k n cs = listOf n (λ j. upperOf k j (column cs j))
 
 -- what a call asks that reads a triangle into a slice of k rows and n columns
-abbrev pub readAsks : ℕ → ℕ → Column → Asks
-readAsks k n out = record { square = false; solves = false; sizes = true; lengths = isMatrix k n out; list = true; numbers = true }
+abbrev pub readAsks : Column → ℕ → ℕ → Asks
+readAsks out k n = record { square = false; solves = false; sizes = true; lengths = isMatrix out k n; list = true; numbers = true }
 
 -- the two calls: what they answer and leave, on every input
-unfoldable pub lowering : Record → Column → List ℕ → Column → Call (Unit {0}) Column
-lowering r factors store out =
+unfoldable pub lowering : Column → List ℕ → Record → Column → Call (Unit {0}) Column
+lowering factors store r out =
     let k = min (r .rows) (r .columns) in
-    tested (heldRefusal factors store r (readAsks (r .rows) k out)) (leaving out)
+    tested (heldRefusal factors store r (readAsks out (r .rows) k)) (leaving out)
     (record { answer = done tt; left = flat (lowerFactor k (columns (r .rows) (r .columns) factors)) })
 
-unfoldable pub uppering : Record → Column → List ℕ → Column → Call (Unit {0}) Column
-uppering r factors store out =
+unfoldable pub uppering : Column → List ℕ → Record → Column → Call (Unit {0}) Column
+uppering factors store r out =
     let k = min (r .rows) (r .columns) in
-    tested (heldRefusal factors store r (readAsks k (r .columns) out)) (leaving out)
+    tested (heldRefusal factors store r (readAsks out k (r .columns))) (leaving out)
     (record { answer = done tt; left = flat (upperFactor k (r .columns) (columns (r .rows) (r .columns) factors)) })

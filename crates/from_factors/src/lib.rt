@@ -40,7 +40,7 @@ fn lower_column(dst: &mut [f64], src: &[f64], j: usize)
 
 // The k columns of L, each of m entries.
 fn lower_columns(out: &mut [f64], m: usize, n: usize, k: usize, factors: &[f64])
-    requires { ⌜ (isMatrix m n (now factors) ≡ true) × (isMatrix m k (now out) ≡ true) × (k ≤ m) × (k ≤ n) ⌝ }
+    requires { ⌜ (isMatrix (now factors) m n ≡ true) × (isMatrix (now out) m k ≡ true) × (k ≤ m) × (k ≤ n) ⌝ }
     ensures { λ _. ⌜ now (out .exit) ≡ flat (lowerFactor k (columns m n (now (factors .entry)))) ⌝ }
 {
     let mut j = 0;
@@ -54,8 +54,8 @@ fn lower_columns(out: &mut [f64], m: usize, n: usize, k: usize, factors: &[f64])
 
 // The lower triangular matrix of the factors, m by min(m, n).
 pub fn l(factors: &[f64], swaps: &[usize], told: Record, out: &mut [f64]) -> Answer
-    ensures { λ r. ⌜ answered r ≡ lowering told (now (factors .entry)) (now (swaps .entry)) (now (out .entry)) .answer ⌝ }
-    ensures { λ _. ⌜ now (out .exit) ≡ lowering told (now (factors .entry)) (now (swaps .entry)) (now (out .entry)) .left ⌝ }
+    ensures { λ r. ⌜ answered r ≡ lowering (now (factors .entry)) (now (swaps .entry)) told (now (out .entry)) .answer ⌝ }
+    ensures { λ _. ⌜ now (out .exit) ≡ lowering (now (factors .entry)) (now (swaps .entry)) told (now (out .entry)) .left ⌝ }
 {
     let m = told.rows;
     let n = told.columns;
@@ -92,7 +92,7 @@ fn upper_column(dst: &mut [f64], src: &[f64], j: usize)
 
 // The n columns of U, each of k entries.
 fn upper_columns(out: &mut [f64], m: usize, n: usize, k: usize, factors: &[f64])
-    requires { ⌜ (isMatrix m n (now factors) ≡ true) × (isMatrix k n (now out) ≡ true) × (k ≤ m) ⌝ }
+    requires { ⌜ (isMatrix (now factors) m n ≡ true) × (isMatrix (now out) k n ≡ true) × (k ≤ m) ⌝ }
     ensures { λ _. ⌜ now (out .exit) ≡ flat (upperFactor k n (columns m n (now (factors .entry)))) ⌝ }
 {
     let mut j = 0;
@@ -108,8 +108,8 @@ fn upper_columns(out: &mut [f64], m: usize, n: usize, k: usize, factors: &[f64])
 
 // The upper triangular matrix of the factors, min(m, n) by n.
 pub fn u(factors: &[f64], swaps: &[usize], told: Record, out: &mut [f64]) -> Answer
-    ensures { λ r. ⌜ answered r ≡ uppering told (now (factors .entry)) (now (swaps .entry)) (now (out .entry)) .answer ⌝ }
-    ensures { λ _. ⌜ now (out .exit) ≡ uppering told (now (factors .entry)) (now (swaps .entry)) (now (out .entry)) .left ⌝ }
+    ensures { λ r. ⌜ answered r ≡ uppering (now (factors .entry)) (now (swaps .entry)) told (now (out .entry)) .answer ⌝ }
+    ensures { λ _. ⌜ now (out .exit) ≡ uppering (now (factors .entry)) (now (swaps .entry)) told (now (out .entry)) .left ⌝ }
 {
     let m = told.rows;
     let n = told.columns;
@@ -133,9 +133,9 @@ pub fn u(factors: &[f64], swaps: &[usize], told: Record, out: &mut [f64]) -> Ans
 
 // Solves the k right-hand columns in x in place: rows swapped by the list, unit lower, upper.
 fn solve_mut(factors: &[f64], swaps: &[usize], told: Record, x: &mut [f64], k: usize)
-    requires { ⌜ (isMatrix (told .rows) (told .rows) (now factors) ≡ true) × (isMatrix (told .rows) k (now x) ≡ true) ⌝ }
-    requires { ⌜ goodList (told .rows) (told .rows) (told .pairs) (now swaps) ≡ true ⌝ }
-    ensures { λ _. ⌜ now (x .exit) ≡ solvedBy solved told (now (factors .entry)) (now (swaps .entry)) (columns (told .rows) k (now (x .entry))) ⌝ }
+    requires { ⌜ (isMatrix (now factors) (told .rows) (told .rows) ≡ true) × (isMatrix (now x) (told .rows) k ≡ true) ⌝ }
+    requires { ⌜ goodList (now swaps) (told .pairs) (told .rows) (told .rows) ≡ true ⌝ }
+    ensures { λ _. ⌜ now (x .exit) ≡ solvedBy solved (now (factors .entry)) (now (swaps .entry)) told (columns (told .rows) k (now (x .entry))) ⌝ }
 {
     let n = told.rows;
     permutation_sequence::apply_to_rows(x, n, k, swaps, told.pairs, false);
@@ -145,9 +145,9 @@ fn solve_mut(factors: &[f64], swaps: &[usize], told: Record, x: &mut [f64], k: u
 
 // The same by the transposed system: transposed upper, transposed unit lower, rows swapped by the list in reverse.
 fn tr_solve_mut(factors: &[f64], swaps: &[usize], told: Record, x: &mut [f64], k: usize)
-    requires { ⌜ (isMatrix (told .rows) (told .rows) (now factors) ≡ true) × (isMatrix (told .rows) k (now x) ≡ true) ⌝ }
-    requires { ⌜ goodList (told .rows) (told .rows) (told .pairs) (now swaps) ≡ true ⌝ }
-    ensures { λ _. ⌜ now (x .exit) ≡ solvedBy trSolved told (now (factors .entry)) (now (swaps .entry)) (columns (told .rows) k (now (x .entry))) ⌝ }
+    requires { ⌜ (isMatrix (now factors) (told .rows) (told .rows) ≡ true) × (isMatrix (now x) (told .rows) k ≡ true) ⌝ }
+    requires { ⌜ goodList (now swaps) (told .pairs) (told .rows) (told .rows) ≡ true ⌝ }
+    ensures { λ _. ⌜ now (x .exit) ≡ solvedBy trSolved (now (factors .entry)) (now (swaps .entry)) told (columns (told .rows) k (now (x .entry))) ⌝ }
 {
     let n = told.rows;
     solve::solve_in_place(Pass::TransposedUpper, factors, n, x, k);
@@ -164,9 +164,9 @@ fn solve_mut_by(
     x: &mut [f64],
     k: usize,
 )
-    requires { ⌜ (isMatrix (told .rows) (told .rows) (now factors) ≡ true) × (isMatrix (told .rows) k (now x) ≡ true) ⌝ }
-    requires { ⌜ goodList (told .rows) (told .rows) (told .pairs) (now swaps) ≡ true ⌝ }
-    ensures { λ _. ⌜ now (x .exit) ≡ solvedBy (wayOf transposed) told (now (factors .entry)) (now (swaps .entry)) (columns (told .rows) k (now (x .entry))) ⌝ }
+    requires { ⌜ (isMatrix (now factors) (told .rows) (told .rows) ≡ true) × (isMatrix (now x) (told .rows) k ≡ true) ⌝ }
+    requires { ⌜ goodList (now swaps) (told .pairs) (told .rows) (told .rows) ≡ true ⌝ }
+    ensures { λ _. ⌜ now (x .exit) ≡ solvedBy (wayOf transposed) (now (factors .entry)) (now (swaps .entry)) told (columns (told .rows) k (now (x .entry))) ⌝ }
 {
     if transposed {
         tr_solve_mut(factors, swaps, told, x, k);
@@ -185,8 +185,8 @@ fn solve_by(
     k: usize,
     x: &mut [f64],
 ) -> Answer
-    ensures { λ r. ⌜ answered r ≡ solvingBy (wayOf transposed) told (now (factors .entry)) (now (swaps .entry)) k (now (b .entry)) (now (x .entry)) .answer ⌝ }
-    ensures { λ _. ⌜ now (x .exit) ≡ solvingBy (wayOf transposed) told (now (factors .entry)) (now (swaps .entry)) k (now (b .entry)) (now (x .entry)) .left ⌝ }
+    ensures { λ r. ⌜ answered r ≡ solvingBy (wayOf transposed) (now (factors .entry)) (now (swaps .entry)) told (now (b .entry)) k (now (x .entry)) .answer ⌝ }
+    ensures { λ _. ⌜ now (x .exit) ≡ solvingBy (wayOf transposed) (now (factors .entry)) (now (swaps .entry)) told (now (b .entry)) k (now (x .entry)) .left ⌝ }
 {
     let n = told.rows;
     let sizes = !refusals::outside(1, k);
@@ -222,8 +222,8 @@ pub fn solve(
     k: usize,
     x: &mut [f64],
 ) -> Answer
-    ensures { λ r. ⌜ answered r ≡ solving told (now (factors .entry)) (now (swaps .entry)) k (now (b .entry)) (now (x .entry)) .answer ⌝ }
-    ensures { λ _. ⌜ now (x .exit) ≡ solving told (now (factors .entry)) (now (swaps .entry)) k (now (b .entry)) (now (x .entry)) .left ⌝ }
+    ensures { λ r. ⌜ answered r ≡ solving (now (factors .entry)) (now (swaps .entry)) told (now (b .entry)) k (now (x .entry)) .answer ⌝ }
+    ensures { λ _. ⌜ now (x .exit) ≡ solving (now (factors .entry)) (now (swaps .entry)) told (now (b .entry)) k (now (x .entry)) .left ⌝ }
 {
     solve_by(false, factors, swaps, told, b, k, x)
 }
@@ -237,8 +237,8 @@ pub fn tr_solve(
     k: usize,
     x: &mut [f64],
 ) -> Answer
-    ensures { λ r. ⌜ answered r ≡ trSolving told (now (factors .entry)) (now (swaps .entry)) k (now (b .entry)) (now (x .entry)) .answer ⌝ }
-    ensures { λ _. ⌜ now (x .exit) ≡ trSolving told (now (factors .entry)) (now (swaps .entry)) k (now (b .entry)) (now (x .entry)) .left ⌝ }
+    ensures { λ r. ⌜ answered r ≡ trSolving (now (factors .entry)) (now (swaps .entry)) told (now (b .entry)) k (now (x .entry)) .answer ⌝ }
+    ensures { λ _. ⌜ now (x .exit) ≡ trSolving (now (factors .entry)) (now (swaps .entry)) told (now (b .entry)) k (now (x .entry)) .left ⌝ }
 {
     solve_by(true, factors, swaps, told, b, k, x)
 }
@@ -254,7 +254,7 @@ fn unit_column(dst: &mut [f64], j: usize)
 
 // The n by n identity.
 fn fill_with_identity(x: &mut [f64], n: usize)
-    requires { ⌜ isMatrix n n (now x) ≡ true ⌝ }
+    requires { ⌜ isMatrix (now x) n n ≡ true ⌝ }
     ensures { λ _. ⌜ columns n n (now (x .exit)) ≡ identity n ⌝ }
 {
     let mut j = 0;
@@ -268,8 +268,8 @@ fn fill_with_identity(x: &mut [f64], n: usize)
 
 // The inverse, into x: solve with the identity.
 pub fn inverse(factors: &[f64], swaps: &[usize], told: Record, x: &mut [f64]) -> Answer
-    ensures { λ r. ⌜ answered r ≡ inverting told (now (factors .entry)) (now (swaps .entry)) (now (x .entry)) .answer ⌝ }
-    ensures { λ _. ⌜ now (x .exit) ≡ inverting told (now (factors .entry)) (now (swaps .entry)) (now (x .entry)) .left ⌝ }
+    ensures { λ r. ⌜ answered r ≡ inverting (now (factors .entry)) (now (swaps .entry)) told (now (x .entry)) .answer ⌝ }
+    ensures { λ _. ⌜ now (x .exit) ≡ inverting (now (factors .entry)) (now (swaps .entry)) told (now (x .entry)) .left ⌝ }
 {
     let n = told.rows;
     let lengths = store::is_matrix(x, n, n);
@@ -296,7 +296,7 @@ pub fn inverse(factors: &[f64], swaps: &[usize], told: Record, x: &mut [f64]) ->
 
 // One times each number of the diagonal in turn.
 fn diagonal_product(factors: &[f64], n: usize) -> f64
-    requires { ⌜ isMatrix n n (now factors) ≡ true ⌝ }
+    requires { ⌜ isMatrix (now factors) n n ≡ true ⌝ }
     ensures { λ r. ⌜ r ≡ diagonalProduct n (columns n n (now (factors .entry))) ⌝ }
 {
     let mut res = 1.0;
@@ -312,7 +312,7 @@ fn diagonal_product(factors: &[f64], n: usize) -> f64
 
 // The product of the diagonal, or the refusal before the work.
 fn product(factors: &[f64], swaps: &[usize], told: Record) -> Det
-    ensures { λ r. ⌜ determined r ≡ producing told (now (factors .entry)) (now (swaps .entry)) ⌝ }
+    ensures { λ r. ⌜ determined r ≡ producing (now (factors .entry)) (now (swaps .entry)) told ⌝ }
 {
     let asks = Asks {
         square: true,
@@ -342,7 +342,7 @@ fn number_or_7(x: f64) -> Det
 
 // The determinant of the factored matrix.
 pub fn determinant(factors: &[f64], swaps: &[usize], told: Record) -> Det
-    ensures { λ r. ⌜ determined r ≡ determining told (now (factors .entry)) (now (swaps .entry)) ⌝ }
+    ensures { λ r. ⌜ determined r ≡ determining (now (factors .entry)) (now (swaps .entry)) told ⌝ }
 {
     let answer = product(factors, swaps, told);
     let Det::Number(res) = answer else {
@@ -353,7 +353,7 @@ pub fn determinant(factors: &[f64], swaps: &[usize], told: Record) -> Det
 
 // Whether the factored matrix is invertible: no dead column.
 pub fn is_invertible(factors: &[f64], swaps: &[usize], told: Record) -> Invertible
-    ensures { λ r. ⌜ testedInverse r ≡ inverseTest told (now (factors .entry)) (now (swaps .entry)) ⌝ }
+    ensures { λ r. ⌜ testedInverse r ≡ inverseTest (now (factors .entry)) (now (swaps .entry)) told ⌝ }
 {
     let asks = Asks {
         square: true,

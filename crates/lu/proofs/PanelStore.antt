@@ -64,7 +64,7 @@ each-behind f [] ys = refl
 each-behind f (x ∷ xs) ys = ap (λ (l : List _). x ∷ l) (each-behind f xs ys)
 
 -- ---- the slices
-module _ (m n i : ℕ) (s : Column) (store : List ℕ) (counts r : Counts) (fits : isMatrix m n s ≡ true) (hm : i + 4 ≤ m) (hn : i + 4 ≤ n) where
+module _ (m n i : ℕ) (s : Column) (store : List ℕ) (counts r : Counts) (fits : isMatrix s m n ≡ true) (hm : i + 4 ≤ m) (hn : i + 4 ≤ n) where
   abbrev e : ℕ
   e = i + 4
 
@@ -77,7 +77,7 @@ module _ (m n i : ℕ) (s : Column) (store : List ℕ) (counts r : Counts) (fits
   front-long : length (take z s) ≡ z
   front-long = length-take-le z s front-ends
 
-  pub front-fits : isMatrix m e (take z s) ≡ true
+  pub front-fits : isMatrix (take z s) m e ≡ true
   front-fits = let most = sized m n s fits .columns-most in is-matrix m e (take z s) (sized m n s fits .rows-most) (omega arith) front-long
 
   behind-long : length (drop z s) ≡ (n - e) * m
@@ -96,7 +96,7 @@ module _ (m n i : ℕ) (s : Column) (store : List ℕ) (counts r : Counts) (fits
   whole = ap (columns m n) (sym (take-append-drop z s)) ∙ two-parts (take z s) (drop z s) front-long
 
   -- the front after its steps, and the store with it
-  module _ (s1 : Column) (store1 : List ℕ) (l1 : length s1 ≡ length (take z s)) (st : Stepped m e i e counts (take z s) store r s1 store1) where
+  module _ (s1 : Column) (store1 : List ℕ) (l1 : length s1 ≡ length (take z s)) (st : Stepped (take z s) m e i e store counts r s1 store1) where
     abbrev t : Column
     t = s1 ++ drop z s
 
@@ -128,7 +128,7 @@ module _ (m n i : ℕ) (s : Column) (store : List ℕ) (counts r : Counts) (fits
       pub v-long : length v ≡ length s
       v-long = same-len-mid z (length t - z) t c1 lc ∙ same-long
 
-      module _ (f : Factors) (h : Held m n f s store (counts .pairs)) where
+      module _ (f : Factors) (h : Held s m n store (counts .pairs) f) where
         front : Factors
         front = record { columns = columns m e (take z s); swaps = f .swaps }
 
@@ -139,16 +139,16 @@ module _ (m n i : ℕ) (s : Column) (store : List ℕ) (counts r : Counts) (fits
         unfolding front
         f-is = ap (λ (cs : Matrix). record { columns = cs; swaps = f .swaps }) (sym (h .is-columns) ∙ whole)
 
-        held-front : Held m e front (take z s) store (counts .pairs)
+        held-front : Held (take z s) m e store (counts .pairs) front
         unfolding front
         held-front = record { size = front-long; is-columns = refl; is-store = h .is-store; is-pairs = h .is-pairs }
 
         four : e - i ≡ 4
         four = omega arith
 
-        held-g : Held m e g s1 store1 (r .pairs)
+        held-g : Held s1 m e store1 (r .pairs) g
         unfolding g
-        held-g = subst (λ (k : ℕ). Held m e (turnsFrom step i k front) s1 store1 (r .pairs)) four (st .steps front held-front)
+        held-g = subst (λ (k : ℕ). Held s1 m e store1 (r .pairs) (turnsFrom step i k front)) four (st .steps front held-front)
 
         abbrev before : ℕ
         before = length (f .swaps)
@@ -170,7 +170,7 @@ module _ (m n i : ℕ) (s : Column) (store : List ℕ) (counts r : Counts) (fits
         unfolding inOrder
         c1-columns =
             let new = drop before (g .swaps) in
-            let fit : isMatrix m (n - e) (drop z s) ≡ true = let most =
+            let fit : isMatrix (drop z s) m (n - e) ≡ true = let most =
             sized m n s fits .columns-most in is-matrix m (n - e) (drop z s) (sized m n s fits .rows-most) (omega arith) behind-long in
             let done = rows-each new rest in
             ap (columns m (n - e)) (e1 ∙ ap₂ (λ (p : Swaps) (x : Column). onColumns m (n - e) (rowsPermuted p) x) swaps-new behind)
@@ -204,7 +204,7 @@ module _ (m n i : ℕ) (s : Column) (store : List ℕ) (counts r : Counts) (fits
             ap₂ (λ (k : ℕ) (x : Factors). turnsFrom step i k x) four f-is
             ∙ panel-steps m i 4 front rest hm (rw length-columns (omega arith)) (columns-rows m e (take z s) front-long) rest-rows
 
-        pub held-after : Held m n (turnsFrom step i (e - i) f) u store1 (r .pairs)
+        pub held-after : Held u m n store1 (r .pairs) (turnsFrom step i (e - i) f)
         held-after =
             rw stepped
             (record { size = lu ∙ v-long ∙ sized m n s fits .size; is-columns = u-columns; is-store = held-g .is-store; is-pairs = held-g .is-pairs })
@@ -216,5 +216,5 @@ module _ (m n i : ℕ) (s : Column) (store : List ℕ) (counts r : Counts) (fits
             ∙ ap (λ (k : ℕ). counts .tossed + k)
             (sym (ap (tossFrom i (e - i)) f-is ∙ panel-toss i (e - i) front rest (rw length-columns (omega arith))))
 
-      pub panel-done : Stepped m n i e counts s store r u store1
+      pub panel-done : Stepped s m n i e store counts r u store1
       panel-done = record { steps = held-after; toss = toss-after; few = st .few }

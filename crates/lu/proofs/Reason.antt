@@ -152,22 +152,22 @@ module _ (m : ℕ) (a : Matrix) where
       λ i. record { step = same i; column = both .0 i; row = both .1 i }
 
 -- ---- the call
-module _ (m n : ℕ) (a out : Column) (store : List ℕ) (none-before : factoringRefusal m n a out store ≡ 0) where
+module _ (m n : ℕ) (a out : Column) (store : List ℕ) (none-before : factoringRefusal a m n out store ≡ 0) where
   whole-finite : allFinite (flat (columns m n a)) ≡ true
   whole-finite = ap allFinite (flat-columns m n a (size m n a out store none-before)) ∙ ok m n a out store none-before .numbers
 
   -- refusal 7 is given exactly where the factors are not finite
-  seven : numberOf (factoring m n a out store .answer) ≡ cond (finiteIn (factorsOf m n a)) 0 7
+  seven : numberOf (factoring a m n out store .answer) ≡ cond (finiteIn (factorsOf m n a)) 0 7
   seven = settled-number m n a out store none-before
 
   -- THEOREM. Of a factoring that passes the tests, by cases: it is accepted and there is no reason, or it gives 7 and the place is as `Explained` says.
   pub factoring-cases : (P : ℕ → Option Place → Type 0) → P 0 none → ((p : Place) → Explained m (columns m n a) p → P 7 (some p))
-      → P (numberOf (factoring m n a out store .answer)) (firstReason m (columns m n a))
+      → P (numberOf (factoring a m n out store .answer)) (firstReason m (columns m n a))
   factoring-cases P accepted refused =
-      reason-cases m (columns m n a) (shape m n a out store none-before) whole-finite (P (numberOf (factoring m n a out store .answer)))
+      reason-cases m (columns m n a) (shape m n a out store none-before) whole-finite (P (numberOf (factoring a m n out store .answer)))
       (λ e. rw (seven, e) accepted) (λ p e x. rw (seven, e) (refused p x))
 
   -- THEOREM. In an accepted factoring the columns are finite after every step.
-  pub accepted-steps : numberOf (factoring m n a out store .answer) ≡ 0 → (k : ℕ) → k ≤ min m n → finiteIn (steps k (unfactored (columns m n a))) ≡ true
+  pub accepted-steps : numberOf (factoring a m n out store .answer) ≡ 0 → (k : ℕ) → k ≤ min m n → finiteIn (steps k (unfactored (columns m n a))) ≡ true
   accepted-steps e k h =
       steps-finite m k (columns m n a) (rw (length-columns m n a) h) (accepted-is m n a out store none-before e .1)

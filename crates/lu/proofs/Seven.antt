@@ -20,20 +20,20 @@ use Rattle.lu.specs.Factoring.{factoringRefusal, settled, factoring}
 use Rattle.lu.proofs.Told.{worked}
 use Rattle.lu.proofs.Shape.{factorsOf, settled-number}
 
-module _ (m n : ℕ) (a out : Column) (store : List ℕ) (none-before : factoringRefusal m n a out store ≡ 0) where
-  by-factors : factoring m n a out store .answer ≡ refused 7 → finiteIn (factorsOf m n a) ≡ false
+module _ (m n : ℕ) (a out : Column) (store : List ℕ) (none-before : factoringRefusal a m n out store ≡ 0) where
+  by-factors : factoring a m n out store .answer ≡ refused 7 → finiteIn (factorsOf m n a) ≡ false
   unfolding numberOf
   by-factors e =
       let number = sym (settled-number m n a out store none-before) ∙ ap numberOf e in
       test-cases (finiteIn (factorsOf m n a)) (λ t. absurd (let z : _≡_ {A = ℕ} 0 7 = (rw t at number) in omega arith)) (λ t. t)
 
-  refused-by : finiteIn (factorsOf m n a) ≡ false → factoring m n a out store .answer ≡ refused 7
+  refused-by : finiteIn (factorsOf m n a) ≡ false → factoring a m n out store .answer ≡ refused 7
   unfolding settled
   refused-by t = ap (λ (o : Factoring). o .answer) (worked m n a out store none-before) ∙ rw t
 
   -- THEOREM. A factoring that passes its tests is refused with 7 exactly when after some number of steps some number of the columns is not finite.
   -- (1 / infinity is 0, so an infinite pivot leaves finite multipliers below it; but it stays in its column itself.)
-  pub factoring-seven : (factoring m n a out store .answer ≡ refused 7)
+  pub factoring-seven : (factoring a m n out store .answer ≡ refused 7)
       ↔ ((k : ℕ) × (k ≤ min m n) × (finiteIn (steps k (unfactored (columns m n a))) ≡ false))
   unfolding eliminate
   factoring-seven = (

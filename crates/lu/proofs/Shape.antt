@@ -25,11 +25,11 @@ abbrev pub factorsOf : ℕ → ℕ → Column → Factors
 factorsOf m n a = eliminate m (columns m n a)
 
 -- an outcome that gives no number has no refusal before the work
-pub no-refusal : (m n : ℕ) (a out : Column) (store : List ℕ) → numberOf (factoring m n a out store .answer) ≡ 0 → factoringRefusal m n a out store ≡ 0
+pub no-refusal : (m n : ℕ) (a out : Column) (store : List ℕ) → numberOf (factoring a m n out store .answer) ≡ 0 → factoringRefusal a m n out store ≡ 0
 unfolding factoring
-no-refusal m n a out store = none-given (factoringRefusal m n a out store) (slices out store) (settled m n (eliminate m (columns m n a)))
+no-refusal m n a out store = none-given (factoringRefusal a m n out store) (slices out store) (settled m n (eliminate m (columns m n a)))
 
-module _ (m n : ℕ) (a out : Column) (store : List ℕ) (none : factoringRefusal m n a out store ≡ 0) where
+module _ (m n : ℕ) (a out : Column) (store : List ℕ) (none : factoringRefusal a m n out store ≡ 0) where
   abbrev f : Factors
   f = factorsOf m n a
 
@@ -58,7 +58,7 @@ module _ (m n : ℕ) (a out : Column) (store : List ℕ) (none : factoringRefusa
   few = let h = rising-few m (min m n) (f .swaps) rising in let r = ok .rows .at-most in omega arith
 
   -- the outcome of an accepted factoring
-  pub accepted-is : numberOf (factoring m n a out store .answer) ≡ 0 → (factoring m n a out store ≡ acceptedAs m n f) × (allFinite (flat (f .columns)) ≡ true)
+  pub accepted-is : numberOf (factoring a m n out store .answer) ≡ 0 → (factoring a m n out store ≡ acceptedAs m n f) × (allFinite (flat (f .columns)) ≡ true)
   unfolding settled numberOf
   accepted-is e =
       test-cases (allFinite (flat (eliminate m (columns m n a) .columns)))
@@ -66,7 +66,7 @@ module _ (m n : ℕ) (a out : Column) (store : List ℕ) (none : factoringRefusa
       (λ t. absurd (let seven : 7 ≡ 0 = (rw (worked m n a out store none, t) at e) in omega arith))
 
   -- a factoring that is not refused before the work is accepted or gives 7
-  pub settled-number : numberOf (factoring m n a out store .answer) ≡ cond (allFinite (flat (f .columns))) 0 7
+  pub settled-number : numberOf (factoring a m n out store .answer) ≡ cond (allFinite (flat (f .columns))) 0 7
   unfolding settled numberOf
   settled-number =
       test-cases (allFinite (flat (eliminate m (columns m n a) .columns))) (λ t. rw (worked m n a out store none, t)) (λ t. rw (worked m n a out store none, t))

@@ -29,7 +29,7 @@ use Rattle.lu.specs.Inner.{Held}
 use Rattle.elimination.proofs.Step.{pivotAt, skipped}
 use Rattle.factors.proofs.Swaps.{Recorded, store-record, count-record}
 
-module _ (m n i p : ℕ) (s : Column) (fits : isMatrix m n s ≡ true) (hm : i < m) (hn : i < n) where
+module _ (m n i p : ℕ) (s : Column) (fits : isMatrix s m n ≡ true) (hm : i < m) (hn : i < n) where
   size-of : length s ≡ n * m
   size-of = sized m n s fits .size
 
@@ -52,7 +52,7 @@ module _ (m n i p : ℕ) (s : Column) (fits : isMatrix m n s ≡ true) (hm : i <
       let size : length t ≡ n * m = lt ∙ size-of in
       let v = putMid (i * m) (i * m + m - i * m) t c in
       let lv : length v ≡ length s = same-len-mid (i * m) (i * m + m - i * m) t c kept ∙ lt in
-      let fv : isMatrix m n v ≡ true = same-matrix m n s v lv ∙ fits in
+      let fv : isMatrix v m n ≡ true = same-matrix m n s v lv ∙ fits in
       let d = getD t (i * m + i) nan in
       let pivot : d ≡ entry (column (columns m n t) i) i = entry-at m n i i t nan hn hm in
       let cv : columns m n v ≡ scaled i (columns m n t) =
@@ -85,27 +85,27 @@ module _ (m n i p : ℕ) (s : Column) (fits : isMatrix m n s ≡ true) (hm : i <
 
 -- ---- one step by itself, on the columns alone
 module _ (m n i : ℕ) (s : Column) where
-  pub plain-none : isMatrix m n s ≡ false → s ≡ plainStep m n i s
+  pub plain-none : isMatrix s m n ≡ false → s ≡ plainStep s m n i
   unfolding plainStep
   plain-none e = cond-cases (λ (t : Column). s ≡ t) (ltb i (min m n)) (λ _. on-none m n (stepOn i) s e) (λ _. refl)
 
-  pub plain-past : min m n ≤ i → s ≡ plainStep m n i s
+  pub plain-past : min m n ≤ i → s ≡ plainStep s m n i
   unfolding plainStep
   plain-past h = rw (le-ltb i (min m n) h)
 
-  module _ (fits : isMatrix m n s ≡ true) (hm : i < m) (hn : i < n) (p : ℕ) (row : p ≡ pivotRow i (midOf (i * m) (i * m + m - i * m) s)) where
+  module _ (fits : isMatrix s m n ≡ true) (hm : i < m) (hn : i < n) (p : ℕ) (row : p ≡ pivotRow i (midOf (i * m) (i * m + m - i * m) s)) where
     abbrev cs : Matrix
     cs = columns m n s
 
     zero-is : isZero (getD s (i * m + p) nan) ≡ isZero (entry (column cs i) (pivotRow i (column cs i)))
     zero-is = ap isZero (pivot-number m n i p s fits hm hn row) ∙ ap (λ (k : ℕ). isZero (entry (column cs i) k)) (found m n i p s fits hm hn row)
 
-    pub plain-skipped : isZero (getD s (i * m + p) nan) ≡ true → s ≡ plainStep m n i s
+    pub plain-skipped : isZero (getD s (i * m + p) nan) ≡ true → s ≡ plainStep s m n i
     unfolding plainStep step
     plain-skipped z = rw (lt-ltb i (min m n) (omega arith)) (on-done m n (stepOn i) s s fits refl (rw (sym zero-is ∙ z, stepOn)))
 
     pub plain-done : (u : Column) → isZero (getD s (i * m + p) nan) ≡ false → length u ≡ length s
-        → columns m n u ≡ eliminated i (scaled i (swapInAll i p cs)) → u ≡ plainStep m n i s
+        → columns m n u ≡ eliminated i (scaled i (swapInAll i p cs)) → u ≡ plainStep s m n i
     unfolding plainStep step pivotStep
     plain-done u z len made =
         rw (lt-ltb i (min m n) (omega arith))
@@ -113,7 +113,7 @@ module _ (m n i : ℕ) (s : Column) where
         (rw (sym zero-is ∙ z, stepOn) (made ∙ ap (λ (k : ℕ). eliminated i (scaled i (swapInAll i k cs))) (found m n i p s fits hm hn row))))
 
 -- ---- one step on the slices
-module _ (m n i : ℕ) (f : Factors) (s : Column) (store : List ℕ) (pairs p : ℕ) (d : Float) (h : Held m n f s store pairs)
+module _ (m n i : ℕ) (f : Factors) (s : Column) (store : List ℕ) (pairs p : ℕ) (d : Float) (h : Held s m n store pairs f)
     (row : p ≡ pivotRow i (column (columns m n s) i)) (number : d ≡ entry (column (columns m n s) i) p) where
   row-is : p ≡ pivotAt i f
   row-is = row ∙ ap (λ cs. pivotRow i (column cs i)) (h .is-columns)
@@ -121,13 +121,13 @@ module _ (m n i : ℕ) (f : Factors) (s : Column) (store : List ℕ) (pairs p : 
   number-is : d ≡ entry (column (f .columns) i) (pivotAt i f)
   number-is = number ∙ (λ t. entry (column (h .is-columns t) i) (row-is t))
 
-  pub step-skipped : isZero d ≡ true → Held m n (step i f) s store pairs
+  pub step-skipped : isZero d ≡ true → Held s m n store pairs (step i f)
   unfolding step
   step-skipped z = let e : skipped i f ≡ true = ap isZero (sym number-is) ∙ z in rw e h
 
   pub step-done : (t : Column) (store' : List ℕ) (pairs' : ℕ) → isZero d ≡ false → pairs < 64 → length t ≡ length s
       → columns m n t ≡ eliminated i (scaled i (swapInAll i p (columns m n s))) → Recorded i p pairs pairs' store store'
-      → Held m n (step i f) t store' pairs'
+      → Held t m n store' pairs' (step i f)
   unfolding step pivotStep
   step-done t store' pairs' z room len made rec =
       let e : skipped i f ≡ false = ap isZero (sym number-is) ∙ z in
@@ -144,7 +144,7 @@ module _ (m n i : ℕ) (f : Factors) (s : Column) (store : List ℕ) (pairs p : 
 
 -- ---- before the first step
 module _ (m n : ℕ) (s : Column) where
-  pub held-unfactored : (store : List ℕ) → length s ≡ n * m → store ≡ storeOf [] → Held m n (unfactored (columns m n s)) s store 0
+  pub held-unfactored : (store : List ℕ) → length s ≡ n * m → store ≡ storeOf [] → Held s m n store 0 (unfactored (columns m n s))
   held-unfactored store size empty = record { size = size; is-columns = refl; is-store = empty; is-pairs = refl }
 
   pub steps-begin : turnsFrom step 0 (min m n - 0) (unfactored (columns m n s)) ≡ eliminate m (columns m n s)

@@ -50,68 +50,68 @@ module _ (m n : ℕ) (a out : Column) (store : List ℕ) where
   pub record Passed : Type 0 where
     pub rows : Inside 1 m
     pub cols : Inside 0 n
-    pub matrix : isMatrix m n a ≡ true
-    pub slice : isMatrix m n out ≡ true
+    pub matrix : isMatrix a m n ≡ true
+    pub slice : isMatrix out m n ≡ true
     pub room : length store ≡ 128
     pub numbers : allFinite a ≡ true
 
-  numbered : Numbered (factoringTests m n a out store)
+  numbered : Numbered (factoringTests a m n out store)
   numbered = (some 0, (some 2, (some 4, tt)))
     where
       some : (k : ℕ) → suc k ≡ 0 → ⊥
       some k e = omega (arith, e)
 
-  pub passed : factoringRefusal m n a out store ≡ 0 → Passed
+  pub passed : factoringRefusal a m n out store ≡ 0 → Passed
   unfolding factoringRefusal
   passed e =
-      let t = first-none (factoringTests m n a out store) numbered e in
+      let t = first-none (factoringTests a m n out store) numbered e in
       let sizes = neither (outside 1 m) (outside 0 n) (t .0) in
-      let two = isMatrix m n a && isMatrix m n out in
+      let two = isMatrix a m n && isMatrix out m n in
       let lengths = not-false (two && eqb (length store) 128) (t .1 .0) in
       let both = and-first two (eqb (length store) 128) lengths in
       record {
         rows = inside 1 m (sizes .0);
         cols = inside 0 n (sizes .1);
-        matrix = and-first (isMatrix m n a) (isMatrix m n out) both;
-        slice = and-second (isMatrix m n a) (isMatrix m n out) both;
+        matrix = and-first (isMatrix a m n) (isMatrix out m n) both;
+        slice = and-second (isMatrix a m n) (isMatrix out m n) both;
         room = eqb-true (length store) 128 (and-second two (eqb (length store) 128) lengths);
         numbers = not-false (allFinite a) (t .1 .1 .0);
       }
 
-  pub passes : Passed → factoringRefusal m n a out store ≡ 0
+  pub passes : Passed → factoringRefusal a m n out store ≡ 0
   unfolding factoringRefusal
   passes p =
-      none-first (factoringTests m n a out store) (
+      none-first (factoringTests a m n out store) (
         rw (not-outside 1 m (p .rows .at-least) (p .rows .at-most), not-outside 0 n (p .cols .at-least) (p .cols .at-most)),
         (rw (p .matrix, p .slice, eq-eqb (length store) 128 (p .room)), (rw (p .numbers), tt)),
       )
 
   -- past the tests the outcome is the settled elimination
-  pub worked : factoringRefusal m n a out store ≡ 0 → factoring m n a out store ≡ settled m n (eliminate m (columns m n a))
+  pub worked : factoringRefusal a m n out store ≡ 0 → factoring a m n out store ≡ settled m n (eliminate m (columns m n a))
   unfolding factoring
   worked none = tested-none _ _ _ none
 
   -- the promise of the call: its answer, the factors and the swap store
   abbrev pub Promise : Factored → Column → List ℕ → Type 0
   Promise r f s =
-      (factored r ≡ factoringAnswer m n a out store) × ((f ≡ factoring m n a out store .left .factors) × (s ≡ factoring m n a out store .left .store))
+      (factored r ≡ factoringAnswer a m n out store) × ((f ≡ factoring a m n out store .left .factors) × (s ≡ factoring a m n out store .left .store))
 
-  pub promise-refused : (number : ℕ) → number ≡ factoringRefusal m n a out store → (number ≡ 0 → ⊥) → Promise (Refused number) out store
+  pub promise-refused : (number : ℕ) → number ≡ factoringRefusal a m n out store → (number ≡ 0 → ⊥) → Promise (Refused number) out store
   unfolding factoring factored factoringAnswer withTossUps andThen
   promise-refused number e ne =
       rw (tested-some _ (leaving (slices out store)) (settled m n (eliminate m (columns m n a))) (λ z. ne (e ∙ z))) (ap refused e, (refl, refl))
 
   -- past the tests, from what the elimination settled on
-  pub promise-settled : (number : ℕ) (s : Column) (r : Factored) (s' : Column) (store' : List ℕ) → number ≡ factoringRefusal m n a out store → number ≡ 0
+  pub promise-settled : (number : ℕ) (s : Column) (r : Factored) (s' : Column) (store' : List ℕ) → number ≡ factoringRefusal a m n out store → number ≡ 0
       → s ≡ a
-      → Settled m n s r s' store' → Promise r s' store'
+      → Settled s m n r s' store' → Promise r s' store'
   unfolding factoringAnswer
   promise-settled number s r s' store' is none same made =
       let w = worked (sym is ∙ none) in
       rw (w, ← same) (made .answer, (made .factors, made .store))
 
 -- ---- the elimination, settled: s held the matrix, t holds its factors
-module _ (m n : ℕ) (s t : Column) (store : List ℕ) (pairs : ℕ) (h : Held m n (eliminate m (columns m n s)) t store pairs) where
+module _ (m n : ℕ) (s t : Column) (store : List ℕ) (pairs : ℕ) (h : Held t m n store pairs (eliminate m (columns m n s))) where
   abbrev f : Factors
   f = eliminate m (columns m n s)
 
@@ -119,13 +119,13 @@ module _ (m n : ℕ) (s t : Column) (store : List ℕ) (pairs : ℕ) (h : Held m
   whole = sym (flat-columns m n t (h .size)) ∙ ap flat (h .is-columns)
 
   -- the dead columns are counted in the slice
-  dead-is : isMatrix m n s ≡ true → deadOf m n t ≡ deadIn m (f .columns)
+  dead-is : isMatrix s m n ≡ true → deadOf t m n ≡ deadIn m (f .columns)
   dead-is fits =
       let long : length t ≡ length s = h .size ∙ sym (sized m n s fits .size) in
       held-dead m n t (same-matrix m n s t long ∙ fits) ∙ ap (deadIn m) (h .is-columns)
 
-  pub settled-accepted : (tossed dead : ℕ) → tossed ≡ tossUps m (columns m n s) → dead ≡ deadOf m n t → isMatrix m n s ≡ true → allFinite t ≡ true
-      → Settled m n s (Accepted (recordOf m n pairs dead) tossed) t store
+  pub settled-accepted : (tossed dead : ℕ) → tossed ≡ tossUps m (columns m n s) → dead ≡ deadOf t m n → isMatrix s m n ≡ true → allFinite t ≡ true
+      → Settled s m n (Accepted (recordOf m n pairs dead) tossed) t store
   unfolding settled factored withTossUps andThen
   settled-accepted tossed dead counted died fits e =
       let all : allFinite (flat (f .columns)) ≡ true = ap allFinite (sym whole) ∙ e in
@@ -136,7 +136,7 @@ module _ (m n : ℕ) (s t : Column) (store : List ℕ) (pairs : ℕ) (h : Held m
       }
 
   pub settled-overflow : (zeroed : Column) (cleared : List ℕ) → allFinite t ≡ false → zeroed ≡ zeros (length t) → cleared ≡ replicate (length store) 0
-      → length store ≡ 128 → Settled m n s (Refused 7) zeroed cleared
+      → length store ≡ 128 → Settled s m n (Refused 7) zeroed cleared
   unfolding settled factored withTossUps andThen storeOf numbersOf
   settled-overflow zeroed cleared e z c len =
       let all : allFinite (flat (f .columns)) ≡ false = ap allFinite (sym whole) ∙ e in

@@ -17,16 +17,16 @@ use Rattle.lu.specs.declared.Factored.{Factored}
 use Rattle.lu.specs.declared.Factored.the-variants.{Accepted, Refused}
 
 -- the tests before the work: an m by n matrix a, the slice for the factors, and the swap store
-abbrev pub factoringTests : ℕ → ℕ → Column → Column → List ℕ → List (ℕ × Bool)
-factoringTests m n a out store =
+abbrev pub factoringTests : Column → ℕ → ℕ → Column → List ℕ → List (ℕ × Bool)
+factoringTests a m n out store =
     (1, outside 1 m || outside 0 n)
-    ∷ (3, not (isMatrix m n a && isMatrix m n out && eqb (length store) 128))
+    ∷ (3, not (isMatrix a m n && isMatrix out m n && eqb (length store) 128))
     ∷ (5, not (allFinite a))
     ∷ []
 
 -- the refusal, 0 for none
-unfoldable pub factoringRefusal : ℕ → ℕ → Column → Column → List ℕ → ℕ
-factoringRefusal m n a out store = firstOf (factoringTests m n a out store)
+unfoldable pub factoringRefusal : Column → ℕ → ℕ → Column → List ℕ → ℕ
+factoringRefusal a m n out store = firstOf (factoringTests a m n out store)
 
 -- accepted: the record, the factors and the swap store
 abbrev pub acceptedAs : ℕ → ℕ → Factors → Factoring
@@ -37,8 +37,8 @@ unfoldable pub settled : ℕ → ℕ → Factors → Factoring
 settled m n f = cond (allFinite (flat (f .columns))) (acceptedAs m n f) (leaving (slices (zeros (n * m)) (storeOf [])) 7)
 
 -- the whole call
-unfoldable pub factoring : ℕ → ℕ → Column → Column → List ℕ → Factoring
-factoring m n a out store = tested (factoringRefusal m n a out store) (leaving (slices out store)) (settled m n (eliminate m (columns m n a)))
+unfoldable pub factoring : Column → ℕ → ℕ → Column → List ℕ → Factoring
+factoring a m n out store = tested (factoringRefusal a m n out store) (leaving (slices out store)) (settled m n (eliminate m (columns m n a)))
 
 -- ---- the answer: the record, and the number of toss-ups with it (document 02, request 3)
 
@@ -51,8 +51,8 @@ factored (Refused number) = refused number
 unfoldable pub withTossUps : ℕ → Outcome Record → Outcome (Record × ℕ)
 withTossUps tossed o = andThen o (λ told. done (told, tossed))
 
-unfoldable pub factoringAnswer : ℕ → ℕ → Column → Column → List ℕ → Outcome (Record × ℕ)
-factoringAnswer m n a out store = withTossUps (tossUps m (columns m n a)) (factoring m n a out store .answer)
+unfoldable pub factoringAnswer : Column → ℕ → ℕ → Column → List ℕ → Outcome (Record × ℕ)
+factoringAnswer a m n out store = withTossUps (tossUps m (columns m n a)) (factoring a m n out store .answer)
 
 -- "Every refused factoring answers 0 pairs", and 0 dead columns; and "a refusal gives 0" toss-ups
 unfoldable pub pairsIn : Outcome (Record × ℕ) → ℕ

@@ -12,5 +12,5 @@ abbrev pub stepOn : ℕ → Matrix → Matrix
 stepOn i cs = step i (unfactored cs) .columns
 
 -- the m by n matrix that s holds after its step i; a slice that holds none, or a matrix without that step, stays as it was
-unfoldable pub plainStep : ℕ → ℕ → ℕ → Column → Column
-plainStep m n i s = cond (ltb i (min m n)) (onColumns m n (stepOn i) s) s
+unfoldable pub plainStep : Column → ℕ → ℕ → ℕ → Column
+plainStep s m n i = cond (ltb i (min m n)) (onColumns m n (stepOn i) s) s

@@ -29,7 +29,7 @@ struct Counts {
 
 // The number of the refusal before the work, 0 for none.
 pub fn factor_refusal(a: &[f64], m: usize, n: usize, out: &[f64], swaps: &[usize]) -> usize
-    ensures { λ r. ⌜ r ≡ factoringRefusal m n (now (a .entry)) (now (out .entry)) (now (swaps .entry)) ⌝ }
+    ensures { λ r. ⌜ r ≡ factoringRefusal (now (a .entry)) m n (now (out .entry)) (now (swaps .entry)) ⌝ }
 {
     let sizes = refusals::outside(1, m) | refusals::outside(0, n);
     let lengths = store::is_matrix(a, m, n) & store::is_matrix(out, m, n) & (swaps.len() == 128);
@@ -43,7 +43,7 @@ pub fn factor_refusal(a: &[f64], m: usize, n: usize, out: &[f64], swaps: &[usize
 
 // Steps 3 to 5 of step i with pivot row piv: the Rust's swap of the columns before i, and its gauss_step or gauss_step_swap on the rest.
 fn gauss_step(s: &mut [f64], m: usize, n: usize, i: usize, piv: usize)
-    requires { ⌜ (isMatrix m n (now s) ≡ true) × (i < m) × (i < n) ⌝ }
+    requires { ⌜ (isMatrix (now s) m n ≡ true) × (i < m) × (i < n) ⌝ }
     ensures { λ _. ⌜ columns m n (now (s .exit)) ≡ eliminated i (scaled i (swapInAll i piv (columns m n (now (s .entry))))) ⌝ }
 {
     let a = i * m;
@@ -57,7 +57,7 @@ fn gauss_step(s: &mut [f64], m: usize, n: usize, i: usize, piv: usize)
 
 // Step i by itself on an m by n matrix, its swap not recorded; nothing where s is none such or has no row or no column i.
 pub fn plain_step(s: &mut [f64], m: usize, n: usize, i: usize)
-    ensures { λ _. ⌜ now (s .exit) ≡ plainStep m n i (now (s .entry)) ⌝ }
+    ensures { λ _. ⌜ now (s .exit) ≡ plainStep (now (s .entry)) m n i ⌝ }
 {
     if !store::is_matrix(s, m, n) {
         return;
@@ -86,9 +86,9 @@ fn factor_step(
     counts: Counts,
 ) -> Counts
     requires { ⌜ (i < m) × (i < n) × (counts .pairs ≤ i) × (counts .tossed ≤ i) ⌝ }
-    requires { ⌜ (isMatrix m n (now s) ≡ true) × (length (now swaps) ≡ 128) ⌝ }
-    ensures { λ r. ⌜ ((f : Factors) → Held m n f (now (s .entry)) (now (swaps .entry)) (counts .pairs)
-        → Held m n (step i f) (now (s .exit)) (now (swaps .exit)) (r .pairs)) ⌝ }
+    requires { ⌜ (isMatrix (now s) m n ≡ true) × (length (now swaps) ≡ 128) ⌝ }
+    ensures { λ r. ⌜ ((f : Factors) → Held (now (s .entry)) m n (now (swaps .entry)) (counts .pairs) f
+        → Held (now (s .exit)) m n (now (swaps .exit)) (r .pairs) (step i f)) ⌝ }
     ensures { λ r. ⌜ (r .pairs ≤ i + 1) × (r .tossed ≤ i + 1) × (counts .pairs ≤ r .pairs) ⌝ }
     ensures { λ r. ⌜ r .tossed ≡ counts .tossed + tossAt i (column (columns m n (now (s .entry))) i) ⌝ }
 {
@@ -124,8 +124,8 @@ fn factor_steps(
     counts: Counts,
 ) -> Counts
     requires { ⌜ (from ≤ to) × (to ≤ m) × (to ≤ n) × (counts .pairs ≤ from) × (counts .tossed ≤ from) ⌝ }
-    requires { ⌜ (isMatrix m n (now s) ≡ true) × (length (now swaps) ≡ 128) ⌝ }
-    ensures { λ r. ⌜ Stepped m n from to counts (now (s .entry)) (now (swaps .entry)) r (now (s .exit)) (now (swaps .exit)) ⌝ }
+    requires { ⌜ (isMatrix (now s) m n ≡ true) × (length (now swaps) ≡ 128) ⌝ }
+    ensures { λ r. ⌜ Stepped (now (s .entry)) m n from to (now (swaps .entry)) counts r (now (s .exit)) (now (swaps .exit)) ⌝ }
 {
     let mut now = counts;
     let mut i = from;
@@ -146,8 +146,8 @@ fn factor_panel(
     counts: Counts,
 ) -> Counts
     requires { ⌜ (i + 4 ≤ m) × (i + 4 ≤ n) × (counts .pairs ≤ i) × (counts .tossed ≤ i) ⌝ }
-    requires { ⌜ (isMatrix m n (now s) ≡ true) × (length (now swaps) ≡ 128) ⌝ }
-    ensures { λ r. ⌜ Stepped m n i (i + 4) counts (now (s .entry)) (now (swaps .entry)) r (now (s .exit)) (now (swaps .exit)) ⌝ }
+    requires { ⌜ (isMatrix (now s) m n ≡ true) × (length (now swaps) ≡ 128) ⌝ }
+    ensures { λ r. ⌜ Stepped (now (s .entry)) m n i (i + 4) (now (swaps .entry)) counts r (now (s .exit)) (now (swaps .exit)) ⌝ }
 {
     let pairs = counts.pairs;
     let e = i + 4;
@@ -163,8 +163,8 @@ fn factor_panel(
 
 // All steps of the m by n matrix in s, in panels as long as more than eight are left. Answers what they counted.
 fn factor_in_place(s: &mut [f64], m: usize, n: usize, swaps: &mut [usize]) -> Counts
-    requires { ⌜ (isMatrix m n (now s) ≡ true) × (now swaps ≡ storeOf []) ⌝ }
-    ensures { λ r. ⌜ Held m n (eliminate m (columns m n (now (s .entry)))) (now (s .exit)) (now (swaps .exit)) (r .pairs) ⌝ }
+    requires { ⌜ (isMatrix (now s) m n ≡ true) × (now swaps ≡ storeOf []) ⌝ }
+    ensures { λ r. ⌜ Held (now (s .exit)) m n (now (swaps .exit)) (r .pairs) (eliminate m (columns m n (now (s .entry)))) ⌝ }
     ensures { λ r. ⌜ r .tossed ≡ tossUps m (columns m n (now (s .entry))) ⌝ }
 {
     let min_nrows_ncols = store::min(m, n);
@@ -182,8 +182,8 @@ fn factor_in_place(s: &mut [f64], m: usize, n: usize, swaps: &mut [usize]) -> Co
 
 // Factors the m by n matrix in s where it lies, past the tests.
 fn factor_tested(s: &mut [f64], m: usize, n: usize, swaps: &mut [usize]) -> Factored
-    requires { ⌜ (isMatrix m n (now s) ≡ true) × (length (now swaps) ≡ 128) ⌝ }
-    ensures { λ r. ⌜ Settled m n (now (s .entry)) r (now (s .exit)) (now (swaps .exit)) ⌝ }
+    requires { ⌜ (isMatrix (now s) m n ≡ true) × (length (now swaps) ≡ 128) ⌝ }
+    ensures { λ r. ⌜ Settled (now (s .entry)) m n r (now (s .exit)) (now (swaps .exit)) ⌝ }
 {
     factors::clear(swaps);
     let counts = factor_in_place(s, m, n, swaps);
@@ -206,9 +206,9 @@ fn factor_tested(s: &mut [f64], m: usize, n: usize, swaps: &mut [usize]) -> Fact
 
 // Factors the m by n matrix a into out, and records the swaps.
 pub fn factor(a: &[f64], m: usize, n: usize, out: &mut [f64], swaps: &mut [usize]) -> Factored
-    ensures { λ r. ⌜ factored r ≡ factoringAnswer m n (now (a .entry)) (now (out .entry)) (now (swaps .entry)) ⌝ }
-    ensures { λ _. ⌜ now (out .exit) ≡ factoring m n (now (a .entry)) (now (out .entry)) (now (swaps .entry)) .left .factors ⌝ }
-    ensures { λ _. ⌜ now (swaps .exit) ≡ factoring m n (now (a .entry)) (now (out .entry)) (now (swaps .entry)) .left .store ⌝ }
+    ensures { λ r. ⌜ factored r ≡ factoringAnswer (now (a .entry)) m n (now (out .entry)) (now (swaps .entry)) ⌝ }
+    ensures { λ _. ⌜ now (out .exit) ≡ factoring (now (a .entry)) m n (now (out .entry)) (now (swaps .entry)) .left .factors ⌝ }
+    ensures { λ _. ⌜ now (swaps .exit) ≡ factoring (now (a .entry)) m n (now (out .entry)) (now (swaps .entry)) .left .store ⌝ }
 {
     let number = factor_refusal(a, m, n, out, swaps);
     if number != 0 {
@@ -220,9 +220,9 @@ pub fn factor(a: &[f64], m: usize, n: usize, out: &mut [f64], swaps: &mut [usize
 
 // The same where the matrix lies: its slice is read as the matrix and holds the factors afterwards.
 pub fn factor_mut(s: &mut [f64], m: usize, n: usize, swaps: &mut [usize]) -> Factored
-    ensures { λ r. ⌜ factored r ≡ factoringAnswer m n (now (s .entry)) (now (s .entry)) (now (swaps .entry)) ⌝ }
-    ensures { λ _. ⌜ now (s .exit) ≡ factoring m n (now (s .entry)) (now (s .entry)) (now (swaps .entry)) .left .factors ⌝ }
-    ensures { λ _. ⌜ now (swaps .exit) ≡ factoring m n (now (s .entry)) (now (s .entry)) (now (swaps .entry)) .left .store ⌝ }
+    ensures { λ r. ⌜ factored r ≡ factoringAnswer (now (s .entry)) m n (now (s .entry)) (now (swaps .entry)) ⌝ }
+    ensures { λ _. ⌜ now (s .exit) ≡ factoring (now (s .entry)) m n (now (s .entry)) (now (swaps .entry)) .left .factors ⌝ }
+    ensures { λ _. ⌜ now (swaps .exit) ≡ factoring (now (s .entry)) m n (now (s .entry)) (now (swaps .entry)) .left .store ⌝ }
 {
     let number = factor_refusal(s, m, n, s, swaps);
     if number != 0 {

@@ -41,7 +41,7 @@ own-finite n x =
     cond-cases (λ (c : Column). allFinite c ≡ true → allFinite x ≡ true) (isZero (entry x p)) (λ z e. e)
     (λ live e. sym (finite-swap n p x) ∙ multipliers-finite n (swapRows n p x) e)
 
-module _ (r : Record) (s c : Column) (store : List ℕ) (next : Record) (good : adding r s c store .answer ≡ done next) where
+module _ (r : Record) (s c : Column) (store : List ℕ) (next : Record) (good : adding s c store r .answer ≡ done next) where
   abbrev m : ℕ
   m = r .rows
 
@@ -49,20 +49,20 @@ module _ (r : Record) (s c : Column) (store : List ℕ) (next : Record) (good : 
   n = r .columns
 
   abbrev x : Column
-  x = reduced m (olderFactors r s store) c
+  x = reduced m (olderFactors s store r) c
 
   abbrev cs : Matrix
-  cs = columns m (n + 1) (adding r s c store .left .factors)
+  cs = columns m (n + 1) (adding s c store r .left .factors)
 
-  accepted : numberOf (adding r s c store .answer) ≡ 0
+  accepted : numberOf (adding s c store r .answer) ≡ 0
   unfolding numberOf
   accepted = ap numberOf good
 
-  go : Ready r s c store
+  go : Ready s c store r
   go = ready r s c store (no-refusal r s c store accepted)
 
   long : length x ≡ m
-  long = length-reduced m (olderFactors r s store) c ∙ go .long
+  long = length-reduced m (olderFactors s store r) c ∙ go .long
 
   -- the column that is left in the slot
   last-is : column cs n ≡ ownColumn n x

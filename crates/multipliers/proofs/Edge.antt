@@ -47,8 +47,8 @@ passes b = past (b .count) oneUnits (2 ^ 1022) (pow-pos 1022) (units-unique one-
 
 -- THEOREM. With any limit from 2 ^ 1022 + 82,191,238 * 2 ^ 970 on, the bound would not hold of all accepted factorings.
 pub no-larger-limit : (limit : ℕ) → mostUnits + 82191238 * 2 ^ 2044 ≤ limit
-    → ((m n : ℕ) (a out : Column) (store : List ℕ) (told : Record) → factoring m n a out store .answer ≡ done told
-    → WithinOne limit m n (columns m n (factoring m n a out store .left .factors))) → ⊥
+    → ((m n : ℕ) (a out : Column) (store : List ℕ) (told : Record) → factoring a m n out store .answer ≡ done told
+    → WithinOne limit m n (columns m n (factoring a m n out store .left .factors))) → ⊥
 no-larger-limit limit h all =
     let held = all 2 1 (above ∷ above ∷ []) (ones 2) (replicate 128 1) (recordOf 2 1 0 0) above-accepted in
     let pivot : AtMost limit above = record { count = mostUnits + 82191238 * 2 ^ 2044; is = above-units; few = h } in

@@ -62,33 +62,33 @@ module _ (m : ℕ) (a : Matrix) (rows : HasRows m a) (ok : finiteIn (eliminate m
   eliminate-skipped j r ja jr rm = zero-below (at cs j j) (at cs r j) (eliminate-below m a rows ok j r (omega arith) jr rm)
 
 -- ---- the calls
-module _ (m n : ℕ) (a out : Column) (store : List ℕ) (told : Record) (ok : factoring m n a out store .answer ≡ done told) where
+module _ (m n : ℕ) (a out : Column) (store : List ℕ) (told : Record) (ok : factoring a m n out store .answer ≡ done told) where
   abbrev b : Matrix
   b = columns m n a
 
   -- what holds of the elimination's columns holds of those that the call left
   of-call : (P : ℕ → Matrix → Type 0) → (HasRows m b → finiteIn (eliminate m b) ≡ true → P (length b) (eliminate m b .columns))
-      → P n (columns m n (factoring m n a out store .left .factors))
+      → P n (columns m n (factoring a m n out store .left .factors))
   of-call P h =
       let given = accepted-given m n a out store told ok in
       rw (accepted-columns m n a out store told ok)
       (subst (λ (k : ℕ). P k (eliminate m b .columns)) (length-columns m n a) (h (shape m n a out store (given .none)) (given .finite)))
 
   -- THEOREM. In every accepted factoring each multiplier formed from a pivot of magnitude at most 2 ^ 1022 has magnitude at most 1.
-  pub factored-within-one : MultipliersWithinOne m n (factoring m n a out store)
+  pub factored-within-one : MultipliersWithinOne m n (factoring a m n out store)
   factored-within-one = of-call (WithinOne mostUnits m) (eliminate-within m b)
 
   -- THEOREM. Where a step was skipped, which leaves a zero on the diagonal, all numbers below it are zero.
-  pub factored-skipped : ZeroBelow m n (columns m n (factoring m n a out store .left .factors))
+  pub factored-skipped : ZeroBelow m n (columns m n (factoring a m n out store .left .factors))
   factored-skipped = of-call (ZeroBelow m) (eliminate-skipped m b)
 
   -- THEOREM. Of a matrix with room to grow, each number in row r of U is at most 2 ^ r times what no number of the matrix passes.
-  pub factored-growth : (units : ℕ) → Roomy units m n b → GrownAtMost units m n (columns m n (factoring m n a out store .left .factors))
+  pub factored-growth : (units : ℕ) → Roomy units m n b → GrownAtMost units m n (columns m n (factoring a m n out store .left .factors))
   factored-growth units = of-call (λ k cs. Roomy units m k b → GrownAtMost units m k cs) (eliminate-growth m units b)
 
   -- THEOREM. And every multiplier is within one, since every pivot is at most 2 ^ 1022.
   pub all-within-one : (units : ℕ) → Roomy units m n b → (j r : ℕ) → j < n → j < r → r < m
-      → AtMost oneUnits (at (columns m n (factoring m n a out store .left .factors)) r j)
+      → AtMost oneUnits (at (columns m n (factoring a m n out store .left .factors)) r j)
   all-within-one units room j r jn jr rm =
       let steps : j ≤ min m n - 1 = omega arith in
       let rows : j < m = omega arith in
@@ -101,13 +101,13 @@ pub promised-within-one : (m n : ℕ) (a out : Column) (store : List ℕ) (told 
     → Promise m n a out store (Accepted told tossed) s store' → WithinOne mostUnits m n (columns m n s)
 unfolding factored factoringAnswer
 promised-within-one m n a out store told tossed s store' kept =
-    let took = told-accepted (tossUps m (columns m n a)) (factoring m n a out store .answer) told tossed (kept .0) in
+    let took = told-accepted (tossUps m (columns m n a)) (factoring a m n out store .answer) told tossed (kept .0) in
     rw (kept .1 .0) (factored-within-one m n a out store told (took .0))
 
 -- ---- whatever an accepted factoring and any mix of accepted adding and taking off led to
 module _ (m n : ℕ) (a : Column) (r : Record) (o : Factoring) (how : Reached m n a r o) where
   -- what holds of accepted factorings holds of it
-  of-reached : (P : Factoring → Type 0) → ((out : Column) (store : List ℕ) → factoring m n a out store .answer ≡ done r → P (factoring m n a out store)) → P o
+  of-reached : (P : Factoring → Type 0) → ((out : Column) (store : List ℕ) → factoring a m n out store .answer ≡ done r → P (factoring a m n out store)) → P o
   of-reached P h =
       let afresh = reached m n a r o how in
       let is = afresh .1 (zeros (n * m)) (replicate 128 0) (length-replicate (n * m) _) refl in
@@ -122,10 +122,10 @@ module _ (m n : ℕ) (a : Column) (r : Record) (o : Factoring) (how : Reached m 
       of-reached (λ q. GrownAtMost units m n (columns m n (q .left .factors))) (λ out store ok. factored-growth m n a out store r ok units room)
 
 -- THEOREM. The same of a column that is added to an accepted factoring: of the older columns, whose rows adding may exchange, and of the new one.
-pub added-within-one : (m n : ℕ) (a out : Column) (store : List ℕ) (told : Record) → factoring m n a out store .answer ≡ done told
+pub added-within-one : (m n : ℕ) (a out : Column) (store : List ℕ) (told : Record) → factoring a m n out store .answer ≡ done told
     → (c z : Column) (next : Record) → length z ≡ m
-    → let o = factoring m n a out store in
-    let more = adding told (o .left .factors ++ z) c (o .left .store) in
+    → let o = factoring a m n out store in
+    let more = adding (o .left .factors ++ z) c (o .left .store) told in
     more .answer ≡ done next → MultipliersWithinOne m (n + 1) more
 added-within-one m n a out store told ok c z next lz good =
     reached-within-one m (n + 1) (a ++ c) next _ (added n a c z told next _ (fresh n a out store told ok) lz good)

@@ -163,7 +163,8 @@ module _ (m n greatest : ℕ) (double : OfDouble greatest) (low : greatest * 2 ^
             let product = product-at-most (bound i) u' (entry (packed i p f) r) (bound-double i (omega arith))
             (at-most-neg (bound i) (entry y i) (swapped-front j i (omega arith) jn (omega arith))) l (sum-finite _ _ s .0) in
             rw (changed, ← bound-twice i)
-            (sum-at-most (bound i) (mul binary64 u' (entry (packed i p f) r)) (entry y r) (subst OfDouble (sym (bound-twice i)) (bound-double (suc i) (omega arith)))
+            (sum-at-most (bound i) (mul binary64 u' (entry (packed i p f) r)) (entry y r)
+            (subst OfDouble (sym (bound-twice i)) (bound-double (suc i) (omega arith)))
             product (swapped-below j r (omega arith) jn (omega arith) rm) s)
 
         right-below : AtMost (bound (suc i)) (at (step i f .columns) r j)

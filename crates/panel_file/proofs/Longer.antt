@@ -1,5 +1,5 @@
--- "A longer input meets the same order of tests": an input of at least 33,287 bytes, one more than the greatest file has, is refused with 8, 1 or 3 by its first
--- six bytes, and so with the number with which its first 33,287 bytes are. By the tests in their order. Assumes nothing.
+-- "A longer input meets the same order of tests": an input of at least 33,287 bytes, one more than the greatest file has, is refused with 8, 1 or 3 by its
+-- first six bytes, and so with the number with which its first 33,287 bytes are. By the tests in their order. Assumes nothing.
 use mathlib.Core.Path.{_≡_, sym, ap, ap₂, _∙_}
 use mathlib.Core.Bool.{Bool, not, cond}
 use mathlib.Core.List.{List}

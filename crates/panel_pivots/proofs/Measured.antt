@@ -20,8 +20,8 @@ use Rattle.panel_pivots.specs.Outermost.{Greatest, Least, diagonalOf}
 use Rattle.panel_pivots.specs.Pivots.{Spans, Spanned, Measured, MeasuredAs}
 
 -- of the diagonal that was copied
-pub spanned : (n tossed : ℕ) (t p : Column) (most g l : Float) → p ≡ diagonalOf n t → Greatest p (length p) g → Least p (length p) l
-    → Spanned n t tossed most (Told tossed most g l)
+pub spanned : (n tossed : ℕ) (t p : Column) (most g l : Float) → p ≡ diagonalOf t n → Greatest p (length p) g → Least p (length p) l
+    → Spanned t n tossed most (Told tossed most g l)
 spanned n tossed t p most g l e a b =
     let count : length p ≡ n = ap length e ∙ length-list n _ in
     record {
@@ -29,26 +29,26 @@ spanned n tossed t p most g l e a b =
       l = l;
       is = refl;
       spans = record {
-        greatest = subst (λ k. Greatest (diagonalOf n t) k g) count (subst (λ d. Greatest d (length p) g) e a);
-        least = subst (λ k. Least (diagonalOf n t) k l) count (subst (λ d. Least d (length p) l) e b);
+        greatest = subst (λ k. Greatest (diagonalOf t n) k g) count (subst (λ d. Greatest d (length p) g) e a);
+        least = subst (λ k. Least (diagonalOf t n) k l) count (subst (λ d. Least d (length p) l) e b);
       };
     }
 
 module _ (bytes : List ℕ) where
   file-none : (f : Packed) → factorsIn bytes ≡ done f → fileRefusal bytes ≡ 0
   unfolding factorsIn
-  file-none f e = tested-done (fileRefusal bytes) (factorsOf (padsOf bytes) (matrixOf (padsOf bytes) bytes)) f e .0
+  file-none f e = tested-done (fileRefusal bytes) (factorsOf (matrixOf (padsOf bytes) bytes) (padsOf bytes)) f e .0
 
   pub measured : (f : Packed) (n tossed : ℕ) (most : Float) (r : Pivots) → factorsIn bytes ≡ done f → n ≡ padsOf bytes → tossed ≡ tossUpsIn bytes
       → (fileRefusal bytes ≡ 0 → Greatest (matrixOf (padsOf bytes) bytes) (length (matrixOf (padsOf bytes) bytes)) most)
-      → Spanned n (f .factors) tossed most r → MeasuredAs bytes (factorsIn bytes) r
+      → Spanned (f .factors) n tossed most r → MeasuredAs bytes (factorsIn bytes) r
   unfolding MeasuredAs
   measured f n tossed most r e is-n is-tossed top s =
       let m : Measured bytes f tossed most (s .g) (s .l) =
       record {
         toss-ups = is-tossed;
         matrix = top (file-none f e);
-        spans = subst (λ k. Spans k (f .factors) (s .g) (s .l)) is-n (s .spans);
+        spans = subst (λ k. Spans (f .factors) k (s .g) (s .l)) is-n (s .spans);
       } in
       subst (λ o. MeasuredAs bytes o r) (sym e) (subst (λ q. MeasuredAs bytes (done f) q) (sym (s .is)) m)
 

@@ -36,5 +36,5 @@ abbrev pub Least : Column → ℕ → Float → Type 0
 Least = Outermost below infinity64
 
 -- the numbers on the diagonal
-abbrev pub diagonalOf : ℕ → Column → Column
-diagonalOf n t = listOf n (λ i. entry t (i * n + i))
+abbrev pub diagonalOf : Column → ℕ → Column
+diagonalOf t n = listOf n (λ i. entry t (i * n + i))

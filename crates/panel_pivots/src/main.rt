@@ -60,7 +60,7 @@ fn least(numbers: &[f64]) -> f64
 // Copies the diagonal of the n by n factors t.
 fn fill_diagonal(t: &[f64], n: usize, pivots: &mut [f64])
     requires { ⌜ (n ≤ 64) × (length (now t) ≡ n * n) × (length (now pivots) ≡ n) ⌝ }
-    ensures { λ _. ⌜ now (pivots .exit) ≡ diagonalOf n (now (t .entry)) ⌝ }
+    ensures { λ _. ⌜ now (pivots .exit) ≡ diagonalOf (now (t .entry)) n ⌝ }
 {
     let mut i = 0;
     while i < n {
@@ -89,7 +89,7 @@ fn greatest_of(file: &[u8]) -> f64
 // The pivots of the n by n factors t, beside what is known already; pivots is room for them.
 fn span(toss_ups: usize, most: f64, t: &[f64], n: usize, pivots: &mut [f64]) -> Pivots
     requires { ⌜ (n ≤ 64) × (length (now t) ≡ n * n) × (length (now pivots) ≡ n) ⌝ }
-    ensures { λ r. ⌜ Spanned n (now (t .entry)) «toss_ups» most r ⌝ }
+    ensures { λ r. ⌜ Spanned (now (t .entry)) n «toss_ups» most r ⌝ }
 {
     fill_diagonal(t, n, pivots);
     Pivots::Told {
@@ -103,7 +103,7 @@ fn span(toss_ups: usize, most: f64, t: &[f64], n: usize, pivots: &mut [f64]) -> 
 // The same for the factors in front of a store.
 fn span_front(toss_ups: usize, most: f64, matrix: &[f64], n: usize) -> Pivots
     requires { ⌜ (n ≤ 64) × (length (now matrix) ≡ 4096) ⌝ }
-    ensures { λ r. ⌜ Spanned n (take (n * n) (now (matrix .entry))) «toss_ups» most r ⌝ }
+    ensures { λ r. ⌜ Spanned (take (n * n) (now (matrix .entry))) n «toss_ups» most r ⌝ }
 {
     let entries = n * n;
     let mut pivots = [0.0f64; 64];

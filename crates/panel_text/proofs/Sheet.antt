@@ -65,14 +65,14 @@ lastColumn bytes = let n = padsOf bytes in drop ((n - 1) * n) (matrixOf n bytes)
 
 -- what factoring, adding or removing came to: the factors as the slices hold them, or the refusal
 abbrev pub heldIn : Factoring → Outcome Packed
-heldIn o = andThen (o .answer) (λ told. done (packed told (o .left .factors) (o .left .store)))
+heldIn o = andThen (o .answer) (λ told. done (packed (o .left .factors) (o .left .store) told))
 
 -- The last pad added: the older columns factored into the slices `older` and `store`, then the last column added in a slot that held z; or the first refusal.
 abbrev pub byAdding : List ℕ → Column → List ℕ → Column → Outcome Packed
 byAdding bytes older store z =
     let n = padsOf bytes in
-    andThen (heldIn (factoring n (n - 1) (olderColumns bytes) older store))
-    (λ f. heldIn (adding (f .told) (f .factors ++ z) (lastColumn bytes) (f .swaps)))
+    andThen (heldIn (factoring (olderColumns bytes) n (n - 1) older store))
+    (λ f. heldIn (adding (f .factors ++ z) (lastColumn bytes) (f .swaps) (f .told)))
 
 -- a solve: what its slice then holds, or the refusal
 abbrev pub solvedIn : Call (Unit {0}) Column → Outcome Column
@@ -80,7 +80,7 @@ solvedIn x = andThen (x .answer) (λ _. done (x .left))
 
 -- the loads by a file's factors: its readings solved for, into the slice `out`
 abbrev pub loadsBy : List ℕ → Packed → Column → Outcome Column
-loadsBy bytes f out = solvedIn (solving (f .told) (f .factors) (f .swaps) 1 (readingsOf (padsOf bytes) bytes) out)
+loadsBy bytes f out = solvedIn (solving (f .factors) (f .swaps) (f .told) (readingsOf (padsOf bytes) bytes) 1 out)
 
 -- a ranking of n loads, all pads listed: the text of the pads in that order, or the refusal
 abbrev pub linedUp : ℕ → Column → Call ℕ (List ℕ) → Outcome (List ℕ)
@@ -96,12 +96,12 @@ printed (refused number) = refusedText number
 abbrev pub sheetBy : List ℕ → Outcome Packed → Column → List ℕ → List ℕ
 sheetBy bytes held out ranks =
     let n = padsOf bytes in
-    printed (andThen held (λ f. andThen (loadsBy bytes f out) (λ loads. linedUp n loads (ranking everyPad n loads ranks))))
+    printed (andThen held (λ f. andThen (loadsBy bytes f out) (λ loads. linedUp n loads (ranking everyPad loads n ranks))))
 
 -- the same of how a pad's load moves with each reading: the transposed solve of its unit column
 abbrev pub movesBy : List ℕ → Outcome Packed → ℕ → Column → List ℕ
 movesBy bytes held pad out =
-    changeText (andThen held (λ f. solvedIn (trSolving (f .told) (f .factors) (f .swaps) 1 (unitColumn (padsOf bytes) (pad - 1)) out)))
+    changeText (andThen held (λ f. solvedIn (trSolving (f .factors) (f .swaps) (f .told) (unitColumn (padsOf bytes) (pad - 1)) 1 out)))
 
 -- ---- n by n matrices: the whole, and all its columns but the last
 module _ (n : ℕ) (a : Column) (good : Good n a) where
@@ -133,13 +133,13 @@ module _ (n : ℕ) (a : Column) (good : Good n a) where
 
   -- the whole matrix factored where it lies
   abbrev whole : Factoring
-  whole = factoring n n a a (replicate 128 0)
+  whole = factoring a n n a (replicate 128 0)
 
-  whole-parts : factoring n (n - 1 + 1) (older ++ last) a (replicate 128 0) ≡ whole
-  whole-parts = ap₂ (λ (k : ℕ) (b : Column). factoring n k b a (replicate 128 0)) one-more parts
+  whole-parts : factoring (older ++ last) n (n - 1 + 1) a (replicate 128 0) ≡ whole
+  whole-parts = ap₂ (λ (k : ℕ) (b : Column). factoring b n k a (replicate 128 0)) one-more parts
 
   settles : (k : ℕ) (b out : Column) (store : List ℕ) → k ≤ 64 → allFinite b ≡ true → length b ≡ k * n → length out ≡ k * n → length store ≡ 128
-      → factoring n k b out store ≡ settled n k (eliminate n (columns n k b))
+      → factoring b n k out store ≡ settled n k (eliminate n (columns n k b))
   settles k b out store few finite lb lo ls =
       worked n k b out store
       (passes n k b out store
@@ -161,7 +161,7 @@ module _ (n : ℕ) (a : Column) (good : Good n a) where
 
   -- where the older columns' factors overflow, so do those of the whole
   older-refused : (out : Column) (store : List ℕ) → length out ≡ (n - 1) * n → length store ≡ 128 → (k : ℕ)
-      → factoring n (n - 1) older out store .answer ≡ refused k → whole .answer ≡ refused k
+      → factoring older n (n - 1) out store .answer ≡ refused k → whole .answer ≡ refused k
   unfolding settled
   older-refused out store lo ls k e =
       test-cases (allFinite (flat (eliminate n (columns n (n - 1) older) .columns)))
@@ -172,7 +172,7 @@ module _ (n : ℕ) (a : Column) (good : Good n a) where
       (λ u. absurd (false≢true (sym t ∙ finite-front n (columns n (n - 1) older) (last ∷ []) rows (ap finite-by (sym whole-columns) ∙ u))))
       (λ u. ap (λ (o : Factoring). o .answer) all ∙ rw u seven))
     where
-      is : factoring n (n - 1) older out store ≡ settled n (n - 1) (eliminate n (columns n (n - 1) older))
+      is : factoring older n (n - 1) out store ≡ settled n (n - 1) (eliminate n (columns n (n - 1) older))
       is = settles (n - 1) older out store (omega (arith, good .most)) older-finite older-long lo ls
 
       all : whole ≡ settled n n (eliminate n (columns n n a))
@@ -193,20 +193,20 @@ then-same (refused k) f g same = refl
 
 held-refused : (o : Factoring) (k : ℕ) → o .answer ≡ refused k → heldIn o ≡ refused k
 unfolding andThen
-held-refused o k e = ap (λ (x : Outcome Record). andThen x (λ told. done (packed told (o .left .factors) (o .left .store)))) e
+held-refused o k e = ap (λ (x : Outcome Record). andThen x (λ told. done (packed (o .left .factors) (o .left .store) told))) e
 
 module _ (b out : Column) where
   any-slice : (way : Way) (r : Record) (f : Column) (s : List ℕ) → length out ≡ r .rows
-      → solvedIn (solvingBy way r f s 1 b out) ≡ solvedIn (solvingBy way r f s 1 b (zeros (r .rows)))
+      → solvedIn (solvingBy way f s r b 1 out) ≡ solvedIn (solvingBy way f s r b 1 (zeros (r .rows)))
   unfolding andThen
   any-slice way r f s fits =
       let m = r .rows in
-      let number = heldRefusal f s r (solveAsks m 1 b (zeros m)) in
-      let made = seventh (solvedBy way r f s (columns m 1 b)) in
+      let number = heldRefusal f s r (solveAsks b m 1 (zeros m)) in
+      let made = seventh (solvedBy way f s r (columns m 1 b)) in
       rw (same-matrix m 1 (zeros m) out (fits ∙ sym (length-replicate m zero64)))
       (tested-map solvedIn number (leaving out) made ∙ sym (tested-map solvedIn number (leaving (zeros m)) made))
 
-  solve-same : (t : Bool) (p : Packed) → length out ≡ p .told .rows → solvedIn (systemOf t (p .told) (p .factors) (p .swaps) 1 b out) ≡ solutionBy t p b
+  solve-same : (t : Bool) (p : Packed) → length out ≡ p .told .rows → solvedIn (systemOf t (p .factors) (p .swaps) (p .told) b 1 out) ≡ solutionBy t p b
   unfolding solving trSolving solutionBy
   solve-same true p = any-slice trSolved (p .told) (p .factors) (p .swaps)
   solve-same false p = any-slice solved (p .told) (p .factors) (p .swaps)
@@ -217,7 +217,7 @@ module _ (b : Column) (p : Packed) (long : length b ≡ p .told .rows) where
   rows-of = p .told .rows
 
   abbrev made : Column
-  made = solvedBy solved (p .told) (p .factors) (p .swaps) (columns rows-of 1 b)
+  made = solvedBy solved (p .factors) (p .swaps) (p .told) (columns rows-of 1 b)
 
   made-long : length made ≡ rows-of
   unfolding solvedAll solved
@@ -235,7 +235,7 @@ module _ (b : Column) (p : Packed) (long : length b ≡ p .told .rows) where
   solution-long : (x : Column) → solutionBy false p b ≡ done x → length x ≡ rows-of
   unfolding solutionBy solving seventh andThen
   solution-long x =
-      let number = heldRefusal (p .factors) (p .swaps) (p .told) (solveAsks rows-of 1 b (zeros rows-of)) in
+      let number = heldRefusal (p .factors) (p .swaps) (p .told) (solveAsks b rows-of 1 (zeros rows-of)) in
       tested-cases number (leaving (zeros rows-of)) (seventh made) (λ c. solvedIn c ≡ done x → length x ≡ rows-of)
       (λ _. cond-cases (λ (c : Call (Unit {0}) Column). solvedIn c ≡ done x → length x ≡ rows-of) (allFinite made)
       (λ _ e. ap length (sym (done-same made x e)) ∙ made-long) (λ _ e. never-both x 7 (sym e))) (λ _ e. never-both x number (sym e))
@@ -245,10 +245,10 @@ module _ (bytes : List ℕ) (out : Column) (fits : length out ≡ padsOf bytes) 
   unfolding factorsIn
   file-rows p e =
       let n = padsOf bytes in
-      let both = tested-done (fileRefusal bytes) (factorsOf n (matrixOf n bytes)) p e in
+      let both = tested-done (fileRefusal bytes) (factorsOf (matrixOf n bytes) n) p e in
       fits ∙ sym (factored-rows n (matrixOf n bytes) (file-good bytes (both .0)) p (both .1))
 
-  solves : (t : Bool) (b : Column) → andThen (factorsIn bytes) (λ p. solvedIn (systemOf t (p .told) (p .factors) (p .swaps) 1 b out))
+  solves : (t : Bool) (b : Column) → andThen (factorsIn bytes) (λ p. solvedIn (systemOf t (p .factors) (p .swaps) (p .told) b 1 out))
       ≡ andThen (factorsIn bytes) (λ p. solutionBy t p b)
   solves t b = then-same (factorsIn bytes) _ _ (λ p e. solve-same b out t p (file-rows p e))
 
@@ -261,7 +261,7 @@ module _ (bytes : List ℕ) (out : Column) (fits : length out ≡ padsOf bytes) 
       (λ p d f. let rows = file-rows p d in solution-long b p (length-list (padsOf bytes) _ ∙ sym fits ∙ rows) x f ∙ sym rows ∙ fits)
 
   loads-ranked : (ranks : List ℕ) → length ranks ≡ padsOf bytes → (o : Outcome Column) → loadsOf bytes ≡ o
-      → printed (andThen o (λ x. linedUp (padsOf bytes) x (ranking everyPad (padsOf bytes) x ranks))) ≡ orderText (padsOf bytes) o
+      → printed (andThen o (λ x. linedUp (padsOf bytes) x (ranking everyPad x (padsOf bytes) ranks))) ≡ orderText (padsOf bytes) o
   unfolding andThen orderText
   loads-ranked ranks lr (done x) e =
       let n = padsOf bytes in
@@ -276,7 +276,7 @@ module _ (bytes : List ℕ) (out : Column) (fits : length out ≡ padsOf bytes) 
   unfolding textOf loadsOf
   sheet-by ranks lr held e =
       let n = padsOf bytes in
-      let line : Column → Outcome (List ℕ) = λ x. linedUp n x (ranking everyPad n x ranks) in
+      let line : Column → Outcome (List ℕ) = λ x. linedUp n x (ranking everyPad x n ranks) in
       ap (λ (h : Outcome Packed). sheetBy bytes h out ranks) e
       ∙ ap printed (sym (then-then (factorsIn bytes) _ line) ∙ ap (λ (o : Outcome Column). andThen o line) (solves false (readingsOf n bytes)))
       ∙ loads-ranked ranks lr (loadsOf bytes) refl
@@ -305,7 +305,7 @@ module _ (bytes : List ℕ) (taken : fileRefusal bytes ≡ 0) where
 
   afresh-held : heldIn afresh ≡ factorsIn bytes
   unfolding factorsIn factorsOf
-  afresh-held = sym (tested-none (fileRefusal bytes) refused (factorsOf pads matrix) taken)
+  afresh-held = sym (tested-none (fileRefusal bytes) refused (factorsOf matrix pads) taken)
 
   -- what answers as factoring afresh does, and is the same where that is accepted, holds the file's factors
   same-held : (o : Factoring) → o .answer ≡ afresh .answer → (numberOf (afresh .answer) ≡ 0 → o ≡ afresh) → heldIn o ≡ factorsIn bytes
@@ -324,7 +324,7 @@ module _ (bytes : List ℕ) (taken : fileRefusal bytes ≡ 0) where
 
   -- THEOREM. The last pad added to whatever was reached with the columns of the others comes to the file's factors, the refusal too.
   pub factors-added : (r : Record) (o : Factoring) → Reached pads (pads - 1) (olderColumns bytes) r o → (z : Column) → length z ≡ pads
-      → heldIn (adding r (o .left .factors ++ z) (lastColumn bytes) (o .left .store)) ≡ factorsIn bytes
+      → heldIn (adding (o .left .factors ++ z) (lastColumn bytes) (o .left .store) r) ≡ factorsIn bytes
   factors-added r o how z lz =
       let long = whole-long pads matrix good-file in
       let both = adding-reached pads (pads - 1) (olderColumns bytes) (lastColumn bytes) z r o how lz matrix (replicate 128 0) long
@@ -339,11 +339,11 @@ module _ (bytes : List ℕ) (taken : fileRefusal bytes ≡ 0) where
   factors-by-adding older z store lo ls lz = go (f .answer) refl
     where
       f : Factoring
-      f = factoring pads (pads - 1) (olderColumns bytes) older store
+      f = factoring (olderColumns bytes) pads (pads - 1) older store
 
       from : Outcome Record → Outcome Packed
-      from x = andThen (andThen x (λ told. done (packed told (f .left .factors) (f .left .store))))
-          (λ p. heldIn (adding (p .told) (p .factors ++ z) (lastColumn bytes) (p .swaps)))
+      from x = andThen (andThen x (λ told. done (packed (f .left .factors) (f .left .store) told)))
+          (λ p. heldIn (adding (p .factors ++ z) (lastColumn bytes) (p .swaps) (p .told)))
 
       go : (x : Outcome Record) → f .answer ≡ x → from (f .answer) ≡ factorsIn bytes
       go (done told) e = ap from e ∙ factors-added told f (fresh (pads - 1) (olderColumns bytes) older store told e) z lz
@@ -353,11 +353,11 @@ module _ (bytes : List ℕ) (taken : fileRefusal bytes ≡ 0) where
 
   -- THEOREM. Where that adding is refused, so is the file, with the same number.
   pub refused-added : (r : Record) (o : Factoring) → Reached pads (pads - 1) (olderColumns bytes) r o → (z : Column) → length z ≡ pads → (k : ℕ)
-      → adding r (o .left .factors ++ z) (lastColumn bytes) (o .left .store) .answer ≡ refused k → textOf bytes ≡ refusedText k
+      → adding (o .left .factors ++ z) (lastColumn bytes) (o .left .store) r .answer ≡ refused k → textOf bytes ≡ refusedText k
   unfolding textOf orderText loadsOf andThen
   refused-added r o how z lz k e =
       ap (λ (h : Outcome Packed). orderText pads (andThen h (λ f. solutionBy false f (readingsOf pads bytes))))
-      (sym (factors-added r o how z lz) ∙ held-refused (adding r (o .left .factors ++ z) (lastColumn bytes) (o .left .store)) k e)
+      (sym (factors-added r o how z lz) ∙ held-refused (adding (o .left .factors ++ z) (lastColumn bytes) (o .left .store) r) k e)
 
   -- a pad of the crossing is not refused
   pad-taken : (pad : ℕ) → 1 ≤ pad → pad ≤ pads → movesRefusal bytes pad ≡ 0
@@ -377,7 +377,7 @@ module _ (bytes : List ℕ) (taken : fileRefusal bytes ≡ 0) where
 
     -- THEOREM. The same where the last pad is added to whatever was reached with the columns of the others.
     pub sheet-added : (r : Record) (o : Factoring) → Reached pads (pads - 1) (olderColumns bytes) r o → (z : Column) → length z ≡ pads
-        → sheetBy bytes (heldIn (adding r (o .left .factors ++ z) (lastColumn bytes) (o .left .store))) out ranks ≡ textOf bytes
+        → sheetBy bytes (heldIn (adding (o .left .factors ++ z) (lastColumn bytes) (o .left .store) r)) out ranks ≡ textOf bytes
     sheet-added r o how z lz = sheet-by bytes out fits ranks room _ (factors-added r o how z lz)
 
     -- THEOREM. The same after any mix of adds and removes that ends at the file's columns.

@@ -1,5 +1,5 @@
--- Document 02, request 8: what is printed of why a file is refused: "no reason", or `refused K` and, for 6 and 7, a line with the place. Steps, columns and rows
--- count from 1 here, as pads do.
+-- Document 02, request 8: what is printed of why a file is refused: "no reason", or `refused K` and, for 6 and 7, a line with the place. Steps, columns and
+-- rows count from 1 here, as pads do.
 use mathlib.Core.Bool.{cond}
 use mathlib.Core.List.{List, [], _∷_, _++_}
 use mathlib.Core.Option.{Option, none, some}

@@ -58,6 +58,6 @@ finite-permute swaps c = permuted-keeps swapRows (λ x. allFinite x ≡ allFinit
 pub finite-on : (m n : ℕ) (f : Matrix → Matrix) (s : Column) → ((cs : Matrix) → allFinite (flat (f cs)) ≡ allFinite (flat cs))
     → allFinite (onColumns m n f s) ≡ allFinite s
 finite-on m n f s same =
-    test-cases (isMatrix m n s)
+    test-cases (isMatrix s m n)
     (λ h. ap allFinite (on-flat m n f s h) ∙ same (columns m n s) ∙ ap allFinite (flat-columns m n s (sized m n s h .size)))
     (λ h. ap allFinite (sym (on-none m n f s h)))

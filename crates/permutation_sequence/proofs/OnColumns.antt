@@ -27,20 +27,20 @@ abbrev pub Shape : {A : Type 0} → ℕ → ℕ → List (List A) → Type 0
 Shape m n cs = (length cs ≡ n) × HasRows m cs
 
 module _ {A : Type 0} (m n : ℕ) where
-  shaped : (s : List A) → isMatrix m n s ≡ true → Shape m n (columns m n s)
+  shaped : (s : List A) → isMatrix s m n ≡ true → Shape m n (columns m n s)
   shaped s h = (length-columns m n s, columns-rows m n s (sized m n s h .size))
 
   -- no work
   pub on-nothing : (f : List (List A) → List (List A)) (s : List A) → ((cs : List (List A)) → Shape m n cs → f cs ≡ cs) → onColumns m n f s ≡ s
   on-nothing f s none =
-      test-cases (isMatrix m n s)
+      test-cases (isMatrix s m n)
       (λ h. on-flat m n f s h ∙ ap flat (none (columns m n s) (shaped s h)) ∙ flat-columns m n s (sized m n s h .size))
       (λ h. sym (on-none m n f s h))
 
   module _ (g : List (List A) → List (List A)) (keeps : (cs : List (List A)) → Shape m n cs → Shape m n (g cs)) where
     pub length-on : (s : List A) → length (onColumns m n g s) ≡ length s
     length-on s =
-        test-cases (isMatrix m n s)
+        test-cases (isMatrix s m n)
         (λ h. let made = keeps (columns m n s) (shaped s h) in
         ap length (on-flat m n g s h) ∙ length-flat m (g (columns m n s)) (made .1) ∙ ap (λ (k : ℕ). k * m) (made .0) ∙ sym (sized m n s h .size))
         (λ h. ap length (sym (on-none m n g s h)))
@@ -49,7 +49,7 @@ module _ {A : Type 0} (m n : ℕ) where
     pub on-on : (f : List (List A) → List (List A)) (s : List A) → onColumns m n f (onColumns m n g s) ≡ onColumns m n (λ cs. f (g cs)) s
     on-on f s =
         let t = onColumns m n g s in
-        test-cases (isMatrix m n s)
+        test-cases (isMatrix s m n)
         (λ h. let made = keeps (columns m n s) (shaped s h) in
         on-flat m n f t (same-matrix m n s t (length-on s) ∙ h)
         ∙ ap (λ (cs : List (List A)). flat (f cs)) (on-columns m n g s h (made .0) (made .1))
@@ -150,14 +150,14 @@ module _ (m n : ℕ) (exchange : ℕ → ℕ → Matrix → Matrix) (keeps : Kee
 pub one-column : (m : ℕ) (swaps : Swaps) (x : Column) → m ≤ 64 → length x ≡ m → onColumns m 1 (rowsPermuted swaps) x ≡ permute swaps x
 unfolding columns flat eachFrom
 one-column m swaps x h len =
-    let fits : isMatrix m 1 x ≡ true = is-matrix m 1 x h (omega arith) (len ∙ sym (one-mul m)) in
+    let fits : isMatrix x m 1 ≡ true = is-matrix m 1 x h (omega arith) (len ∙ sym (one-mul m)) in
     on-flat m 1 (rowsPermuted swaps) x fits
     ∙ ap flat (rows-each swaps (columns m 1 x))
     ∙ append-nil (permute swaps (take m x))
     ∙ ap (permute swaps) (take-all m x (omega arith))
 
 -- what the loop over a single column gives
-pub one-applied : (m n pairs : ℕ) (store : List ℕ) (s t : Column) → isMatrix m n s ≡ true → n ≡ 1 → 2 * pairs ≤ length store
+pub one-applied : (m n pairs : ℕ) (store : List ℕ) (s t : Column) → isMatrix s m n ≡ true → n ≡ 1 → 2 * pairs ≤ length store
     → t ≡ permute (pairsOf pairs store) s
     → t ≡ onColumns m n (rowsPermuted (inOrder false (held pairs store))) s
 unfolding inOrder

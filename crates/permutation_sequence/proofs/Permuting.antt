@@ -29,39 +29,39 @@ use Rattle.permutation_sequence.proofs.Finite.{exchange-finite, finite-
 
 -- ---- the call, by its refusal
 module _ (exchange : ℕ → ℕ → Matrix → Matrix) (bound : ℕ) (backwards : Bool) (m n pairs : ℕ) (store : List ℕ) (s : Column) where
-  pub permuting-refused : (number : ℕ) → number ≡ permutingRefusal bound m n pairs store s → (number ≡ 0 → ⊥)
-      → Promise (permuting exchange bound backwards m n pairs store s) (Refused number) s
+  pub permuting-refused : (number : ℕ) → number ≡ permutingRefusal s m n store pairs bound → (number ≡ 0 → ⊥)
+      → Promise (permuting exchange bound backwards s m n store pairs) (Refused number) s
   unfolding permuting answered
   permuting-refused number e g =
-      promise-refused (permutingRefusal bound m n pairs store s) number s _ (Refused number) e g (sym (tested-some number refused (done tt) g))
+      promise-refused (permutingRefusal s m n store pairs bound) number s _ (Refused number) e g (sym (tested-some number refused (done tt) g))
 
   -- a list that is not refused is good
-  good-permuted : permutingRefusal bound m n pairs store s ≡ 0 → goodList bound 64 pairs store ≡ true
+  good-permuted : permutingRefusal s m n store pairs bound ≡ 0 → goodList store pairs bound 64 ≡ true
   unfolding permutingRefusal
   good-permuted e = not-false _ (first-none _ (search needs) e .1 .1 .0)
 
-  accepted : permutingRefusal bound m n pairs store s ≡ 0
-      → permuting exchange bound backwards m n pairs store s
+  accepted : permutingRefusal s m n store pairs bound ≡ 0
+      → permuting exchange bound backwards s m n store pairs
       ≡ record { answer = done tt; left = onColumns m n (permutedBy exchange (inOrder backwards (pairsOf pairs store))) s }
   unfolding permuting
-  accepted e = tested-none (permutingRefusal bound m n pairs store s) (leaving s) _ e
+  accepted e = tested-none (permutingRefusal s m n store pairs bound) (leaving s) _ e
 
-  pub permuting-done : (t : Column) → permutingRefusal bound m n pairs store s ≡ 0 → t ≡ exchangesOn exchange backwards m n pairs store s
-      → Promise (permuting exchange bound backwards m n pairs store s) Done t
+  pub permuting-done : (t : Column) → permutingRefusal s m n store pairs bound ≡ 0 → t ≡ exchangesOn exchange backwards s m n store pairs
+      → Promise (permuting exchange bound backwards s m n store pairs) Done t
   unfolding answered
   permuting-done t e made =
       rw (accepted e)
       (refl, made ∙ ap (λ (swaps : Swaps). onColumns m n (permutedBy exchange (inOrder backwards swaps)) s) (held-good bound 64 pairs store (good-permuted e)))
 
-  not-refused : numberOf (permuting exchange bound backwards m n pairs store s .answer) ≡ 0 → permutingRefusal bound m n pairs store s ≡ 0
+  not-refused : numberOf (permuting exchange bound backwards s m n store pairs .answer) ≡ 0 → permutingRefusal s m n store pairs bound ≡ 0
   unfolding permuting
-  not-refused h = none-given (permutingRefusal bound m n pairs store s) s _ h
+  not-refused h = none-given (permutingRefusal s m n store pairs bound) s _ h
 
 -- ---- there and back
 
 -- a call on a slice of the same length, as finite as the other, is refused alike
 same-refusal : (bound m n pairs : ℕ) (store : List ℕ) (s t : Column) → length t ≡ length s → allFinite t ≡ allFinite s
-    → permutingRefusal bound m n pairs store t ≡ permutingRefusal bound m n pairs store s
+    → permutingRefusal t m n store pairs bound ≡ permutingRefusal s m n store pairs bound
 unfolding permutingRefusal
 same-refusal bound m n pairs store s t e f = rw (same-matrix m n s t e, f)
 
@@ -75,10 +75,10 @@ abbrev pub Restored : Column → Call (Unit {0}) Column → Type 0
 Restored s o = o ≡ record { answer = done tt; left = s }
 
 restored : (columns : Bool) (bound : ℕ) (backwards : Bool) (m n pairs : ℕ) (store : List ℕ) (s : Column)
-    → numberOf (permuting (exchangeOf columns) bound backwards m n pairs store s .answer) ≡ 0
-    → Restored s (permuting (exchangeOf columns) bound (not backwards) m n pairs store (permuting (exchangeOf columns) bound backwards m n pairs store s .left))
+    → numberOf (permuting (exchangeOf columns) bound backwards s m n store pairs .answer) ≡ 0
+    → Restored s (permuting (exchangeOf columns) bound (not backwards) (permuting (exchangeOf columns) bound backwards s m n store pairs .left) m n store pairs)
 restored columns bound backwards m n pairs store s h =
-    ap (λ (o : Call (Unit {0}) Column). permuting (exchangeOf columns) bound (not backwards) m n pairs store (o .left))
+    ap (λ (o : Call (Unit {0}) Column). permuting (exchangeOf columns) bound (not backwards) (o .left) m n store pairs)
     (accepted (exchangeOf columns) bound backwards m n pairs store s none)
     ∙ accepted (exchangeOf columns) bound (not backwards) m n pairs store made
     (same-refusal bound m n pairs store s made (length-on m n there shape s) (finite-on m n there s same) ∙ none)
@@ -96,7 +96,7 @@ restored columns bound backwards m n pairs store s h =
     made : Column
     made = onColumns m n there s
 
-    none : permutingRefusal bound m n pairs store s ≡ 0
+    none : permutingRefusal s m n store pairs bound ≡ 0
     none = not-refused (exchangeOf columns) bound backwards m n pairs store s h
 
     shape : (cs : Matrix) → Shape m n cs → Shape m n (there cs)
@@ -108,13 +108,13 @@ restored columns bound backwards m n pairs store s h =
         (inOrder backwards (pairsOf pairs store)) cs refl
 
 -- permuting the rows, then permuting them the other way, restores every bit
-pub rows-restored : (backwards : Bool) (m n pairs : ℕ) (store : List ℕ) (s : Column) → numberOf (permutingRows backwards m n pairs store s .answer) ≡ 0
-    → Restored s (permutingRows (not backwards) m n pairs store (permutingRows backwards m n pairs store s .left))
+pub rows-restored : (backwards : Bool) (m n pairs : ℕ) (store : List ℕ) (s : Column) → numberOf (permutingRows backwards s m n store pairs .answer) ≡ 0
+    → Restored s (permutingRows (not backwards) (permutingRows backwards s m n store pairs .left) m n store pairs)
 rows-restored backwards m n = restored false m backwards m n
 
 -- the same of the columns
-pub columns-restored : (backwards : Bool) (m n pairs : ℕ) (store : List ℕ) (s : Column) → numberOf (permutingColumns backwards m n pairs store s .answer) ≡ 0
-    → Restored s (permutingColumns (not backwards) m n pairs store (permutingColumns backwards m n pairs store s .left))
+pub columns-restored : (backwards : Bool) (m n pairs : ℕ) (store : List ℕ) (s : Column) → numberOf (permutingColumns backwards s m n store pairs .answer) ≡ 0
+    → Restored s (permutingColumns (not backwards) (permutingColumns backwards s m n store pairs .left) m n store pairs)
 columns-restored backwards m n = restored true n backwards m n
 
 -- ---- what follows the last pair
@@ -122,7 +122,7 @@ columns-restored backwards m n = restored true n backwards m n
 -- two stores that agree on their pairs give the same outcome
 pub permuting-unread : (exchange : ℕ → ℕ → Matrix → Matrix) (bound : ℕ) (backwards : Bool) (m n pairs : ℕ) (a b : List ℕ) (s : Column)
     → length a ≡ length b → ((k : ℕ) → k < 2 * pairs → getD a k 0 ≡ getD b k 0)
-    → permuting exchange bound backwards m n pairs a s ≡ permuting exchange bound backwards m n pairs b s
+    → permuting exchange bound backwards s m n a pairs ≡ permuting exchange bound backwards s m n b pairs
 unfolding permuting permutingRefusal
 permuting-unread exchange bound backwards m n pairs a b s long same =
     rw (long, good-unread bound 64 pairs a b long same, pairs-same pairs a b same)

@@ -143,7 +143,7 @@ pub record Good (bound most pairs : ℕ) (store : List ℕ) : Type 0 where
   pub each : goodPairs bound (pairsOf pairs store) ≡ true
 
 module _ (bound most pairs : ℕ) (store : List ℕ) where
-  pub good : goodList bound most pairs store ≡ true → Good bound most pairs store
+  pub good : goodList store pairs bound most ≡ true → Good bound most pairs store
   unfolding goodList holds
   good e =
       let both = and-first (leb pairs most && leb (2 * pairs) (length store)) (goodPairs bound (pairsOf pairs store)) e in
@@ -153,16 +153,16 @@ module _ (bound most pairs : ℕ) (store : List ℕ) where
         each = and-second (leb pairs most && leb (2 * pairs) (length store)) (goodPairs bound (pairsOf pairs store)) e;
       }
 
-  pub is-good : Good bound most pairs store → goodList bound most pairs store ≡ true
+  pub is-good : Good bound most pairs store → goodList store pairs bound most ≡ true
   unfolding goodList holds
   is-good g = rw (le-leb pairs most (g .few), le-leb (2 * pairs) (length store) (g .room)) (g .each)
 
-  pub held-good : goodList bound most pairs store ≡ true → held pairs store ≡ pairsOf pairs store
+  pub held-good : goodList store pairs bound most ≡ true → held pairs store ≡ pairsOf pairs store
   held-good e = held-all pairs store (good e .room)
 
 -- the test does not read what follows the last pair
 pub good-unread : (bound most pairs : ℕ) (a b : List ℕ) → length a ≡ length b → ((k : ℕ) → k < 2 * pairs → getD a k 0 ≡ getD b k 0)
-    → goodList bound most pairs a ≡ goodList bound most pairs b
+    → goodList a pairs bound most ≡ goodList b pairs bound most
 unfolding goodList holds
 good-unread bound most pairs a b long same = rw (long, pairs-same pairs a b same)
 
@@ -174,9 +174,9 @@ goods-snoc bound (q ∷ swaps) p e f =
     (goods-snoc bound swaps p (and-second (goodPair bound q) (goodPairs bound swaps) e) f)
 
 -- a good list with a good pair behind it
-pub good-with : (bound most pairs i j : ℕ) (store : List ℕ) → goodList bound most pairs store ≡ true → pairs < most → 2 * pairs + 1 < length store
+pub good-with : (bound most pairs i j : ℕ) (store : List ℕ) → goodList store pairs bound most ≡ true → pairs < most → 2 * pairs + 1 < length store
     → goodPair bound (i, j) ≡ true
-    → goodList bound most (pairs + 1) (withPair pairs i j store) ≡ true
+    → goodList (withPair pairs i j store) (pairs + 1) bound most ≡ true
 good-with bound most pairs i j store e few room p =
     is-good bound most (pairs + 1) (withPair pairs i j store)
     (record {

@@ -18,36 +18,36 @@ use Rattle.permutation_sequence.specs.declared.Appended.the-variants.{Pa
 -- ---- permuting an m by n matrix
 
 -- the refusals of plain permuting, in their order; `bound` is the row count, for columns the column count
-unfoldable pub permutingRefusal : ℕ → ℕ → ℕ → ℕ → List ℕ → Column → ℕ
-permutingRefusal bound m n pairs store s =
+unfoldable pub permutingRefusal : Column → ℕ → ℕ → List ℕ → ℕ → ℕ → ℕ
+permutingRefusal s m n store pairs bound =
     firstOf
     ((1, outside 1 m || outside 0 n)
-    ∷ (3, not (isMatrix m n s && eqb (length store) 128))
-    ∷ (4, not (goodList bound 64 pairs store))
+    ∷ (3, not (isMatrix s m n && eqb (length store) 128))
+    ∷ (4, not (goodList store pairs bound 64))
     ∷ (5, not (allFinite s))
     ∷ [])
 
 -- the call, given what is exchanged and the bound
-unfoldable pub permuting : (ℕ → ℕ → Matrix → Matrix) → ℕ → Bool → ℕ → ℕ → ℕ → List ℕ → Column → Call (Unit {0}) Column
-permuting exchange bound backwards m n pairs store s =
-    tested (permutingRefusal bound m n pairs store s) (leaving s)
+unfoldable pub permuting : (ℕ → ℕ → Matrix → Matrix) → ℕ → Bool → Column → ℕ → ℕ → List ℕ → ℕ → Call (Unit {0}) Column
+permuting exchange bound backwards s m n store pairs =
+    tested (permutingRefusal s m n store pairs bound) (leaving s)
     (record { answer = done tt; left = onColumns m n (permutedBy exchange (inOrder backwards (pairsOf pairs store))) s })
 
-abbrev pub permutingRows : Bool → ℕ → ℕ → ℕ → List ℕ → Column → Call (Unit {0}) Column
-permutingRows backwards m n = permuting swapInAll m backwards m n
+abbrev pub permutingRows : Bool → Column → ℕ → ℕ → List ℕ → ℕ → Call (Unit {0}) Column
+permutingRows backwards s m n = permuting swapInAll m backwards s m n
 
-abbrev pub permutingColumns : Bool → ℕ → ℕ → ℕ → List ℕ → Column → Call (Unit {0}) Column
-permutingColumns backwards m n = permuting columnsSwapped n backwards m n
+abbrev pub permutingColumns : Bool → Column → ℕ → ℕ → List ℕ → ℕ → Call (Unit {0}) Column
+permutingColumns backwards s m n = permuting columnsSwapped n backwards s m n
 
 -- ---- appending the pair (i, j) to a list for dimension d
 
 -- The list is tested as plain permuting of 64 rows does, but with at most d pairs; then the numbers; a full list takes no pair of different numbers.
-unfoldable pub appendingRefusal : ℕ → ℕ → ℕ → ℕ → List ℕ → ℕ
-appendingRefusal d i j pairs store =
+unfoldable pub appendingRefusal : List ℕ → ℕ → ℕ → ℕ → ℕ → ℕ
+appendingRefusal store pairs d i j =
     firstOf
     ((1, outside 1 d)
     ∷ (3, not (eqb (length store) 128))
-    ∷ (4, not (goodList 64 d pairs store))
+    ∷ (4, not (goodList store pairs 64 d))
     ∷ (4, leb 64 i || leb 64 j)
     ∷ (4, not (eqb i j) && eqb pairs d)
     ∷ [])
@@ -61,9 +61,9 @@ abbrev pub listed : ℕ → List ℕ → Listed
 listed pairs store = record { pairs = pairs; store = store }
 
 -- A pair of two different numbers is written behind the last. Else all is as it was, the count too.
-unfoldable pub appending : ℕ → ℕ → ℕ → ℕ → List ℕ → Call (Unit {0}) Listed
-appending d i j pairs store =
-    tested (appendingRefusal d i j pairs store) (leaving (listed pairs store))
+unfoldable pub appending : List ℕ → ℕ → ℕ → ℕ → ℕ → Call (Unit {0}) Listed
+appending store pairs d i j =
+    tested (appendingRefusal store pairs d i j) (leaving (listed pairs store))
     (record { answer = done tt; left = cond (eqb i j) (listed pairs store) (listed (pairs + 1) (withPair pairs i j store)) })
 
 -- document 01's number and the count that each case of the answer stands for: the caller holds that many pairs

@@ -33,8 +33,8 @@ unfoldable pub inOrder : Bool → Swaps → Swaps
 inOrder backwards swaps = cond backwards (reverse swaps) swaps
 
 -- a pass without the tests: the pairs that a store holds, exchanged in turn in the m by n matrix of a slice
-abbrev pub exchangesOn : (ℕ → ℕ → Matrix → Matrix) → Bool → ℕ → ℕ → ℕ → List ℕ → Column → Column
-exchangesOn exchange backwards m n pairs store s = onColumns m n (permutedBy exchange (inOrder backwards (held pairs store))) s
+abbrev pub exchangesOn : (ℕ → ℕ → Matrix → Matrix) → Bool → Column → ℕ → ℕ → List ℕ → ℕ → Column
+exchangesOn exchange backwards s m n store pairs = onColumns m n (permutedBy exchange (inOrder backwards (held pairs store))) s
 
 -- the number of the pair that comes at turn k
 unfoldable pub pairOfTurn : Bool → ℕ → ℕ → ℕ

@@ -35,5 +35,5 @@ goodPairs bound [] = true
 goodPairs bound (p ∷ swaps) = goodPair bound p && goodPairs bound swaps
 
 -- A good list: at most `most` pairs, for which a store of 128 numbers has room where `most` is at most 64, and every pair is good.
-unfoldable pub goodList : ℕ → ℕ → ℕ → List ℕ → Bool
-goodList bound most pairs store = leb pairs most && holds pairs store && goodPairs bound (pairsOf pairs store)
+unfoldable pub goodList : List ℕ → ℕ → ℕ → ℕ → Bool
+goodList store pairs bound most = leb pairs most && holds pairs store && goodPairs bound (pairsOf pairs store)

@@ -29,7 +29,7 @@ fn is_good_pair(i: usize, j: usize, bound: usize) -> bool
 // Whether the list has at most `most` pairs, the store holds them, and each is of two different numbers below the bound.
 // No branch for a pair: most lists are good.
 pub fn is_good_list(swaps: &[usize], pairs: usize, bound: usize, most: usize) -> bool
-    ensures { λ r. ⌜ r ≡ goodList bound most pairs (now (swaps .entry)) ⌝ }
+    ensures { λ r. ⌜ r ≡ goodList (now (swaps .entry)) pairs bound most ⌝ }
 {
     if most < pairs {
         return false;
@@ -50,7 +50,7 @@ pub fn is_good_list(swaps: &[usize], pairs: usize, bound: usize, most: usize) ->
 
 // The number of the refusal that appending (i, i2) to a list for dimension d meets, 0 for none.
 fn append_refusal(swaps: &[usize], pairs: usize, d: usize, i: usize, i2: usize) -> usize
-    ensures { λ r. ⌜ r ≡ appendingRefusal d i i2 pairs (now (swaps .entry)) ⌝ }
+    ensures { λ r. ⌜ r ≡ appendingRefusal (now (swaps .entry)) pairs d i i2 ⌝ }
 {
     let list = is_good_list(swaps, pairs, 64, d);
     let numbers = (64 <= i) | (64 <= i2);
@@ -75,9 +75,9 @@ pub fn append_permutation(
     i: usize,
     i2: usize,
 ) -> Appended
-    ensures { λ r. ⌜ appended r ≡ appending d i i2 pairs (now (swaps .entry)) .answer ⌝ }
-    ensures { λ r. ⌜ countOf r ≡ appending d i i2 pairs (now (swaps .entry)) .left .pairs ⌝ }
-    ensures { λ _. ⌜ now (swaps .exit) ≡ appending d i i2 pairs (now (swaps .entry)) .left .store ⌝ }
+    ensures { λ r. ⌜ appended r ≡ appending (now (swaps .entry)) pairs d i i2 .answer ⌝ }
+    ensures { λ r. ⌜ countOf r ≡ appending (now (swaps .entry)) pairs d i i2 .left .pairs ⌝ }
+    ensures { λ _. ⌜ now (swaps .exit) ≡ appending (now (swaps .entry)) pairs d i i2 .left .store ⌝ }
 {
     let number = append_refusal(swaps, pairs, d, i, i2);
     if number != 0 {
@@ -117,7 +117,7 @@ pub fn permuting_refusal(
     pairs: usize,
     bound: usize,
 ) -> usize
-    ensures { λ r. ⌜ r ≡ permutingRefusal bound m n pairs (now (swaps .entry)) (now (s .entry)) ⌝ }
+    ensures { λ r. ⌜ r ≡ permutingRefusal (now (s .entry)) m n (now (swaps .entry)) pairs bound ⌝ }
 {
     let sizes = refusals::outside(1, m) | refusals::outside(0, n);
     let lengths = store::is_matrix(s, m, n) & (swaps.len() == 128);
@@ -148,7 +148,7 @@ fn apply(
     columns: bool,
     reverse: bool,
 )
-    ensures { λ _. ⌜ now (s .exit) ≡ exchangesOn (exchangeOf columns) reverse m n pairs (now (swaps .entry)) (now (s .entry)) ⌝ }
+    ensures { λ _. ⌜ now (s .exit) ≡ exchangesOn (exchangeOf columns) reverse (now (s .entry)) m n (now (swaps .entry)) pairs ⌝ }
 {
     if swaps.len() / 2 < pairs {
         return;
@@ -199,7 +199,7 @@ fn swap_four(
 
 // Exchanges the rows of four pairs, all four in a column before the next: so their numbers are read once, and a column's entries are near each other.
 fn exchange_four(s: &mut [f64], m: usize, n: usize, four: &[usize])
-    requires { ⌜ (isMatrix m n (now s) ≡ true) × (length (now four) ≡ 8) ⌝ }
+    requires { ⌜ (isMatrix (now s) m n ≡ true) × (length (now four) ≡ 8) ⌝ }
     ensures { λ _. ⌜ now (s .exit) ≡ onColumns m n (rowsPermuted (pairsOf 4 (now (four .entry)))) (now (s .entry)) ⌝ }
 {
     let i0 = four[0];
@@ -221,7 +221,7 @@ fn exchange_four(s: &mut [f64], m: usize, n: usize, four: &[usize])
 
 // Exchanges the rows of the first pairs, `fours` times four of them.
 fn exchange_in_fours(s: &mut [f64], m: usize, n: usize, swaps: &[usize], fours: usize)
-    requires { ⌜ (isMatrix m n (now s) ≡ true) × (8 * fours ≤ length (now swaps)) ⌝ }
+    requires { ⌜ (isMatrix (now s) m n ≡ true) × (8 * fours ≤ length (now swaps)) ⌝ }
     ensures { λ _. ⌜ now (s .exit) ≡ onColumns m n (rowsPermuted (pairsOf (4 * fours) (now (swaps .entry)))) (now (s .entry)) ⌝ }
 {
     let mut k = 0;
@@ -276,8 +276,8 @@ fn permute_or_refuse(
     columns: bool,
     reverse: bool,
 ) -> Answer
-    ensures { λ r. ⌜ answered r ≡ permuting (exchangeOf columns) bound reverse m n pairs (now (swaps .entry)) (now (s .entry)) .answer ⌝ }
-    ensures { λ _. ⌜ now (s .exit) ≡ permuting (exchangeOf columns) bound reverse m n pairs (now (swaps .entry)) (now (s .entry)) .left ⌝ }
+    ensures { λ r. ⌜ answered r ≡ permuting (exchangeOf columns) bound reverse (now (s .entry)) m n (now (swaps .entry)) pairs .answer ⌝ }
+    ensures { λ _. ⌜ now (s .exit) ≡ permuting (exchangeOf columns) bound reverse (now (s .entry)) m n (now (swaps .entry)) pairs .left ⌝ }
 {
     let number = permuting_refusal(s, m, n, swaps, pairs, bound);
     if number != 0 {
@@ -289,24 +289,24 @@ fn permute_or_refuse(
 
 // Applies the list to the rows of s, first pair first.
 pub fn permute_rows(s: &mut [f64], m: usize, n: usize, swaps: &[usize], pairs: usize) -> Answer
-    ensures { λ r. ⌜ answered r ≡ permutingRows false m n pairs (now (swaps .entry)) (now (s .entry)) .answer ⌝ }
-    ensures { λ _. ⌜ now (s .exit) ≡ permutingRows false m n pairs (now (swaps .entry)) (now (s .entry)) .left ⌝ }
+    ensures { λ r. ⌜ answered r ≡ permutingRows false (now (s .entry)) m n (now (swaps .entry)) pairs .answer ⌝ }
+    ensures { λ _. ⌜ now (s .exit) ≡ permutingRows false (now (s .entry)) m n (now (swaps .entry)) pairs .left ⌝ }
 {
     permute_or_refuse(s, m, n, swaps, pairs, m, false, false)
 }
 
 // Applies the list in reverse to the rows of s, last pair first.
 pub fn inv_permute_rows(s: &mut [f64], m: usize, n: usize, swaps: &[usize], pairs: usize) -> Answer
-    ensures { λ r. ⌜ answered r ≡ permutingRows true m n pairs (now (swaps .entry)) (now (s .entry)) .answer ⌝ }
-    ensures { λ _. ⌜ now (s .exit) ≡ permutingRows true m n pairs (now (swaps .entry)) (now (s .entry)) .left ⌝ }
+    ensures { λ r. ⌜ answered r ≡ permutingRows true (now (s .entry)) m n (now (swaps .entry)) pairs .answer ⌝ }
+    ensures { λ _. ⌜ now (s .exit) ≡ permutingRows true (now (s .entry)) m n (now (swaps .entry)) pairs .left ⌝ }
 {
     permute_or_refuse(s, m, n, swaps, pairs, m, false, true)
 }
 
 // Applies the list to the columns of s, first pair first.
 pub fn permute_columns(s: &mut [f64], m: usize, n: usize, swaps: &[usize], pairs: usize) -> Answer
-    ensures { λ r. ⌜ answered r ≡ permutingColumns false m n pairs (now (swaps .entry)) (now (s .entry)) .answer ⌝ }
-    ensures { λ _. ⌜ now (s .exit) ≡ permutingColumns false m n pairs (now (swaps .entry)) (now (s .entry)) .left ⌝ }
+    ensures { λ r. ⌜ answered r ≡ permutingColumns false (now (s .entry)) m n (now (swaps .entry)) pairs .answer ⌝ }
+    ensures { λ _. ⌜ now (s .exit) ≡ permutingColumns false (now (s .entry)) m n (now (swaps .entry)) pairs .left ⌝ }
 {
     permute_or_refuse(s, m, n, swaps, pairs, n, true, false)
 }
@@ -319,8 +319,8 @@ pub fn inv_permute_columns(
     swaps: &[usize],
     pairs: usize,
 ) -> Answer
-    ensures { λ r. ⌜ answered r ≡ permutingColumns true m n pairs (now (swaps .entry)) (now (s .entry)) .answer ⌝ }
-    ensures { λ _. ⌜ now (s .exit) ≡ permutingColumns true m n pairs (now (swaps .entry)) (now (s .entry)) .left ⌝ }
+    ensures { λ r. ⌜ answered r ≡ permutingColumns true (now (s .entry)) m n (now (swaps .entry)) pairs .answer ⌝ }
+    ensures { λ _. ⌜ now (s .exit) ≡ permutingColumns true (now (s .entry)) m n (now (swaps .entry)) pairs .left ⌝ }
 {
     permute_or_refuse(s, m, n, swaps, pairs, n, true, true)
 }

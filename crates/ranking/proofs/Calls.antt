@@ -28,7 +28,7 @@ module _ (n : ℕ) (loads : Column) (was : List ℕ) where
     pub ranks-length : length was ≡ n
     pub finite : allFinite loads ≡ true
 
-  pub accepted : rankingRefusal n loads was ≡ 0 → Accepted
+  pub accepted : rankingRefusal loads n was ≡ 0 → Accepted
   unfolding rankingRefusal
   accepted e =
       let none = first-none _ (search needs) e in
@@ -41,7 +41,7 @@ module _ (n : ℕ) (loads : Column) (was : List ℕ) where
       }
 
   -- such loads are not refused
-  pub not-refused : Accepted → rankingRefusal n loads was ≡ 0
+  pub not-refused : Accepted → rankingRefusal loads n was ≡ 0
   unfolding rankingRefusal firstOf
   not-refused a =
       rw (not-outside 1 n (a .size .at-least) (a .size .at-most), eq-eqb (length loads) n (a .loads-length), eq-eqb (length was) n (a .ranks-length), a .finite)
@@ -49,20 +49,20 @@ module _ (n : ℕ) (loads : Column) (was : List ℕ) where
 module _ (choice : Choice) (n : ℕ) (loads : Column) (was : List ℕ) where
   -- the promise on the answer and on the slice
   abbrev pub Answers : Listed → List ℕ → Type 0
-  Answers r s = (padsListed r ≡ ranking choice n loads was .answer) × (s ≡ ranking choice n loads was .left)
+  Answers r s = (padsListed r ≡ ranking choice loads n was .answer) × (s ≡ ranking choice loads n was .left)
 
-  pub outcome-refused : (number : ℕ) → number ≡ rankingRefusal n loads was → (number ≡ 0 → ⊥) → Answers (Refused number) was
+  pub outcome-refused : (number : ℕ) → number ≡ rankingRefusal loads n was → (number ≡ 0 → ⊥) → Answers (Refused number) was
   unfolding ranking padsListed
-  outcome-refused number e h = rw (tested-some (rankingRefusal n loads was) (leaving was) _ (λ z. h (e ∙ z))) (ap refused e, refl)
+  outcome-refused number e h = rw (tested-some (rankingRefusal loads n was) (leaving was) _ (λ z. h (e ∙ z))) (ap refused e, refl)
 
   -- the call where it is not refused
-  pub ranking-accepted : rankingRefusal n loads was ≡ 0
-      → ranking choice n loads was ≡ record { answer = done (length (listing choice n loads)); left = padded n (listing choice n loads) }
+  pub ranking-accepted : rankingRefusal loads n was ≡ 0
+      → ranking choice loads n was ≡ record { answer = done (length (listing choice loads n)); left = padded n (listing choice loads n) }
   unfolding ranking
-  ranking-accepted e = tested-none (rankingRefusal n loads was) (leaving was) _ e
+  ranking-accepted e = tested-none (rankingRefusal loads n was) (leaving was) _ e
 
-  pub outcome-ranked : (s : List ℕ) (count : ℕ) → rankingRefusal n loads was ≡ 0
-      → (count ≡ length (listing choice n loads)) × (s ≡ padded n (listing choice n loads)) → Answers (Pads count) s
+  pub outcome-ranked : (s : List ℕ) (count : ℕ) → rankingRefusal loads n was ≡ 0
+      → (count ≡ length (listing choice loads n)) × (s ≡ padded n (listing choice loads n)) → Answers (Pads count) s
   unfolding padsListed
   outcome-ranked s count e made = rw (ranking-accepted e) (ap done (made .0), made .1)
 
@@ -72,11 +72,11 @@ unfolding chosen
 chosen-all [] = refl
 chosen-all (p ∷ s) = ap (λ (t : List ℕ). p ∷ t) (chosen-all s)
 
-pub listing-all : (n : ℕ) (loads : Column) → listing everyPad n loads ≡ ranked loads (padsTo n)
+pub listing-all : (n : ℕ) (loads : Column) → listing everyPad loads n ≡ ranked loads (padsTo n)
 unfolding listing
 listing-all n loads = ap (ranked loads) (chosen-all (padsTo n))
 
-pub length-all : (n : ℕ) (loads : Column) → length (listing everyPad n loads) ≡ n
+pub length-all : (n : ℕ) (loads : Column) → length (listing everyPad loads n) ≡ n
 length-all n loads = ap length (listing-all n loads) ∙ length-ranked loads (padsTo n) ∙ length-pads n
 
 padded-whole : (n : ℕ) (s : List ℕ) → length s ≡ n → padded n s ≡ s
@@ -84,8 +84,8 @@ padded-whole n s e =
     let none : n - length s ≡ 0 = omega arith in
     ap (λ (k : ℕ). s ++ replicate k 0) none ∙ append-nil s
 
-pub ranking-all : (n : ℕ) (loads : Column) (was : List ℕ) → rankingRefusal n loads was ≡ 0
-    → ranking everyPad n loads was ≡ record { answer = done n; left = listing everyPad n loads }
+pub ranking-all : (n : ℕ) (loads : Column) (was : List ℕ) → rankingRefusal loads n was ≡ 0
+    → ranking everyPad loads n was ≡ record { answer = done n; left = listing everyPad loads n }
 ranking-all n loads was e =
     let long = length-all n loads in
-    ranking-accepted everyPad n loads was e ∙ (λ i. record { answer = done (long i); left = padded-whole n (listing everyPad n loads) long i })
+    ranking-accepted everyPad n loads was e ∙ (λ i. record { answer = done (long i); left = padded-whole n (listing everyPad loads n) long i })

@@ -20,10 +20,10 @@ ranks = Unit {0}
 abbrev loads : Column
 loads = fin false 1 (pos 0) ∷ fin true 3 (pos 0) ∷ fin false 3 (pos 0) ∷ []
 
-pub one-three-three : ranking (loaded loads) 3 loads (0 ∷ 0 ∷ 0 ∷ []) ≡ record { answer = done 3; left = 2 ∷ 3 ∷ 1 ∷ [] }
+pub one-three-three : ranking (loaded loads) loads 3 (0 ∷ 0 ∷ 0 ∷ []) ≡ record { answer = done 3; left = 2 ∷ 3 ∷ 1 ∷ [] }
 unfolding ranks
 one-three-three = refl
 
-pub one-three-three-all : ranking everyPad 3 loads (0 ∷ 0 ∷ 0 ∷ []) ≡ record { answer = done 3; left = 2 ∷ 3 ∷ 1 ∷ [] }
+pub one-three-three-all : ranking everyPad loads 3 (0 ∷ 0 ∷ 0 ∷ []) ≡ record { answer = done 3; left = 2 ∷ 3 ∷ 1 ∷ [] }
 unfolding ranks
 one-three-three-all = refl

@@ -27,7 +27,7 @@ module _ (loads : Column) (choice : Choice) where
       cond-cases (Chain loads) (choice p) (λ _. (chosen-every choice (λ q. ahead loads p q ≡ true) s (c .0), rest)) (λ _. rest)
 
   -- THEOREM. A ranking of all pads, without those that are not chosen, is the ranking of the chosen ones.
-  pub leaving-off : (n : ℕ) (ranks : List ℕ) → Ranked everyPad n loads ranks → Ranked choice n loads (chosen choice ranks)
+  pub leaving-off : (n : ℕ) (ranks : List ℕ) → Ranked everyPad loads n ranks → Ranked choice loads n (chosen choice ranks)
   leaving-off n ranks r =
       record {
         each-once = λ p.
@@ -38,20 +38,20 @@ module _ (loads : Column) (choice : Choice) where
       }
 
   -- THEOREM. The list of the chosen pads is the list of all without the others.
-  pub short-list : (n : ℕ) → allFinite loads ≡ true → n ≤ length loads → listing choice n loads ≡ chosen choice (listing everyPad n loads)
+  pub short-list : (n : ℕ) → allFinite loads ≡ true → n ≤ length loads → listing choice loads n ≡ chosen choice (listing everyPad loads n)
   short-list n all h =
-      only-ranking loads choice n _ _ (listing-is loads all choice n h) (leaving-off n (listing everyPad n loads) (listing-is loads all everyPad n h))
+      only-ranking loads choice n _ _ (listing-is loads all choice n h) (leaving-off n (listing everyPad loads n) (listing-is loads all everyPad n h))
 
 -- ---- the call
 module _ (choice : Choice) (n : ℕ) (loads : Column) (was : List ℕ) where
   -- THEOREM. What the call gives for a choice is what it leaves for all pads, without those that are not chosen: their number, and 0 in the slots behind them.
   -- So `rank` gives what `rank_all` leaves, without the idle pads.
-  pub without-idle : rankingRefusal n loads was ≡ 0
-      → let ranks = chosen choice (ranking everyPad n loads was .left) in
-      ranking choice n loads was ≡ record { answer = done (length ranks); left = padded n ranks }
+  pub without-idle : rankingRefusal loads n was ≡ 0
+      → let ranks = chosen choice (ranking everyPad loads n was .left) in
+      ranking choice loads n was ≡ record { answer = done (length ranks); left = padded n ranks }
   without-idle e =
       let a = accepted n loads was e in
-      let same : listing choice n loads ≡ chosen choice (ranking everyPad n loads was .left) =
+      let same : listing choice loads n ≡ chosen choice (ranking everyPad loads n was .left) =
       short-list loads choice n (a .finite) (omega (arith, a .loads-length))
       ∙ ap (λ (o : Call ℕ (List ℕ)). chosen choice (o .left)) (sym (ranking-all n loads was e)) in
       ranking-accepted choice n loads was e

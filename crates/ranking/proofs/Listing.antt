@@ -38,16 +38,16 @@ zero-more (suc a) s = ap (λ (t : List ℕ). 0 ∷ t) (zero-more a s)
 
 module _ (choice : Choice) (loads : Column) where
   -- only pads are listed
-  pub listing-pads : (m n : ℕ) → n ≤ m → Every (IsPad m) (listing choice n loads)
+  pub listing-pads : (m n : ℕ) → n ≤ m → Every (IsPad m) (listing choice loads n)
   unfolding listing
   listing-pads m n h = ranked-every loads (IsPad m) (chosen choice (padsTo n)) (chosen-every choice (IsPad m) (padsTo n) (pads-every m n h))
 
   -- one pad more, by whether it is chosen
-  listing-with : (k : ℕ) → choice (k + 1) ≡ true → listing choice (k + 1) loads ≡ insertPad loads (k + 1) (listing choice k loads)
+  listing-with : (k : ℕ) → choice (k + 1) ≡ true → listing choice loads (k + 1) ≡ insertPad loads (k + 1) (listing choice loads k)
   unfolding listing ranked padsTo chosen
   listing-with k e = rw (add-one k, ap choice (sym (add-one k)) ∙ e)
 
-  listing-without : (k : ℕ) → choice (k + 1) ≡ false → listing choice (k + 1) loads ≡ listing choice k loads
+  listing-without : (k : ℕ) → choice (k + 1) ≡ false → listing choice loads (k + 1) ≡ listing choice loads k
   unfolding listing ranked padsTo chosen
   listing-without k e = rw (add-one k, ap choice (sym (add-one k)) ∙ e)
 
@@ -55,19 +55,19 @@ module _ (choice : Choice) (loads : Column) where
 
   -- the slots after k pads
   abbrev pub slotsOf : ℕ → ℕ → List ℕ → List ℕ
-  slotsOf count k was = listing choice k loads ++ (replicate (k - count) 0 ++ drop k was)
+  slotsOf count k was = listing choice loads k ++ (replicate (k - count) 0 ++ drop k was)
 
   pub record Filling (was s : List ℕ) (count k : ℕ) : Type 0 where
     pub size : length s ≡ length was
     pub few : count ≤ k
-    pub counted : count ≡ length (listing choice k loads)
+    pub counted : count ≡ length (listing choice loads k)
     pub slots : s ≡ slotsOf count k was
 
   -- one slot more becomes 0
   cleared : (was s : List ℕ) (count k : ℕ) → Filling was s count k → k < length was
-      → set s k 0 ≡ listing choice k loads ++ (replicate (k + 1 - count) 0 ++ drop (k + 1) was)
+      → set s k 0 ≡ listing choice loads k ++ (replicate (k + 1 - count) 0 ++ drop (k + 1) was)
   cleared was s count k f h =
-      let ranks = listing choice k loads in
+      let ranks = listing choice loads k in
       let behind : List ℕ = replicate (k - count) 0 in
       let front : length (ranks ++ behind) ≡ k = omega (arith, length-append ranks behind, length-replicate {A = ℕ} (k - count) 0, f .counted, f .few) in
       let more : suc (k - count) ≡ k + 1 - count = omega (arith, f .few) in
@@ -82,7 +82,7 @@ module _ (choice : Choice) (loads : Column) where
       → (i : ℕ) → i < count → IsPad (length loads) (getD (set s k 0) i 0)
   held-pads was s count k f h l i hi =
       rw (cleared was s count k f h)
-      (every-in-front (IsPad (length loads)) (listing choice k loads) _ i (listing-pads (length loads) k l) (omega (arith, f .counted)))
+      (every-in-front (IsPad (length loads)) (listing choice loads k) _ i (listing-pads (length loads) k l) (omega (arith, f .counted)))
 
   pub turn-without : (was s : List ℕ) (count k : ℕ) → Filling was s count k → k < length was → choice (k + 1) ≡ false
       → Filling was (set s k 0) count (k + 1)
@@ -99,7 +99,7 @@ module _ (choice : Choice) (loads : Column) where
       → new ≡ insertPad loads (k + 1) (take count (set s k 0)) ++ drop (count + 1) (set s k 0) → Filling was new (count + 1) (k + 1)
   turn-with was s new count k f h e d =
       let more = listing-with k e in
-      let ranks = listing choice k loads in
+      let ranks = listing choice loads k in
       let is = cleared was s count k f h in
       let rest : List ℕ = replicate (k + 1 - count) 0 ++ drop (k + 1) was in
       let front : take count (set s k 0) ≡ ranks = ap (take count) is ∙ take-at ranks rest count (sym (f .counted)) in
@@ -122,13 +122,13 @@ module _ (choice : Choice) (loads : Column) where
   filling-begins was = record { size = refl; few = omega arith; counted = refl; slots = refl }
 
   pub filling-ends : (n : ℕ) (was s : List ℕ) (count k : ℕ) → Filling was s count k → n ≤ k → k ≤ n → length was ≡ n
-      → (count ≡ length (listing choice n loads)) × (s ≡ padded n (listing choice n loads))
+      → (count ≡ length (listing choice loads n)) × (s ≡ padded n (listing choice loads n))
   filling-ends n was s count k f l m e =
       let same : k ≡ n = omega arith in
       let none : drop k was ≡ [] = drop-of-length-le was {i = k} (omega arith) in
-      let counted : count ≡ length (listing choice n loads) = f .counted ∙ ap (λ (j : ℕ). length (listing choice j loads)) same in (
+      let counted : count ≡ length (listing choice loads n) = f .counted ∙ ap (λ (j : ℕ). length (listing choice loads j)) same in (
         counted,
         f .slots
-            ∙ ap (λ (t : List ℕ). listing choice k loads ++ t) (ap (λ (t : List ℕ). replicate (k - count) 0 ++ t) none ∙ append-nil _)
-            ∙ ap₂ (λ (j c : ℕ). listing choice j loads ++ replicate (j - c) 0) same counted,
+            ∙ ap (λ (t : List ℕ). listing choice loads k ++ t) (ap (λ (t : List ℕ). replicate (k - count) 0 ++ t) none ∙ append-nil _)
+            ∙ ap₂ (λ (j c : ℕ). listing choice loads j ++ replicate (j - c) 0) same counted,
       )

@@ -85,7 +85,7 @@ module _ (choice : Choice) (p : ℕ) where
       (λ f. rw (ne-eqb p q (λ d. true≢false (sym f ∙ ap choice (sym d) ∙ t))) (zero-add _ ∙ (rw t at before)))
       (λ _. rw t at before)))
 
-  listing-occurrences : (n : ℕ) (loads : Column) → occurrences p (listing choice n loads) ≡ cond (leb 1 p && leb p n && choice p) 1 0
+  listing-occurrences : (n : ℕ) (loads : Column) → occurrences p (listing choice loads n) ≡ cond (leb 1 p && leb p n && choice p) 1 0
   unfolding listing
   listing-occurrences n loads =
       ranked-occurrences loads p (chosen choice (padsTo n)) ∙ chosen-occurrences (padsTo n)
@@ -183,32 +183,32 @@ module _ (loads : Column) where
         (ranked-chain s (h .1) (d .1))
 
     -- the chosen pads of n finite loads in their order
-    pub listing-is : (choice : Choice) (n : ℕ) → n ≤ length loads → Ranked choice n loads (listing choice n loads)
+    pub listing-is : (choice : Choice) (n : ℕ) → n ≤ length loads → Ranked choice loads n (listing choice loads n)
     unfolding listing
     listing-is choice n h =
         record {
           each-once = λ p. listing-occurrences choice p n loads;
-          in-order = chain-order (listing choice n loads)
+          in-order = chain-order (listing choice loads n)
               (ranked-chain (chosen choice (padsTo n)) (chosen-every choice (IsPad (length loads)) (padsTo n) (pads-every (length loads) n h))
               (chosen-distinct choice (padsTo n) (pads-distinct n)));
         }
 
   -- no two lists are a ranking
-  pub only-ranking : (choice : Choice) (n : ℕ) (a b : List ℕ) → Ranked choice n loads a → Ranked choice n loads b → a ≡ b
+  pub only-ranking : (choice : Choice) (n : ℕ) (a b : List ℕ) → Ranked choice loads n a → Ranked choice loads n b → a ≡ b
   only-ranking choice n a b r s = same-list a b (λ p. r .each-once p ∙ sym (s .each-once p)) (r .in-order) (s .in-order)
 
 -- ---- what an accepted call answers and leaves
 pub record Lists (choice : Choice) (n : ℕ) (loads : Column) (o : Call ℕ (List ℕ)) : Type 0 where
   pub count : ℕ
   pub answered : o .answer ≡ done count
-  pub pads : Ranked choice n loads (take count (o .left))
+  pub pads : Ranked choice loads n (take count (o .left))
   pub behind : drop count (o .left) ≡ replicate (n - count) 0
 
-pub ranking-ranked : (choice : Choice) (n : ℕ) (loads : Column) (was : List ℕ) → rankingRefusal n loads was ≡ 0
-    → Lists choice n loads (ranking choice n loads was)
+pub ranking-ranked : (choice : Choice) (n : ℕ) (loads : Column) (was : List ℕ) → rankingRefusal loads n was ≡ 0
+    → Lists choice n loads (ranking choice loads n was)
 ranking-ranked choice n loads was e =
     let a = accepted n loads was e in
-    let ranks = listing choice n loads in
+    let ranks = listing choice loads n in
     rw (ranking-accepted choice n loads was e)
     (record {
       count = length ranks;

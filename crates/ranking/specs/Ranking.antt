@@ -52,7 +52,7 @@ occurrences p [] = 0
 occurrences p (q ∷ qs) = cond (eqb p q) 1 0 + occurrences p qs
 
 -- each chosen one of the pads 1 to n once and nothing else, any two of them in order: at most one list is so (`only-ranking`)
-pub record Ranked (choice : Choice) (n : ℕ) (loads : Column) (ranks : List ℕ) : Type 0 where
+pub record Ranked (choice : Choice) (loads : Column) (n : ℕ) (ranks : List ℕ) : Type 0 where
   pub each-once : (p : ℕ) → occurrences p ranks ≡ cond (leb 1 p && leb p n && choice p) 1 0
   pub in-order : (i j : ℕ) → i < j → j < length ranks → ahead loads (getD ranks i 0) (getD ranks j 0) ≡ true
 
@@ -79,14 +79,14 @@ chosen choice [] = []
 chosen choice (p ∷ ps) = cond (choice p) (p ∷ chosen choice ps) (chosen choice ps)
 
 -- the chosen ones of n pads, in their order
-unfoldable pub listing : Choice → ℕ → Column → List ℕ
-listing choice n loads = ranked loads (chosen choice (padsTo n))
+unfoldable pub listing : Choice → Column → ℕ → List ℕ
+listing choice loads n = ranked loads (chosen choice (padsTo n))
 
 -- ---- the call
 
 -- the refusal before the work, 0 for none: n loads, and the slice for the ranks
-unfoldable pub rankingRefusal : ℕ → Column → List ℕ → ℕ
-rankingRefusal n loads ranks =
+unfoldable pub rankingRefusal : Column → ℕ → List ℕ → ℕ
+rankingRefusal loads n ranks =
     firstOf
     ((1, outside 1 n)
     ∷ (3, not (eqb (length loads) n && eqb (length ranks) n))
@@ -98,10 +98,10 @@ abbrev pub padded : ℕ → List ℕ → List ℕ
 padded n ranks = ranks ++ replicate (n - length ranks) 0
 
 -- what the call comes to: how many pads are listed; and what the slice for the ranks, which held `was`, then holds
-unfoldable pub ranking : Choice → ℕ → Column → List ℕ → Call ℕ (List ℕ)
-ranking choice n loads was =
-    let ranks = listing choice n loads in
-    tested (rankingRefusal n loads was) (leaving was) (record { answer = done (length ranks); left = padded n ranks })
+unfoldable pub ranking : Choice → Column → ℕ → List ℕ → Call ℕ (List ℕ)
+ranking choice loads n was =
+    let ranks = listing choice loads n in
+    tested (rankingRefusal loads n was) (leaving was) (record { answer = done (length ranks); left = padded n ranks })
 
 -- what each case of the answer stands for
 unfoldable pub padsListed : Listed → Outcome ℕ

@@ -62,7 +62,7 @@ fn insert(loads: &[f64], ranks: &mut [usize], count: usize, pad: usize)
 
 // The refusal before the work, 0 for none.
 fn rank_refusal(loads: &[f64], n: usize, ranks: &[usize]) -> usize
-    ensures { λ r. ⌜ r ≡ rankingRefusal n (now (loads .entry)) (now (ranks .entry)) ⌝ }
+    ensures { λ r. ⌜ r ≡ rankingRefusal (now (loads .entry)) n (now (ranks .entry)) ⌝ }
 {
     let lengths = (loads.len() == n) & (ranks.len() == n);
     let numbers = finite::all_finite(loads);
@@ -77,9 +77,9 @@ fn rank_refusal(loads: &[f64], n: usize, ranks: &[usize]) -> usize
 // among those before it. Answers how many are listed.
 fn list(loads: &[f64], all: bool, ranks: &mut [usize]) -> usize
     requires { ⌜ length (now ranks) ≡ length (now loads) ⌝ }
-    ensures { λ r. ⌜ r ≡ length (listing (choiceBy all (now (loads .entry))) (length (now (loads .entry))) (now (loads .entry))) ⌝ }
+    ensures { λ r. ⌜ r ≡ length (listing (choiceBy all (now (loads .entry))) (now (loads .entry)) (length (now (loads .entry)))) ⌝ }
     ensures { λ _. ⌜ now (ranks .exit)
-        ≡ padded (length (now (loads .entry))) (listing (choiceBy all (now (loads .entry))) (length (now (loads .entry))) (now (loads .entry))) ⌝ }
+        ≡ padded (length (now (loads .entry))) (listing (choiceBy all (now (loads .entry))) (now (loads .entry)) (length (now (loads .entry)))) ⌝ }
 {
     let mut count = 0;
     let mut k = 0;
@@ -96,8 +96,8 @@ fn list(loads: &[f64], all: bool, ranks: &mut [usize]) -> usize
 
 // Ranks the n loads, all or those that are not zero.
 fn rank_chosen(loads: &[f64], n: usize, all: bool, ranks: &mut [usize]) -> Listed
-    ensures { λ r. ⌜ padsListed r ≡ ranking (choiceBy all (now (loads .entry))) n (now (loads .entry)) (now (ranks .entry)) .answer ⌝ }
-    ensures { λ _. ⌜ now (ranks .exit) ≡ ranking (choiceBy all (now (loads .entry))) n (now (loads .entry)) (now (ranks .entry)) .left ⌝ }
+    ensures { λ r. ⌜ padsListed r ≡ ranking (choiceBy all (now (loads .entry))) (now (loads .entry)) n (now (ranks .entry)) .answer ⌝ }
+    ensures { λ _. ⌜ now (ranks .exit) ≡ ranking (choiceBy all (now (loads .entry))) (now (loads .entry)) n (now (ranks .entry)) .left ⌝ }
 {
     let number = rank_refusal(loads, n, ranks);
     if number != 0 {
@@ -108,16 +108,16 @@ fn rank_chosen(loads: &[f64], n: usize, all: bool, ranks: &mut [usize]) -> Liste
 
 // Ranks those of the n loads that are not zero: the pads' numbers from 1, greatest magnitude first, equal magnitudes by lower number, and 0 behind them.
 pub fn rank(loads: &[f64], n: usize, ranks: &mut [usize]) -> Listed
-    ensures { λ r. ⌜ padsListed r ≡ ranking (loaded (now (loads .entry))) n (now (loads .entry)) (now (ranks .entry)) .answer ⌝ }
-    ensures { λ _. ⌜ now (ranks .exit) ≡ ranking (loaded (now (loads .entry))) n (now (loads .entry)) (now (ranks .entry)) .left ⌝ }
+    ensures { λ r. ⌜ padsListed r ≡ ranking (loaded (now (loads .entry))) (now (loads .entry)) n (now (ranks .entry)) .answer ⌝ }
+    ensures { λ _. ⌜ now (ranks .exit) ≡ ranking (loaded (now (loads .entry))) (now (loads .entry)) n (now (ranks .entry)) .left ⌝ }
 {
     rank_chosen(loads, n, false, ranks)
 }
 
 // Ranks all of the n loads.
 pub fn rank_all(loads: &[f64], n: usize, ranks: &mut [usize]) -> Listed
-    ensures { λ r. ⌜ padsListed r ≡ ranking everyPad n (now (loads .entry)) (now (ranks .entry)) .answer ⌝ }
-    ensures { λ _. ⌜ now (ranks .exit) ≡ ranking everyPad n (now (loads .entry)) (now (ranks .entry)) .left ⌝ }
+    ensures { λ r. ⌜ padsListed r ≡ ranking everyPad (now (loads .entry)) n (now (ranks .entry)) .answer ⌝ }
+    ensures { λ _. ⌜ now (ranks .exit) ≡ ranking everyPad (now (loads .entry)) n (now (ranks .entry)) .left ⌝ }
 {
     rank_chosen(loads, n, true, ranks)
 }

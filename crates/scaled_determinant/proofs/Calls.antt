@@ -74,50 +74,50 @@ module _ (r : Record) (factors : Column) (store : List ℕ) where
   few-tests = refl
 
   -- THEOREM. "Refusals: 1 to 5 and 9 only": never 7, so the call never overflows.
-  pub scaled-refusals : (k : ℕ) → scaling r factors store ≡ refused k → (1 ≤ k) × ((k ≤ 5) ⊎ (k ≡ 9))
+  pub scaled-refusals : (k : ℕ) → scaling factors store r ≡ refused k → (1 ≤ k) × ((k ≤ 5) ⊎ (k ≡ 9))
   unfolding scaling
   scaled-refusals k e =
       let number = heldRefusal factors store r squareAsks in
       let among : (number ≤ 5) ⊎ (number ≡ 9) = rw few-tests
       (first-among (λ j. (j ≤ 5) ⊎ (j ≡ 9)) (take 6 (heldTests factors store r squareAsks)) (inl (omega arith))
       (inl (omega arith), (inl (omega arith), (inl (omega arith), (inl (omega arith), (inl (omega arith), (inr refl, tt))))))) in
-      tested-refused number (done (scaledDeterminant n factors (r .pairs))) k e (λ z d. never-both (scaledDeterminant n factors (r .pairs)) k d)
+      tested-refused number (done (scaledDeterminant factors n (r .pairs))) k e (λ z d. never-both (scaledDeterminant factors n (r .pairs)) k d)
       (λ some is. let one : 1 ≤ number = omega arith in rw (← is) (one, among))
 
   -- THEOREM. What follows the last pair is not read: two swap stores that agree on their pairs give the same outcome.
-  pub scaling-unread : (other : List ℕ) → SamePairs (r .pairs) store other → scaling r factors store ≡ scaling r factors other
+  pub scaling-unread : (other : List ℕ) → SamePairs (r .pairs) store other → scaling factors store r ≡ scaling factors other r
   unfolding scaling
   scaling-unread other alike = rw (held-unread r store other alike factors squareAsks)
 
   -- ---- the number
   module _ (double : Doubles factors) where
-    whole : heldRefusal factors store r squareAsks ≡ 0 → isMatrix n n factors ≡ true
+    whole : heldRefusal factors store r squareAsks ≡ 0 → isMatrix factors n n ≡ true
     whole z = square-matrix factors store r squareAsks refl (passed factors store r squareAsks z)
 
     -- THEOREM. The significand's magnitude is from 1 up to but not 2 and the exponent from -68,736 up to 65,535; or it is +0.0 with exponent 0.
-    pub scaled-range : (x : Scaled) → scaling r factors store ≡ done x → Ranged x
+    pub scaled-range : (x : Scaled) → scaling factors store r ≡ done x → Ranged x
     unfolding scaling
     scaled-range x e =
-        let o = tested-done (heldRefusal factors store r squareAsks) (done (scaledDeterminant n factors (r .pairs))) x e in
-        subst Ranged (done-same (scaledDeterminant n factors (r .pairs)) x (o .1))
+        let o = tested-done (heldRefusal factors store r squareAsks) (done (scaledDeterminant factors n (r .pairs))) x e in
+        subst Ranged (done-same (scaledDeterminant factors n (r .pairs)) x (o .1))
         (number-ranged n factors (whole (o .0)) (passed factors store r squareAsks (o .0) .finite) double (r .pairs))
 
     -- THEOREM. It vanishes exactly where the matrix is not invertible: the invertible test answers whether the significand is not zero.
-    pub vanishes-exactly : inverseTest r factors store ≡ andThen (scaling r factors store) (λ x. done (not (isZero (x .significand))))
+    pub vanishes-exactly : inverseTest factors store r ≡ andThen (scaling factors store r) (λ x. done (not (isZero (x .significand))))
     unfolding inverseTest scaling andThen
     vanishes-exactly =
         let number = heldRefusal factors store r squareAsks in
-        same-tests number (done (eqb (r .dead) 0)) (done (not (isZero (scaledDeterminant n factors (r .pairs) .significand)))) (λ z.
+        same-tests number (done (eqb (r .dead) 0)) (done (not (isZero (scaledDeterminant factors n (r .pairs) .significand)))) (λ z.
         let p = passed factors store r squareAsks z in
-        let living : eqb (r .dead) 0 ≡ not (zeroOnDiagonal n factors) = twice (eqb (r .dead) 0) ∙ ap not (sym (dead-zero factors store r squareAsks refl p)) in
+        let living : eqb (r .dead) 0 ≡ not (zeroOnDiagonal factors n) = twice (eqb (r .dead) 0) ∙ ap not (sym (dead-zero factors store r squareAsks refl p)) in
         ap done
         (living
-        ∙ ap not (number-cases n factors (whole z) (p .finite) double (r .pairs) (λ x. zeroOnDiagonal n factors ≡ isZero (x .significand))
+        ∙ ap not (number-cases n factors (whole z) (p .finite) double (r .pairs) (λ x. zeroOnDiagonal factors n ≡ isZero (x .significand))
         (λ e. e ∙ sym zero-is) (λ e s. e ∙ sym (fine-nonzero _ (signed-fine n cs (r .pairs) s))))))
-        ∙ sym (tested-map (λ o. andThen o (λ x. done (not (isZero (x .significand))))) number refused (done (scaledDeterminant n factors (r .pairs))))
+        ∙ sym (tested-map (λ o. andThen o (λ x. done (not (isZero (x .significand))))) number refused (done (scaledDeterminant factors n (r .pairs))))
 
     plain-is : AllAmple n cs → heldRefusal factors store r squareAsks ≡ 0
-        → numberOr7 (determinantOf n cs (r .pairs)) ≡ done (valueOf (scaledDeterminant n factors (r .pairs)))
+        → numberOr7 (determinantOf n cs (r .pairs)) ≡ done (valueOf (scaledDeterminant factors n (r .pairs)))
     unfolding numberOr7 scaledDeterminant
     plain-is all z =
         let d = diagonal-doubles n factors (whole z) double in
@@ -126,10 +126,10 @@ module _ (r : Record) (factors : Column) (store : List ℕ) where
 
     -- THEOREM. Where every running product of the plain determinant is finite and of magnitude above 2 ^ -1022, the plain determinant is the scaled one's
     -- significand times two to its exponent, exactly; and both are refused alike.
-    pub scaled-exactly : AllAmple n cs → determining r factors store ≡ andThen (scaling r factors store) (λ x. done (valueOf x))
+    pub scaled-exactly : AllAmple n cs → determining factors store r ≡ andThen (scaling factors store r) (λ x. done (valueOf x))
     unfolding determining producing scaling andThen determinantOf
     scaled-exactly all =
         let number = heldRefusal factors store r squareAsks in
         tested-map (λ o. andThen o (λ d. numberOr7 (mul binary64 d (signOf (r .pairs))))) number refused (done (diagonalProduct n cs))
-        ∙ same-tests number (numberOr7 (determinantOf n cs (r .pairs))) (done (valueOf (scaledDeterminant n factors (r .pairs)))) (plain-is all)
-        ∙ sym (tested-map (λ o. andThen o (λ x. done (valueOf x))) number refused (done (scaledDeterminant n factors (r .pairs))))
+        ∙ same-tests number (numberOr7 (determinantOf n cs (r .pairs))) (done (valueOf (scaledDeterminant factors n (r .pairs)))) (plain-is all)
+        ∙ sym (tested-map (λ o. andThen o (λ x. done (valueOf x))) number refused (done (scaledDeterminant factors n (r .pairs))))

@@ -56,15 +56,15 @@ all-nonzero k (c ∷ cs) h =
 
 -- ---- the number, by whether a zero stands there
 module _ (n : ℕ) (factors : Column) (pairs : ℕ) where
-  pub number-vanished : zeroOnDiagonal n factors ≡ true → scaledDeterminant n factors pairs ≡ vanished
+  pub number-vanished : zeroOnDiagonal factors n ≡ true → scaledDeterminant factors n pairs ≡ vanished
   unfolding scaledDeterminant
   number-vanished e = rw e
 
-  pub number-signed : zeroOnDiagonal n factors ≡ false → scaledDeterminant n factors pairs ≡ signedBy pairs (scaledProduct n (columns n n factors))
+  pub number-signed : zeroOnDiagonal factors n ≡ false → scaledDeterminant factors n pairs ≡ signedBy pairs (scaledProduct n (columns n n factors))
   unfolding scaledDeterminant
   number-signed e = rw e
 
-module _ (n : ℕ) (factors : Column) (fits : isMatrix n n factors ≡ true) where
+module _ (n : ℕ) (factors : Column) (fits : isMatrix factors n n ≡ true) where
   pub within : (i : ℕ) → i < n → i * n + i < length factors
   within i h = omega (arith, column-end n n i h, sized n n factors fits .size)
 
@@ -74,23 +74,23 @@ module _ (n : ℕ) (factors : Column) (fits : isMatrix n n factors ≡ true) whe
   pub diagonal-doubles : Doubles factors → OfDoubles n (columns n n factors)
   diagonal-doubles double i h = rw (← diagonal-is i h) (double (i * n + i))
 
-  count-is : deadOf n n factors ≡ deadFrom 0 (columns n n factors)
+  count-is : deadOf factors n n ≡ deadFrom 0 (columns n n factors)
   unfolding deadIn
   count-is = held-dead n n factors fits ∙ ap (deadFrom 0) (take-all n (columns n n factors) (omega (arith, length-columns n n factors)))
 
-  pub sound-nonzero : Sound n (columns n n factors) → zeroOnDiagonal n factors ≡ false
+  pub sound-nonzero : Sound n (columns n n factors) → zeroOnDiagonal factors n ≡ false
   unfolding zeroOnDiagonal
   sound-nonzero s =
       let cs = columns n n factors in
       let none = all-nonzero 0 cs (λ i l.
       let h : i < n = rw (length-columns n n factors) at l in
       ap (λ (j : ℕ). isZero (entry (column cs i) j)) (zero-add i) ∙ fine-nonzero _ (s i h .1)) in
-      rw (eq-eqb (deadOf n n factors) 0 (count-is ∙ none))
+      rw (eq-eqb (deadOf factors n n) 0 (count-is ∙ none))
 
-  module _ (all : allFinite factors ≡ true) (none : zeroOnDiagonal n factors ≡ false) where
+  module _ (all : allFinite factors ≡ true) (none : zeroOnDiagonal factors n ≡ false) where
     no-zero : deadFrom 0 (columns n n factors) ≡ 0
     unfolding zeroOnDiagonal
-    no-zero = sym count-is ∙ eqb-true (deadOf n n factors) 0 (not-false (eqb (deadOf n n factors) 0) none)
+    no-zero = sym count-is ∙ eqb-true (deadOf factors n n) 0 (not-false (eqb (deadOf factors n n) 0) none)
 
     pub diagonal-parted : (i : ℕ) → i < n → Parted (getD factors (i * n + i) nan)
     diagonal-parted i h = (
@@ -105,11 +105,11 @@ module _ (n : ℕ) (factors : Column) (fits : isMatrix n n factors ≡ true) whe
 
   -- ---- the number: +0.0, or of a diagonal without a zero
   module _ (all : allFinite factors ≡ true) (double : Doubles factors) (pairs : ℕ) where
-    pub number-cases : (P : Scaled → Type 0) → (zeroOnDiagonal n factors ≡ true → P vanished)
-        → (zeroOnDiagonal n factors ≡ false → Sound n (columns n n factors) → P (signedBy pairs (scaledProduct n (columns n n factors))))
-        → P (scaledDeterminant n factors pairs)
+    pub number-cases : (P : Scaled → Type 0) → (zeroOnDiagonal factors n ≡ true → P vanished)
+        → (zeroOnDiagonal factors n ≡ false → Sound n (columns n n factors) → P (signedBy pairs (scaledProduct n (columns n n factors))))
+        → P (scaledDeterminant factors n pairs)
     unfolding scaledDeterminant
-    number-cases P some none = cond-cases P (zeroOnDiagonal n factors) some (λ e. none e (diagonal-sound all e double))
+    number-cases P some none = cond-cases P (zeroOnDiagonal factors n) some (λ e. none e (diagonal-sound all e double))
 
-    pub number-ranged : Ranged (scaledDeterminant n factors pairs)
+    pub number-ranged : Ranged (scaledDeterminant factors n pairs)
     number-ranged = number-cases Ranged (λ _. inl refl) (λ _ s. inr (in-range n (columns n n factors) pairs (sized n n factors fits .rows-most) s))

@@ -32,18 +32,18 @@ swapped = n2 ∷ n0 ∷ n0 ∷ n1 ∷ []
 
 -- FIGURE. "Our quick check of a crossing's stiffness prints 0 for soft ground": 2 ^ -600 twice gives 0, and 1 times 2 ^ -1200.
 pub soft-ground : _≡_ {A = Outcome Float × Outcome Scaled}
-    (determining (recordOf 2 2 0 0) soft (storeOf []), scaling (recordOf 2 2 0 0) soft (storeOf []))
+    (determining soft (storeOf []) (recordOf 2 2 0 0), scaling soft (storeOf []) (recordOf 2 2 0 0))
     (done n0, done (scaled n1 (negsuc 1199)))
 unfolding computes
 soft-ground = refl
 
 -- FIGURE. One swap: -1 times 2 ^ 1.
-pub one-swap : scaling (recordOf 2 2 1 0) swapped (storeOf ((0, 1) ∷ [])) ≡ done (scaled (fin true 1 (pos 0)) (pos 1))
+pub one-swap : scaling swapped (storeOf ((0, 1) ∷ [])) (recordOf 2 2 1 0) ≡ done (scaled (fin true 1 (pos 0)) (pos 1))
 unfolding computes
 one-swap = refl
 
 -- FIGURE. A zero of either sign on the diagonal, and an odd number of swaps: +0.0 with exponent 0.
-pub zero-diagonal : scaling (recordOf 2 2 1 1) (n2 ∷ n0 ∷ n0 ∷ fin true 0 (pos 0) ∷ []) (storeOf ((0, 1) ∷ [])) ≡ done (scaled n0 (pos 0))
+pub zero-diagonal : scaling (n2 ∷ n0 ∷ n0 ∷ fin true 0 (pos 0) ∷ []) (storeOf ((0, 1) ∷ [])) (recordOf 2 2 1 1) ≡ done (scaled n0 (pos 0))
 unfolding computes
 zero-diagonal = refl
 

@@ -38,8 +38,8 @@ signedBy pairs r = scaled (mul binary64 (r .significand) (signOf pairs)) (r .exp
 abbrev pub vanished : Scaled
 vanished = scaled zero64 (pos 0)
 
-unfoldable pub scaledDeterminant : ℕ → Column → ℕ → Scaled
-scaledDeterminant n factors pairs = cond (zeroOnDiagonal n factors) vanished (signedBy pairs (scaledProduct n (columns n n factors)))
+unfoldable pub scaledDeterminant : Column → ℕ → ℕ → Scaled
+scaledDeterminant factors n pairs = cond (zeroOnDiagonal factors n) vanished (signedBy pairs (scaledProduct n (columns n n factors)))
 
 -- what each case of the answer stands for
 unfoldable pub scaledAnswer : ScaledDet → Outcome Scaled
@@ -47,5 +47,5 @@ scaledAnswer (Number r) = done r
 scaledAnswer (Refused number) = refused number
 
 -- "Refusals: 1 to 5 and 9 only": those that the determinant meets before its work
-unfoldable pub scaling : Record → Column → List ℕ → Outcome Scaled
-scaling r factors store = tested (heldRefusal factors store r squareAsks) refused (done (scaledDeterminant (r .rows) factors (r .pairs)))
+unfoldable pub scaling : Column → List ℕ → Record → Outcome Scaled
+scaling factors store r = tested (heldRefusal factors store r squareAsks) refused (done (scaledDeterminant factors (r .rows) (r .pairs)))

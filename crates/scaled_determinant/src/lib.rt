@@ -88,7 +88,7 @@ fn times(r: Scaled, x: f64) -> Scaled
 
 // One times each number of the diagonal in turn, none of which is zero.
 fn scaled_product(factors: &[f64], n: usize) -> Scaled
-    requires { ⌜ (isMatrix n n (now factors) ≡ true) × (allFinite (now factors) ≡ true) × (zeroOnDiagonal n (now factors) ≡ false) ⌝ }
+    requires { ⌜ (isMatrix (now factors) n n ≡ true) × (allFinite (now factors) ≡ true) × (zeroOnDiagonal (now factors) n ≡ false) ⌝ }
     ensures { λ r. ⌜ r ≡ scaledProduct n (columns n n (now (factors .entry))) ⌝ }
 {
     let mut r = Scaled {
@@ -107,7 +107,7 @@ fn scaled_product(factors: &[f64], n: usize) -> Scaled
 
 // The same with the sign of the swaps.
 fn signed_product(factors: &[f64], n: usize, pairs: usize) -> Scaled
-    requires { ⌜ (isMatrix n n (now factors) ≡ true) × (allFinite (now factors) ≡ true) × (zeroOnDiagonal n (now factors) ≡ false) ⌝ }
+    requires { ⌜ (isMatrix (now factors) n n ≡ true) × (allFinite (now factors) ≡ true) × (zeroOnDiagonal (now factors) n ≡ false) ⌝ }
     ensures { λ r. ⌜ r ≡ signedBy pairs (scaledProduct n (columns n n (now (factors .entry)))) ⌝ }
     ensures { λ r. ⌜ InRange r ⌝ }
 {
@@ -120,7 +120,7 @@ fn signed_product(factors: &[f64], n: usize, pairs: usize) -> Scaled
 
 // The determinant of the factored matrix as a significand and an exponent: +0.0 with 0 where a column is dead.
 pub fn scaled_determinant(factors: &[f64], swaps: &[usize], told: Record) -> ScaledDet
-    ensures { λ r. ⌜ scaledAnswer r ≡ scaling told (now (factors .entry)) (now (swaps .entry)) ⌝ }
+    ensures { λ r. ⌜ scaledAnswer r ≡ scaling (now (factors .entry)) (now (swaps .entry)) told ⌝ }
     ensures { λ r. ⌜ AnswerRanged r ⌝ }
 {
     let asks = Asks {

@@ -1,5 +1,5 @@
--- The factors of a file are doubles: those of the file are, by their bits; exchanging rows keeps them so, and each sum and product is one. So the biased exponent
--- of a finite factor is at most 2046. By the steps of the elimination; by the bits. Assumes nothing.
+-- The factors of a file are doubles: those of the file are, by their bits; exchanging rows keeps them so, and each sum and product is one. So the biased
+-- exponent of a finite factor is at most 2046. By the steps of the elimination; by the bits. Assumes nothing.
 use mathlib.Core.Path.{_≡_, sym, ap, _∙_}
 use mathlib.Core.Bool.{true, _&&_}
 use mathlib.Core.List.{List, [], _∷_}

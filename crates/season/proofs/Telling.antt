@@ -84,7 +84,7 @@ never-zero number (refused j) same k e z =
 
 module _ (p : Packed) (b : Column) where
   pub solve-number : (was : Column) → length was ≡ p .told .rows → (a : Answer) (number : ℕ) → number ≡ numberOf (answered a)
-      → answered a ≡ solving (p .told) (p .factors) (p .swaps) 1 b was .answer → number ≡ numberOf (solutionBy false p b)
+      → answered a ≡ solving (p .factors) (p .swaps) (p .told) b 1 was .answer → number ≡ numberOf (solutionBy false p b)
   solve-number was l a number e d =
       sym (number-tested number) ∙ ap numberOf (solved-answer false p b was l a number tt e d) ∙ number-then (solutionBy false p b) (λ _. tt)
 
@@ -92,27 +92,27 @@ module _ (p : Packed) (b : Column) where
   solve-some : (k : ℕ) → solutionBy false p b ≡ refused k → k ≡ 0 → ⊥
   solve-some k e z =
       let was = zeros (p .told .rows) in
-      any-answer (solving (p .told) (p .factors) (p .swaps) 1 b was .answer)
+      any-answer (solving (p .factors) (p .swaps) (p .told) b 1 was .answer)
       (λ a d. never-zero (numberOf (answered a)) (solutionBy false p b)
       (solved-answer false p b was (length-replicate (p .told .rows) zero64) a (numberOf (answered a)) tt refl d) k e z)
 
 -- ---- the pads that are listed: the ranking of finite loads is not refused
 module _ (n : ℕ) (loads : Column) (was : List ℕ) (least : 1 ≤ n) (most : n ≤ 64) (size : length loads ≡ n) (room : length was ≡ n)
-    (numbers : allFinite loads ≡ true) (r : Listed) (is : padsListed r ≡ ranking (loaded loads) n loads was .answer) where
-  listed-is : padsListed r ≡ done (length (listing (loaded loads) n loads))
+    (numbers : allFinite loads ≡ true) (r : Listed) (is : padsListed r ≡ ranking (loaded loads) loads n was .answer) where
+  listed-is : padsListed r ≡ done (length (listing (loaded loads) loads n))
   listed-is =
       is ∙ ap (λ (o : Call ℕ (List ℕ)). o .answer)
       (ranking-accepted (loaded loads) n loads was
       (not-refused n loads was
       (record { size = record { at-least = least; at-most = most }; loads-length = size; ranks-length = room; finite = numbers })))
 
-  pub listed-pads : (count : ℕ) → r ≡ Pads count → count ≡ length (listing (loaded loads) n loads)
+  pub listed-pads : (count : ℕ) → r ≡ Pads count → count ≡ length (listing (loaded loads) loads n)
   unfolding padsListed
   listed-pads count e = done-same count _ (sym (ap padsListed e) ∙ listed-is)
 
   pub listed-never : {Q : Type 0} (k : ℕ) → r ≡ NotListed k → Q
   unfolding padsListed
-  listed-never k e = never-both (length (listing (loaded loads) n loads)) k (sym listed-is ∙ ap padsListed e)
+  listed-never k e = never-both (length (listing (loaded loads) loads n)) k (sym listed-is ∙ ap padsListed e)
 
 -- ---- a crossing's share, o being what the solve came to
 
@@ -142,11 +142,11 @@ pub loads-of : (p : Packed) (b : Column) (number : ℕ) → number ≡ numberOf 
 loads-of p b number e z = none-refused (solutionBy false p b) (sym e ∙ z) (solve-some p b)
 
 pub told-share : (o : Outcome Column) (l : Loads o) (p : Packed) (front : Column) (pads band : ℕ) → front ≡ l .x
-    → pads ≡ length (listing (loaded front) (p .told .rows) front) → band ≡ bandOn (p .told .rows) (p .factors)
+    → pads ≡ length (listing (loaded front) front (p .told .rows)) → band ≡ bandOn (p .factors) (p .told .rows)
     → shareTold (Crossing pads band) ≡ andThen o (λ x. done (shareOf p x))
 unfolding andThen shareTold
 told-share o l p front pads band same a b =
-    let count = a ∙ ap (λ (x : Column). length (listing (loaded x) (p .told .rows) x)) same in
+    let count = a ∙ ap (λ (x : Column). length (listing (loaded x) x (p .told .rows))) same in
     (λ i. done (record { pads = count i; band = b i })) ∙ ap (λ (q : Outcome Column). andThen q (λ x. done (shareOf p x))) (sym (l .is))
 
 -- ---- a file, by its factors
@@ -154,11 +154,11 @@ module _ (bytes : List ℕ) where
   abbrev n : ℕ
   n = padsOf bytes
 
-  pub telling-held : (told : Record) (M R : Column) (S : List ℕ) → factorsIn bytes ≡ done (packedIn told M S) → take (told .rows) R ≡ readingsOf n bytes
-      → andThen (solutionIn false told M S R) (λ x. done (shareOf (packedIn told M S) x)) ≡ telling bytes
+  pub telling-held : (told : Record) (M R : Column) (S : List ℕ) → factorsIn bytes ≡ done (packedIn M S told) → take (told .rows) R ≡ readingsOf n bytes
+      → andThen (solutionIn false M S told R) (λ x. done (shareOf (packedIn M S told) x)) ≡ telling bytes
   unfolding telling andThen
   telling-held told M R S e r =
-      ap (λ (b : Column). andThen (solutionBy false (packedIn told M S) b) (λ x. done (shareOf (packedIn told M S) x))) r
+      ap (λ (b : Column). andThen (solutionBy false (packedIn M S told) b) (λ x. done (shareOf (packedIn M S told) x))) r
       ∙ ap (λ (o : Outcome Packed). andThen o (λ f. andThen (solutionBy false f (readingsOf n bytes)) (λ x. done (shareOf f x)))) (sym e)
 
   pub telling-refused : (k : ℕ) → factorsIn bytes ≡ refused k → shareTold (Refused k) ≡ telling bytes
@@ -174,14 +174,14 @@ module _ (bytes : List ℕ) where
 
   refused-telling : (fileRefusal bytes ≡ 0 → ⊥) → telling bytes ≡ refused (fileRefusal bytes)
   unfolding telling factorsIn andThen
-  refused-telling some = rw (tested-some (fileRefusal bytes) refused (factorsOf n (matrixOf n bytes)) some)
+  refused-telling some = rw (tested-some (fileRefusal bytes) refused (factorsOf (matrixOf n bytes) n) some)
 
   -- ---- the refusal's number
 
   factors-some : (k : ℕ) → factorsIn bytes ≡ refused k → k ≡ 0 → ⊥
   unfolding factorsIn
   factors-some k e z =
-      tested-refused (fileRefusal bytes) (factorsOf n (matrixOf n bytes)) k e
+      tested-refused (fileRefusal bytes) (factorsOf (matrixOf n bytes) n) k e
       (λ none d. let seven = factored-seven n (matrixOf n bytes) (file-good bytes none) k d in omega (arith, seven)) (λ some d. some (d ∙ z))
 
   -- THEOREM. It is one of 1 to 9.
@@ -219,20 +219,20 @@ module _ (bytes : List ℕ) where
     b = readingsOf n bytes
 
     -- the file passed its tests, its factoring was accepted, and the solve's tests passed
-    read : (fileRefusal bytes ≡ 0) × (factorsOf n (matrixOf n bytes) ≡ done p)
+    read : (fileRefusal bytes ≡ 0) × (factorsOf (matrixOf n bytes) n ≡ done p)
     unfolding factorsIn
-    read = tested-done (fileRefusal bytes) (factorsOf n (matrixOf n bytes)) p (w .factored)
+    read = tested-done (fileRefusal bytes) (factorsOf (matrixOf n bytes) n) p (w .factored)
 
     rows : p .told .rows ≡ n
     rows = factored-rows n (matrixOf n bytes) (file-good bytes (read .0)) p (read .1)
 
-    passes : Passed (p .factors) (p .swaps) (p .told) (solveAsks (p .told .rows) 1 b (zeros (p .told .rows)))
+    passes : Passed (p .factors) (p .swaps) (p .told) (solveAsks b (p .told .rows) 1 (zeros (p .told .rows)))
     unfolding solutionBy solving numberOf
     passes =
-        let call = solving (p .told) (p .factors) (p .swaps) 1 b (zeros (p .told .rows)) in
+        let call = solving (p .factors) (p .swaps) (p .told) b 1 (zeros (p .told .rows)) in
         passed _ _ _ _ (none-given _ (zeros (p .told .rows)) _ (sym (number-then (call .answer) (λ _. call .left)) ∙ ap numberOf (w .loads)))
 
-    factors-matrix : isMatrix (p .told .rows) (p .told .rows) (p .factors) ≡ true
+    factors-matrix : isMatrix (p .factors) (p .told .rows) (p .told .rows) ≡ true
     factors-matrix = square-matrix _ _ _ _ refl passes
 
     -- the columns of its factors are those of the elimination
@@ -240,13 +240,13 @@ module _ (bytes : List ℕ) where
     unfolding factorsOf
     made =
         let a = matrixOf n bytes in
-        let f = factoring n n a a (replicate 128 0) in
-        then-done (f .answer) (λ told. done (packed told (f .left .factors) (f .left .store))) p (read .1)
+        let f = factoring a n n a (replicate 128 0) in
+        then-done (f .answer) (λ told. done (packed (f .left .factors) (f .left .store) told)) p (read .1)
         (λ told ok same. ap (λ (q : Packed). columns n n (q .factors)) (sym (done-same _ p same)) ∙ accepted-columns n n a a (replicate 128 0) told ok)
 
     diagonal-finite : (i : ℕ) → i < n → finite (diagonalAt (columns n n (p .factors)) i) ≡ true
     diagonal-finite i h =
-        let size = sized n n (p .factors) (ap (λ (k : ℕ). isMatrix k k (p .factors)) (sym rows) ∙ factors-matrix) .size in
+        let size = sized n n (p .factors) (ap (λ (k : ℕ). isMatrix (p .factors) k k) (sym rows) ∙ factors-matrix) .size in
         let place = entry-at n n i i (p .factors) nan h h in
         ap finite (sym place) ∙ finite-entry (p .factors) (i * n + i) (passes .finite) (omega (arith, column-within n n i (p .factors) h size))
 
@@ -268,7 +268,7 @@ module _ (bytes : List ℕ) where
         cond-cases (λ (l : List ℕ). length l ≤ length (q ∷ ps)) (choice q) (λ _. let h = few-chosen choice ps in omega arith)
         (λ _. let h = few-chosen choice ps in omega arith)
 
-    few-pads : (x : Column) → length (listing (loaded x) (p .told .rows) x) ≤ 64
+    few-pads : (x : Column) → length (listing (loaded x) x (p .told .rows)) ≤ 64
     unfolding listing
     few-pads x =
         omega (

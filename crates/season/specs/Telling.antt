@@ -1,5 +1,5 @@
--- What one panel file brings to a season (document 02, request 13): the pads that its ranking lists and the band of its crossing, or the refusal that the answer
--- for it gives.
+-- What one panel file brings to a season (document 02, request 13): the pads that its ranking lists and the band of its crossing, or the refusal that the
+-- answer for it gives.
 use mathlib.Core.Bool.{false}
 use mathlib.Core.List.{List}
 use Prim.Native.Nat.{ℕ}
@@ -20,7 +20,7 @@ pub record Share : Type 0 where
 
 -- "the pads listed without idle ones", x being the loads; and the band of the factors
 abbrev pub shareOf : Packed → Column → Share
-shareOf f x = record { pads = length (listing (loaded x) (f .told .rows) x); band = bandOn (f .told .rows) (f .factors) }
+shareOf f x = record { pads = length (listing (loaded x) x (f .told .rows)); band = bandOn (f .factors) (f .told .rows) }
 
 -- "Only files whose solve is accepted": refused by the file's tests, by factoring, or by the solve for its readings
 unfoldable pub telling : List ℕ → Outcome Share

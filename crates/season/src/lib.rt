@@ -25,7 +25,7 @@ enum Told {
 // How many of the n pads carry something.
 fn listed(loads: &[f64], n: usize) -> usize
     requires { ⌜ (1 ≤ n) × (n ≤ 64) × (length (now loads) ≡ n) × (allFinite (now loads) ≡ true) ⌝ }
-    ensures { λ r. ⌜ r ≡ length (listing (loaded (now (loads .entry))) n (now (loads .entry))) ⌝ }
+    ensures { λ r. ⌜ r ≡ length (listing (loaded (now (loads .entry))) (now (loads .entry)) n) ⌝ }
 {
     let mut ranks = [0usize; 64];
     match ranking::rank(loads, n, &mut ranks[..n]) {
@@ -43,9 +43,9 @@ fn solve_readings(
     loads: &mut [f64],
 ) -> usize
     requires { ⌜ (told .rows ≤ 64) × (length (now matrix) ≡ 4096) × (length (now readings) ≡ 64) × (length (now loads) ≡ 64) ⌝ }
-    ensures { λ r. ⌜ r ≡ numberOf (solutionIn false told (now (matrix .entry)) (now (swaps .entry)) (now (readings .entry))) ⌝ }
+    ensures { λ r. ⌜ r ≡ numberOf (solutionIn false (now (matrix .entry)) (now (swaps .entry)) told (now (readings .entry))) ⌝ }
     ensures { λ _. ⌜ now (loads .exit)
-        ≡ fronted (told .rows) (solutionIn false told (now (matrix .entry)) (now (swaps .entry)) (now (readings .entry))) (now (loads .entry)) ⌝ }
+        ≡ fronted (told .rows) (solutionIn false (now (matrix .entry)) (now (swaps .entry)) told (now (readings .entry))) (now (loads .entry)) ⌝ }
 {
     let n = told.rows;
     let entries = n * n;
@@ -62,8 +62,8 @@ fn solve_readings(
 // What a crossing brings whose factors and readings stand in front of their stores.
 fn tell_crossing(matrix: &[f64], swaps: &[usize], told: Record, readings: &[f64]) -> Told
     requires { ⌜ (1 ≤ told .rows) × (told .rows ≤ 64) × (length (now matrix) ≡ 4096) × (length (now readings) ≡ 64) ⌝ }
-    ensures { λ r. ⌜ shareTold r ≡ andThen (solutionIn false told (now (matrix .entry)) (now (swaps .entry)) (now (readings .entry)))
-        (λ x. done (shareOf (packedIn told (now (matrix .entry)) (now (swaps .entry))) x)) ⌝ }
+    ensures { λ r. ⌜ shareTold r ≡ andThen (solutionIn false (now (matrix .entry)) (now (swaps .entry)) told (now (readings .entry)))
+        (λ x. done (shareOf (packedIn (now (matrix .entry)) (now (swaps .entry)) told) x)) ⌝ }
 {
     let mut loads = [0.0f64; 64];
     let number = solve_readings(matrix, swaps, told, readings, &mut loads);

@@ -23,39 +23,39 @@ use Rattle.solve.specs.Calls.{lengthsFit, refusalOf, solving}
 module _ (pass : Pass) (n k : ℕ) (t b x : Column) where
   -- the slices hold matrices of the call's sizes
   pub record Fit : Type 0 where
-    pub matrix : isMatrix n n t ≡ true
-    pub sides : isMatrix n k b ≡ true
-    pub room : isMatrix n k x ≡ true
+    pub matrix : isMatrix t n n ≡ true
+    pub sides : isMatrix b n k ≡ true
+    pub room : isMatrix x n k ≡ true
 
-  pub fit : refusalOf pass n k t b x ≡ 0 → Fit
+  pub fit : refusalOf pass t n b k x ≡ 0 → Fit
   unfolding refusalOf lengthsFit
   fit e =
-      let all = not-false (lengthsFit n k t b x) (first-none _ (search needs) e .1 .0) in
-      let two = and-first (isMatrix n n t && isMatrix n k b) (isMatrix n k x) all in
+      let all = not-false (lengthsFit t n b k x) (first-none _ (search needs) e .1 .0) in
+      let two = and-first (isMatrix t n n && isMatrix b n k) (isMatrix x n k) all in
       record {
-        matrix = and-first (isMatrix n n t) (isMatrix n k b) two;
-        sides = and-second (isMatrix n n t) (isMatrix n k b) two;
-        room = and-second (isMatrix n n t && isMatrix n k b) (isMatrix n k x) all;
+        matrix = and-first (isMatrix t n n) (isMatrix b n k) two;
+        sides = and-second (isMatrix t n n) (isMatrix b n k) two;
+        room = and-second (isMatrix t n n && isMatrix b n k) (isMatrix x n k) all;
       }
 
   -- a call that its tests refuse
-  pub refused-by : (number : ℕ) (r : Answer) → number ≡ refusalOf pass n k t b x → (number ≡ 0 → ⊥) → answered r ≡ tested number refused (done tt)
-      → Promise (solving pass n k t b x) r x
+  pub refused-by : (number : ℕ) (r : Answer) → number ≡ refusalOf pass t n b k x → (number ≡ 0 → ⊥) → answered r ≡ tested number refused (done tt)
+      → Promise (solving pass t n b k x) r x
   unfolding solving
-  refused-by number r e some a = promise-refused (refusalOf pass n k t b x) number x _ r e some a
+  refused-by number r e some a = promise-refused (refusalOf pass t n b k x) number x _ r e some a
 
   -- and one that they do not
-  pub accepted : refusalOf pass n k t b x ≡ 0 → solving pass n k t b x ≡ seventh (solvedInPlace pass n k t b)
+  pub accepted : refusalOf pass t n b k x ≡ 0 → solving pass t n b k x ≡ seventh (solvedInPlace pass t n b k)
   unfolding solving
-  accepted e = tested-none (refusalOf pass n k t b x) (leaving x) _ e
+  accepted e = tested-none (refusalOf pass t n b k x) (leaving x) _ e
 
   -- the right-hand sides were copied to the result's slice, solved there and settled
-  pub worked : (number : ℕ) (c s y : Column) (seven : ℕ) (r : Answer) → number ≡ refusalOf pass n k t b x → number ≡ 0
-      → c ≡ copied b x → s ≡ solvedInPlace pass n k t c → (seven ≡ numberOf (seventh s .answer)) × (y ≡ seventh s .left)
-      → answered r ≡ tested seven refused (done tt) → Promise (solving pass n k t b x) r y
+  pub worked : (number : ℕ) (c s y : Column) (seven : ℕ) (r : Answer) → number ≡ refusalOf pass t n b k x → number ≡ 0
+      → c ≡ copied b x → s ≡ solvedInPlace pass t n c k → (seven ≡ numberOf (seventh s .answer)) × (y ≡ seventh s .left)
+      → answered r ≡ tested seven refused (done tt) → Promise (solving pass t n b k x) r y
   worked number c s y seven r e none copy made settled a =
       let ok = sym e ∙ none in
       let p = fit ok in
       let fits : length b ≡ length x = sized n k b (p .sides) .size ∙ sym (sized n k x (p .room) .size) in
-      rw (accepted ok ∙ ap seventh (ap (solvedInPlace pass n k t) (sym (copy ∙ copied-whole b x fits)) ∙ sym made))
+      rw (accepted ok ∙ ap seventh (ap (λ (c : Column). solvedInPlace pass t n c k) (sym (copy ∙ copied-whole b x fits)) ∙ sym made))
       (a ∙ seventh-answer s seven (settled .0), settled .1)

@@ -31,12 +31,12 @@ unfolding solvedFrom
 solved-at pass n cs bs j h = each-at _ 0 bs j [] (omega arith) h
 
 -- a pass on slices that hold matrices: the result, and its columns
-module _ (pass : Pass) (n k : ℕ) (t b : Column) (matrix : isMatrix n n t ≡ true) (sides : isMatrix n k b ≡ true) where
-  pub in-place-flat : solvedInPlace pass n k t b ≡ flat (solvedColumns pass n (columns n n t) (columns n k b))
+module _ (pass : Pass) (n k : ℕ) (t b : Column) (matrix : isMatrix t n n ≡ true) (sides : isMatrix b n k ≡ true) where
+  pub in-place-flat : solvedInPlace pass t n b k ≡ flat (solvedColumns pass n (columns n n t) (columns n k b))
   unfolding solvedInPlace
   in-place-flat = rw matrix (on-flat n k _ b sides)
 
-  pub in-place-columns : columns n k (solvedInPlace pass n k t b) ≡ solvedColumns pass n (columns n n t) (columns n k b)
+  pub in-place-columns : columns n k (solvedInPlace pass t n b k) ≡ solvedColumns pass n (columns n n t) (columns n k b)
   unfolding solvedInPlace solvedFrom
   in-place-columns =
       rw matrix
@@ -45,39 +45,39 @@ module _ (pass : Pass) (n k : ℕ) (t b : Column) (matrix : isMatrix n n t ≡ t
 
 module _ (pass : Pass) (n k : ℕ) (t b x : Column) where
   -- an accepted call: no test held, and the result is what the pass made
-  none : numberOf (solving pass n k t b x .answer) ≡ 0 → refusalOf pass n k t b x ≡ 0
+  none : numberOf (solving pass t n b k x .answer) ≡ 0 → refusalOf pass t n b k x ≡ 0
   unfolding solving
-  none e = none-given (refusalOf pass n k t b x) x _ e
+  none e = none-given (refusalOf pass t n b k x) x _ e
 
-  pub accepted-columns : numberOf (solving pass n k t b x .answer) ≡ 0
-      → columns n k (solving pass n k t b x .left) ≡ solvedColumns pass n (columns n n t) (columns n k b)
+  pub accepted-columns : numberOf (solving pass t n b k x .answer) ≡ 0
+      → columns n k (solving pass t n b k x .left) ≡ solvedColumns pass n (columns n n t) (columns n k b)
   accepted-columns e =
       let p = fit pass n k t b x (none e) in
       let o = accepted pass n k t b x (none e) in
-      let made = solvedInPlace pass n k t b in
+      let made = solvedInPlace pass t n b k in
       ap (λ (r : Call (Unit {0}) Column). columns n k (r .left)) o
       ∙ ap (columns n k) (seventh-stands made (sym (ap (λ (r : Call (Unit {0}) Column). numberOf (r .answer)) o) ∙ e))
       ∙ in-place-columns pass n k t b (p .matrix) (p .sides)
 
   -- an accepted solution column is its own right-hand column, solved
-  pub accepted-column : (j : ℕ) → j < k → numberOf (solving pass n k t b x .answer) ≡ 0
-      → column (columns n k (solving pass n k t b x .left)) j ≡ solvedColumn pass n (columns n n t) (column (columns n k b) j)
+  pub accepted-column : (j : ℕ) → j < k → numberOf (solving pass t n b k x .answer) ≡ 0
+      → column (columns n k (solving pass t n b k x .left)) j ≡ solvedColumn pass n (columns n n t) (column (columns n k b) j)
   accepted-column j h e =
       ap (λ (cs : Matrix). column cs j) (accepted-columns e) ∙ solved-at pass n (columns n n t) (columns n k b) j (rw length-columns h)
 
   -- a call that its tests let pass is refused with 7 exactly where some number of some solved column is not finite
-  pub seven-by-all : refusalOf pass n k t b x ≡ 0
-      → numberOf (solving pass n k t b x .answer) ≡ cond (allFinite (flat (solvedColumns pass n (columns n n t) (columns n k b)))) 0 7
+  pub seven-by-all : refusalOf pass t n b k x ≡ 0
+      → numberOf (solving pass t n b k x .answer) ≡ cond (allFinite (flat (solvedColumns pass n (columns n n t) (columns n k b)))) 0 7
   seven-by-all e =
       let p = fit pass n k t b x e in
       ap (λ (r : Call (Unit {0}) Column). numberOf (r .answer)) (accepted pass n k t b x e)
-      ∙ seventh-number (solvedInPlace pass n k t b)
+      ∙ seventh-number (solvedInPlace pass t n b k)
       ∙ ap (λ (c : Column). cond (allFinite c) 0 7) (in-place-flat pass n k t b (p .matrix) (p .sides))
 
 -- Two accepted calls by one matrix: equal right-hand columns, wherever they stand and whatever stands beside them, have equal solution columns.
 pub column-alone : (pass : Pass) (n k l : ℕ) (t b d x y : Column) (i j : ℕ) → i < k → j < l
-    → numberOf (solving pass n k t b x .answer) ≡ 0 → numberOf (solving pass n l t d y .answer) ≡ 0
+    → numberOf (solving pass t n b k x .answer) ≡ 0 → numberOf (solving pass t n d l y .answer) ≡ 0
     → column (columns n k b) i ≡ column (columns n l d) j
-    → column (columns n k (solving pass n k t b x .left)) i ≡ column (columns n l (solving pass n l t d y .left)) j
+    → column (columns n k (solving pass t n b k x .left)) i ≡ column (columns n l (solving pass t n d l y .left)) j
 column-alone pass n k l t b d x y i j hi hj e f same =
     accepted-column pass n k t b x i hi e ∙ ap (solvedColumn pass n (columns n n t)) same ∙ sym (accepted-column pass n l t d y j hj f)

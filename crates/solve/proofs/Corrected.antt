@@ -31,7 +31,7 @@ use Rattle.solve.specs.Calls.{numbersFinite, refusalOf, solving}
 use Rattle.solve.proofs.Lengths.{length-turns}
 
 -- THEOREM. "Refusals as before, in the same order": what the tests refuse is the same.
-pub same-refusal : (d : Float) (n k : ℕ) (t b x : Column) → refusalOf (CorrectedDiagonal d) n k t b x ≡ refusalOf (GivenDiagonal d) n k t b x
+pub same-refusal : (d : Float) (n k : ℕ) (t b x : Column) → refusalOf (CorrectedDiagonal d) t n b k x ≡ refusalOf (GivenDiagonal d) t n b k x
 unfolding refusalOf numbersFinite
 same-refusal d n k t b x = refl
 
@@ -177,7 +177,7 @@ each-alike f g [] d e = refl
 each-alike {A} f g (y ∷ ys) d e =
     ap₂ (λ (x : A) (t : List A). x ∷ t) (e 0 (omega arith)) (each-alike (λ i. f (suc i)) (λ i. g (suc i)) ys d (λ i h. e (suc i) (omega arith)))
 
-same-columns : (n k : ℕ) (cs : Matrix) (b : Column) → isMatrix n k b ≡ true → Doubles b
+same-columns : (n k : ℕ) (cs : Matrix) (b : Column) → isMatrix b n k ≡ true → Doubles b
     → solvedColumns (CorrectedDiagonal one64) n cs (columns n k b) ≡ solvedColumns (GivenDiagonal one64) n cs (columns n k b)
 unfolding solvedFrom
 same-columns n k cs b sides all =
@@ -185,14 +185,14 @@ same-columns n k cs b sides all =
     (λ j h. same-column n cs (column (columns n k b) j) (columns-rows n k b (sized n k b sides .size) j h) (columns-doubles n k b all j))
 
 -- THEOREM. By the diagonal 1 the two passes give the same bits, whatever doubles the right-hand sides hold.
-pub same-by-one : (n k : ℕ) (t b : Column) → Doubles b → solvedInPlace (CorrectedDiagonal one64) n k t b ≡ solvedInPlace (GivenDiagonal one64) n k t b
+pub same-by-one : (n k : ℕ) (t b : Column) → Doubles b → solvedInPlace (CorrectedDiagonal one64) t n b k ≡ solvedInPlace (GivenDiagonal one64) t n b k
 unfolding solvedInPlace onColumns
 same-by-one n k t b all =
-    cond-both (λ (p q : Column). p ≡ q) (isMatrix n n t)
-    (λ _. cond-both (λ (p q : Column). p ≡ q) (isMatrix n k b) (λ sides. ap flat (same-columns n k (columns n n t) b sides all)) (λ _. refl)) (λ _. refl)
+    cond-both (λ (p q : Column). p ≡ q) (isMatrix t n n)
+    (λ _. cond-both (λ (p q : Column). p ≡ q) (isMatrix b n k) (λ sides. ap flat (same-columns n k (columns n n t) b sides all)) (λ _. refl)) (λ _. refl)
 
 -- THEOREM. So the two calls have the same outcome, refused or not.
-pub same-outcome : (n k : ℕ) (t b x : Column) → Doubles b → solving (CorrectedDiagonal one64) n k t b x ≡ solving (GivenDiagonal one64) n k t b x
+pub same-outcome : (n k : ℕ) (t b x : Column) → Doubles b → solving (CorrectedDiagonal one64) t n b k x ≡ solving (GivenDiagonal one64) t n b k x
 unfolding solving
 same-outcome n k t b x all =
     ap₂ (λ (number : ℕ) (made : Column). tested number (leaving x) (seventh made)) (same-refusal one64 n k t b x) (same-by-one n k t b all)

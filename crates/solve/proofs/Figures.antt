@@ -48,13 +48,13 @@ abbrev large : Float
 large = fin false 1 (pos 100)
 
 -- 1 by 1, given diagonal 2^-1000, b 2^100: the Rust's way forms no quotient and is accepted; corrected, the division overflows
-pub division-overflows : (solving (GivenDiagonal tiny) 1 1 (n0 ∷ []) (large ∷ []) (n0 ∷ []) ≡ record { answer = done tt; left = large ∷ [] })
-    × (solving (CorrectedDiagonal tiny) 1 1 (n0 ∷ []) (large ∷ []) (n1 ∷ []) ≡ record { answer = refused 7; left = n0 ∷ [] })
+pub division-overflows : (solving (GivenDiagonal tiny) (n0 ∷ []) 1 (large ∷ []) 1 (n0 ∷ []) ≡ record { answer = done tt; left = large ∷ [] })
+    × (solving (CorrectedDiagonal tiny) (n0 ∷ []) 1 (large ∷ []) 1 (n1 ∷ []) ≡ record { answer = refused 7; left = n0 ∷ [] })
 unfolding computes
 division-overflows = (refl, refl)
 
 -- 1 by 1, 2^-1000: the right-hand columns 1 and 1 are accepted, and 1 and 2^100 are refused with 7
-pub another-refuses : (solving Lower 1 2 (tiny ∷ []) (n1 ∷ n1 ∷ []) (n0 ∷ n0 ∷ []) .answer ≡ done tt)
-    × (solving Lower 1 2 (tiny ∷ []) (n1 ∷ large ∷ []) (n0 ∷ n0 ∷ []) .answer ≡ refused 7)
+pub another-refuses : (solving Lower (tiny ∷ []) 1 (n1 ∷ n1 ∷ []) 2 (n0 ∷ n0 ∷ []) .answer ≡ done tt)
+    × (solving Lower (tiny ∷ []) 1 (n1 ∷ large ∷ []) 2 (n0 ∷ n0 ∷ []) .answer ≡ refused 7)
 unfolding computes
 another-refuses = (refl, refl)

@@ -20,7 +20,7 @@ module _ (pass : Pass) (n k : ℕ) (t b₀ : Column) where
   pub left-all : Left 0 b₀
   left-all = record { long = refl; left = refl }
 
-  module _ (sides : isMatrix n k b₀ ≡ true) (j : ℕ) (b : Column) (so-far : Left j b) where
+  module _ (sides : isMatrix b₀ n k ≡ true) (j : ℕ) (b : Column) (so-far : Left j b) where
     size : length b ≡ k * n
     size = so-far .long ∙ sized n k b₀ sides .size
 
@@ -42,15 +42,15 @@ module _ (pass : Pass) (n k : ℕ) (t b₀ : Column) where
       left = column-turn _ n k j b c h size kept made ∙ so-far .left;
     }
 
-    pub left-none : isMatrix n n t ≡ true → k ≤ j → b ≡ solvedInPlace pass n k t b₀
+    pub left-none : isMatrix t n n ≡ true → k ≤ j → b ≡ solvedInPlace pass t n b₀ k
     unfolding solvedInPlace solvedFrom
     left-none matrix h = rw matrix (on-done n k _ b₀ b sides (so-far .long) (sym (column-stop _ n k j b h) ∙ so-far .left))
 
   -- where a slice holds no such matrix, b₀ stays
-  pub no-matrix : isMatrix n n t ≡ false → b₀ ≡ solvedInPlace pass n k t b₀
+  pub no-matrix : isMatrix t n n ≡ false → b₀ ≡ solvedInPlace pass t n b₀ k
   unfolding solvedInPlace
   no-matrix h = rw h
 
-  pub no-sides : isMatrix n n t ≡ true → isMatrix n k b₀ ≡ false → b₀ ≡ solvedInPlace pass n k t b₀
+  pub no-sides : isMatrix t n n ≡ true → isMatrix b₀ n k ≡ false → b₀ ≡ solvedInPlace pass t n b₀ k
   unfolding solvedInPlace
   no-sides matrix h = rw matrix (on-none n k _ b₀ h)

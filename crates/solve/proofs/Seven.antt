@@ -73,7 +73,7 @@ module _ (pass : Pass) (n : ℕ) (cs : Matrix) (b : Column) (rows : length b ≡
       })
 
 -- ---- the call
-module _ (pass : Pass) (n k : ℕ) (t b x : Column) (none-before : refusalOf pass n k t b x ≡ 0) where
+module _ (pass : Pass) (n k : ℕ) (t b x : Column) (none-before : refusalOf pass t n b k x ≡ 0) where
   sides-finite : allFinite b ≡ true
   unfolding refusalOf numbersFinite
   sides-finite =
@@ -82,7 +82,7 @@ module _ (pass : Pass) (n k : ℕ) (t b x : Column) (none-before : refusalOf pas
 
   -- THEOREM. A triangular solve that passes its tests is refused with 7 exactly when for some right-hand column it stored, at any turn, a number that was not
   -- finite.
-  pub solving-seven : (solving pass n k t b x .answer ≡ refused 7)
+  pub solving-seven : (solving pass t n b k x .answer ≡ refused 7)
       ↔ ((j : ℕ) × (j < k) × StoredBad pass n (columns n n t) (column (columns n k b) j))
   unfolding solvedFrom
   solving-seven =
@@ -92,7 +92,7 @@ module _ (pass : Pass) (n k : ℕ) (t b x : Column) (none-before : refusalOf pas
       let size = sized n k b (p .sides) .size in
       let is = ap (λ (o : Call (Unit {0}) Column). o .answer) (accepted pass n k t b x none-before) in
       let made = in-place-flat pass n k t b (p .matrix) (p .sides) in
-      let seven = seventh-refused (solvedInPlace pass n k t b) in
+      let seven = seventh-refused (solvedInPlace pass t n b k) in
       let some = each-spoilt (solvedColumn pass n cs) bs in
       let wide = length-columns n k b in
       let rows : (j : ℕ) → j < k → length (column bs j) ≡ n = λ j h. columns-rows n k b size j (rw wide h) in

@@ -102,8 +102,8 @@ unfoldable pub turn : Pass → ℕ → Matrix → ℕ → Column → Column
 turn pass n cs k b = let i = rowAt pass n k in solvedRow pass (column cs i) i b
 
 -- the same by itself, t holding the n by n matrix; without such a matrix, a column of n entries or a turn k the column stays as it was
-unfoldable pub turnedBy : Pass → ℕ → ℕ → Column → Column → Column
-turnedBy pass n k t b = cond (isMatrix n n t && eqb (length b) n && ltb k (turnsOf pass n)) (turn pass n (columns n n t) k b) b
+unfoldable pub turnedBy : Pass → Column → ℕ → Column → ℕ → Column
+turnedBy pass t n b k = cond (isMatrix t n n && eqb (length b) n && ltb k (turnsOf pass n)) (turn pass n (columns n n t) k b) b
 
 -- a right-hand column, solved
 unfoldable pub solvedColumn : Pass → ℕ → Matrix → Column → Column
@@ -120,5 +120,5 @@ solvedColumns pass n cs bs = solvedFrom pass n cs 0 bs
 
 -- A pass without the tests: the k right-hand columns of n rows that b holds, solved by the n by n matrix that t holds. Where a slice holds
 -- no such matrix, b stays as it was.
-unfoldable pub solvedInPlace : Pass → ℕ → ℕ → Column → Column → Column
-solvedInPlace pass n k t b = cond (isMatrix n n t) (onColumns n k (solvedColumns pass n (columns n n t)) b) b
+unfoldable pub solvedInPlace : Pass → Column → ℕ → Column → ℕ → Column
+solvedInPlace pass t n b k = cond (isMatrix t n n) (onColumns n k (solvedColumns pass n (columns n n t)) b) b

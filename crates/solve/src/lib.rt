@@ -148,7 +148,7 @@ fn turns_of(pass: Pass, n: usize) -> usize
 
 // Turn k on a right-hand column.
 fn take_turn(pass: Pass, t: &[f64], n: usize, b: &mut [f64], k: usize)
-    requires { ⌜ (isMatrix n n (now t) ≡ true) × (length (now b) ≡ n) × (k < turnsOf pass n) ⌝ }
+    requires { ⌜ (isMatrix (now t) n n ≡ true) × (length (now b) ≡ n) × (k < turnsOf pass n) ⌝ }
     ensures { λ _. ⌜ now (b .exit) ≡ turn pass n (columns n n (now (t .entry))) k (now (b .entry)) ⌝ }
 {
     let i = row_at(pass, n, k);
@@ -159,7 +159,7 @@ fn take_turn(pass: Pass, t: &[f64], n: usize, b: &mut [f64], k: usize)
 
 // The same by itself; nothing where t is no n by n matrix, b has not n entries, or there is no turn k.
 pub fn solve_turn(pass: Pass, t: &[f64], n: usize, b: &mut [f64], k: usize)
-    ensures { λ _. ⌜ now (b .exit) ≡ turnedBy pass n k (now (t .entry)) (now (b .entry)) ⌝ }
+    ensures { λ _. ⌜ now (b .exit) ≡ turnedBy pass (now (t .entry)) n (now (b .entry)) k ⌝ }
 {
     if !store::is_matrix(t, n, n) {
         return;
@@ -175,7 +175,7 @@ pub fn solve_turn(pass: Pass, t: &[f64], n: usize, b: &mut [f64], k: usize)
 
 // Solves one right-hand column in place.
 fn solve_column(pass: Pass, t: &[f64], n: usize, b: &mut [f64])
-    requires { ⌜ (isMatrix n n (now t) ≡ true) × (length (now b) ≡ n) ⌝ }
+    requires { ⌜ (isMatrix (now t) n n ≡ true) × (length (now b) ≡ n) ⌝ }
     ensures { λ _. ⌜ now (b .exit) ≡ solvedColumn pass n (columns n n (now (t .entry))) (now (b .entry)) ⌝ }
 {
     let turns = turns_of(pass, n);
@@ -189,7 +189,7 @@ fn solve_column(pass: Pass, t: &[f64], n: usize, b: &mut [f64])
 // A pass without the tests: solves the k right-hand columns in b in place by the n by n matrix t. Where a slice holds no such matrix,
 // b stays as it was.
 pub fn solve_in_place(pass: Pass, t: &[f64], n: usize, b: &mut [f64], k: usize)
-    ensures { λ _. ⌜ now (b .exit) ≡ solvedInPlace pass n k (now (t .entry)) (now (b .entry)) ⌝ }
+    ensures { λ _. ⌜ now (b .exit) ≡ solvedInPlace pass (now (t .entry)) n (now (b .entry)) k ⌝ }
 {
     if !store::is_matrix(t, n, n) {
         return;
@@ -208,7 +208,7 @@ pub fn solve_in_place(pass: Pass, t: &[f64], n: usize, b: &mut [f64], k: usize)
 
 // Whether the n by n matrix t has a zero of either sign on its diagonal; false where t is no such matrix.
 pub fn zero_on_diagonal(t: &[f64], n: usize) -> bool
-    ensures { λ r. ⌜ r ≡ zeroOnDiagonal n (now (t .entry)) ⌝ }
+    ensures { λ r. ⌜ r ≡ zeroOnDiagonal (now (t .entry)) n ⌝ }
 {
     dead_columns::dead_of(t, n, n) != 0
 }
@@ -226,7 +226,7 @@ fn given_finite(pass: Pass) -> bool
 
 // Refusal 6: whether some row would be divided by a zero.
 fn zero_divisor(pass: Pass, t: &[f64], n: usize) -> bool
-    ensures { λ r. ⌜ r ≡ zeroDivisor pass n (now (t .entry)) ⌝ }
+    ensures { λ r. ⌜ r ≡ zeroDivisor pass (now (t .entry)) n ⌝ }
 {
     match pass {
         Pass::GivenDiagonal(d) => numbers::is_zero(d),
@@ -247,7 +247,7 @@ fn sizes_outside(n: usize, k: usize) -> bool
 
 // Refusal 3: whether the three slices have the lengths that the sizes ask for.
 fn lengths_fit(t: &[f64], n: usize, b: &[f64], k: usize, x: &[f64]) -> bool
-    ensures { λ r. ⌜ r ≡ lengthsFit n k (now (t .entry)) (now (b .entry)) (now (x .entry)) ⌝ }
+    ensures { λ r. ⌜ r ≡ lengthsFit (now (t .entry)) n (now (b .entry)) k (now (x .entry)) ⌝ }
 {
     if !store::is_matrix(t, n, n) {
         return false;
@@ -273,7 +273,7 @@ fn numbers_finite(pass: Pass, t: &[f64], b: &[f64]) -> bool
 
 // The refusal before the work, 0 for none.
 fn refusal(pass: Pass, t: &[f64], n: usize, b: &[f64], k: usize, x: &[f64]) -> usize
-    ensures { λ r. ⌜ r ≡ refusalOf pass n k (now (t .entry)) (now (b .entry)) (now (x .entry)) ⌝ }
+    ensures { λ r. ⌜ r ≡ refusalOf pass (now (t .entry)) n (now (b .entry)) k (now (x .entry)) ⌝ }
 {
     let six = refusals::first(6, zero_divisor(pass, t, n), 0);
     let five = refusals::first(5, !numbers_finite(pass, t, b), six);
@@ -283,8 +283,8 @@ fn refusal(pass: Pass, t: &[f64], n: usize, b: &[f64], k: usize, x: &[f64]) -> u
 
 // Solves by the n by n matrix t for the k right-hand columns b, into x.
 fn solve_by(pass: Pass, t: &[f64], n: usize, b: &[f64], k: usize, x: &mut [f64]) -> Answer
-    ensures { λ r. ⌜ answered r ≡ solving pass n k (now (t .entry)) (now (b .entry)) (now (x .entry)) .answer ⌝ }
-    ensures { λ _. ⌜ now (x .exit) ≡ solving pass n k (now (t .entry)) (now (b .entry)) (now (x .entry)) .left ⌝ }
+    ensures { λ r. ⌜ answered r ≡ solving pass (now (t .entry)) n (now (b .entry)) k (now (x .entry)) .answer ⌝ }
+    ensures { λ _. ⌜ now (x .exit) ≡ solving pass (now (t .entry)) n (now (b .entry)) k (now (x .entry)) .left ⌝ }
 {
     let number = refusal(pass, t, n, b, k, x);
     if number != 0 {
@@ -297,16 +297,16 @@ fn solve_by(pass: Pass, t: &[f64], n: usize, b: &[f64], k: usize, x: &mut [f64])
 
 // The lower triangle of t, by its own diagonal.
 pub fn solve_lower_triangular(t: &[f64], n: usize, b: &[f64], k: usize, x: &mut [f64]) -> Answer
-    ensures { λ r. ⌜ answered r ≡ solving Pass.Lower n k (now (t .entry)) (now (b .entry)) (now (x .entry)) .answer ⌝ }
-    ensures { λ _. ⌜ now (x .exit) ≡ solving Pass.Lower n k (now (t .entry)) (now (b .entry)) (now (x .entry)) .left ⌝ }
+    ensures { λ r. ⌜ answered r ≡ solving Pass.Lower (now (t .entry)) n (now (b .entry)) k (now (x .entry)) .answer ⌝ }
+    ensures { λ _. ⌜ now (x .exit) ≡ solving Pass.Lower (now (t .entry)) n (now (b .entry)) k (now (x .entry)) .left ⌝ }
 {
     solve_by(Pass::Lower, t, n, b, k, x)
 }
 
 // The upper triangle of t, by its own diagonal.
 pub fn solve_upper_triangular(t: &[f64], n: usize, b: &[f64], k: usize, x: &mut [f64]) -> Answer
-    ensures { λ r. ⌜ answered r ≡ solving Pass.Upper n k (now (t .entry)) (now (b .entry)) (now (x .entry)) .answer ⌝ }
-    ensures { λ _. ⌜ now (x .exit) ≡ solving Pass.Upper n k (now (t .entry)) (now (b .entry)) (now (x .entry)) .left ⌝ }
+    ensures { λ r. ⌜ answered r ≡ solving Pass.Upper (now (t .entry)) n (now (b .entry)) k (now (x .entry)) .answer ⌝ }
+    ensures { λ _. ⌜ now (x .exit) ≡ solving Pass.Upper (now (t .entry)) n (now (b .entry)) k (now (x .entry)) .left ⌝ }
 {
     solve_by(Pass::Upper, t, n, b, k, x)
 }
@@ -320,8 +320,8 @@ pub fn solve_lower_triangular_with_diag(
     x: &mut [f64],
     diag: f64,
 ) -> Answer
-    ensures { λ r. ⌜ answered r ≡ solving (Pass.GivenDiagonal diag) n k (now (t .entry)) (now (b .entry)) (now (x .entry)) .answer ⌝ }
-    ensures { λ _. ⌜ now (x .exit) ≡ solving (Pass.GivenDiagonal diag) n k (now (t .entry)) (now (b .entry)) (now (x .entry)) .left ⌝ }
+    ensures { λ r. ⌜ answered r ≡ solving (Pass.GivenDiagonal diag) (now (t .entry)) n (now (b .entry)) k (now (x .entry)) .answer ⌝ }
+    ensures { λ _. ⌜ now (x .exit) ≡ solving (Pass.GivenDiagonal diag) (now (t .entry)) n (now (b .entry)) k (now (x .entry)) .left ⌝ }
 {
     solve_by(Pass::GivenDiagonal(diag), t, n, b, k, x)
 }
@@ -335,24 +335,24 @@ pub fn solve_lower_triangular_with_diag_corrected(
     x: &mut [f64],
     diag: f64,
 ) -> Answer
-    ensures { λ r. ⌜ answered r ≡ solving (Pass.CorrectedDiagonal diag) n k (now (t .entry)) (now (b .entry)) (now (x .entry)) .answer ⌝ }
-    ensures { λ _. ⌜ now (x .exit) ≡ solving (Pass.CorrectedDiagonal diag) n k (now (t .entry)) (now (b .entry)) (now (x .entry)) .left ⌝ }
+    ensures { λ r. ⌜ answered r ≡ solving (Pass.CorrectedDiagonal diag) (now (t .entry)) n (now (b .entry)) k (now (x .entry)) .answer ⌝ }
+    ensures { λ _. ⌜ now (x .exit) ≡ solving (Pass.CorrectedDiagonal diag) (now (t .entry)) n (now (b .entry)) k (now (x .entry)) .left ⌝ }
 {
     solve_by(Pass::CorrectedDiagonal(diag), t, n, b, k, x)
 }
 
 // The lower triangle of t, transposed.
 pub fn tr_solve_lower_triangular(t: &[f64], n: usize, b: &[f64], k: usize, x: &mut [f64]) -> Answer
-    ensures { λ r. ⌜ answered r ≡ solving Pass.TransposedLower n k (now (t .entry)) (now (b .entry)) (now (x .entry)) .answer ⌝ }
-    ensures { λ _. ⌜ now (x .exit) ≡ solving Pass.TransposedLower n k (now (t .entry)) (now (b .entry)) (now (x .entry)) .left ⌝ }
+    ensures { λ r. ⌜ answered r ≡ solving Pass.TransposedLower (now (t .entry)) n (now (b .entry)) k (now (x .entry)) .answer ⌝ }
+    ensures { λ _. ⌜ now (x .exit) ≡ solving Pass.TransposedLower (now (t .entry)) n (now (b .entry)) k (now (x .entry)) .left ⌝ }
 {
     solve_by(Pass::TransposedLower, t, n, b, k, x)
 }
 
 // The upper triangle of t, transposed.
 pub fn tr_solve_upper_triangular(t: &[f64], n: usize, b: &[f64], k: usize, x: &mut [f64]) -> Answer
-    ensures { λ r. ⌜ answered r ≡ solving Pass.TransposedUpper n k (now (t .entry)) (now (b .entry)) (now (x .entry)) .answer ⌝ }
-    ensures { λ _. ⌜ now (x .exit) ≡ solving Pass.TransposedUpper n k (now (t .entry)) (now (b .entry)) (now (x .entry)) .left ⌝ }
+    ensures { λ r. ⌜ answered r ≡ solving Pass.TransposedUpper (now (t .entry)) n (now (b .entry)) k (now (x .entry)) .answer ⌝ }
+    ensures { λ _. ⌜ now (x .exit) ≡ solving Pass.TransposedUpper (now (t .entry)) n (now (b .entry)) k (now (x .entry)) .left ⌝ }
 {
     solve_by(Pass::TransposedUpper, t, n, b, k, x)
 }

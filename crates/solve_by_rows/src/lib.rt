@@ -19,7 +19,7 @@ fn row_of(upward: bool, n: usize, k: usize) -> usize
 
 // The rows r on of b, as many as v has, each with the products of that many turns, into v.
 fn row_sums(upward: bool, t: &[f64], n: usize, b: &[f64], r: usize, turns: usize, v: &mut [f64])
-    requires { ⌜ (isMatrix n n (now t) ≡ true) × (length (now b) ≡ n) × (r + length (now v) ≤ n) × (turns ≤ n) ⌝ }
+    requires { ⌜ (isMatrix (now t) n n ≡ true) × (length (now b) ≡ n) × (r + length (now v) ≤ n) × (turns ≤ n) ⌝ }
     ensures { λ _. ⌜ now (v .exit) ≡ rowSums upward n (columns n n (now (t .entry))) (now (b .entry)) r turns (length (now (v .entry))) ⌝ }
 {
     let e = r + v.len();
@@ -37,7 +37,7 @@ fn row_sums(upward: bool, t: &[f64], n: usize, b: &[f64], r: usize, turns: usize
 
 // The rows r on, which v holds with the products of the turns before them, solved by each other downward.
 fn within_down(t: &[f64], n: usize, r: usize, v: &mut [f64])
-    requires { ⌜ (isMatrix n n (now t) ≡ true) × (r + length (now v) ≤ n) ⌝ }
+    requires { ⌜ (isMatrix (now t) n n ≡ true) × (r + length (now v) ≤ n) ⌝ }
     ensures { λ _. ⌜ now (v .exit) ≡ solvedWithin false (columns n n (now (t .entry))) r (now (v .entry)) ⌝ }
 {
     let e = r + v.len();
@@ -54,7 +54,7 @@ fn within_down(t: &[f64], n: usize, r: usize, v: &mut [f64])
 
 // The same upward.
 fn within_up(t: &[f64], n: usize, r: usize, v: &mut [f64])
-    requires { ⌜ (isMatrix n n (now t) ≡ true) × (r + length (now v) ≤ n) ⌝ }
+    requires { ⌜ (isMatrix (now t) n n ≡ true) × (r + length (now v) ≤ n) ⌝ }
     ensures { λ _. ⌜ now (v .exit) ≡ solvedWithin true (columns n n (now (t .entry))) r (now (v .entry)) ⌝ }
 {
     let w = v.len();
@@ -72,7 +72,7 @@ fn within_up(t: &[f64], n: usize, r: usize, v: &mut [f64])
 
 // The turns k on, as many as v has room for, downward. What v holds does not count.
 fn block_down(t: &[f64], n: usize, b: &mut [f64], k: usize, v: &mut [f64])
-    requires { ⌜ (isMatrix n n (now t) ≡ true) × (length (now b) ≡ n) × (k + length (now v) ≤ n) ⌝ }
+    requires { ⌜ (isMatrix (now t) n n ≡ true) × (length (now b) ≡ n) × (k + length (now v) ≤ n) ⌝ }
     ensures { λ _. ⌜ now (b .exit) ≡ turnsFrom (rowDone false n (columns n n (now (t .entry)))) k (length (now (v .entry))) (now (b .entry)) ⌝ }
 {
     let e = k + v.len();
@@ -83,7 +83,7 @@ fn block_down(t: &[f64], n: usize, b: &mut [f64], k: usize, v: &mut [f64])
 
 // The same upward.
 fn block_up(t: &[f64], n: usize, b: &mut [f64], k: usize, v: &mut [f64])
-    requires { ⌜ (isMatrix n n (now t) ≡ true) × (length (now b) ≡ n) × (k + length (now v) ≤ n) ⌝ }
+    requires { ⌜ (isMatrix (now t) n n ≡ true) × (length (now b) ≡ n) × (k + length (now v) ≤ n) ⌝ }
     ensures { λ _. ⌜ now (b .exit) ≡ turnsFrom (rowDone true n (columns n n (now (t .entry)))) k (length (now (v .entry))) (now (b .entry)) ⌝ }
 {
     let e = n - k;
@@ -95,7 +95,7 @@ fn block_up(t: &[f64], n: usize, b: &mut [f64], k: usize, v: &mut [f64])
 
 // Turn k.
 fn one_row(upward: bool, t: &[f64], n: usize, b: &mut [f64], k: usize)
-    requires { ⌜ (isMatrix n n (now t) ≡ true) × (length (now b) ≡ n) × (k < n) ⌝ }
+    requires { ⌜ (isMatrix (now t) n n ≡ true) × (length (now b) ≡ n) × (k < n) ⌝ }
     ensures { λ _. ⌜ now (b .exit) ≡ turnsFrom (rowDone upward n (columns n n (now (t .entry)))) k 1 (now (b .entry)) ⌝ }
 {
     let mut v = [0.0f64; 1];
@@ -108,7 +108,7 @@ fn one_row(upward: bool, t: &[f64], n: usize, b: &mut [f64], k: usize)
 
 // The turns k to k + 3.
 fn four_rows(upward: bool, t: &[f64], n: usize, b: &mut [f64], k: usize)
-    requires { ⌜ (isMatrix n n (now t) ≡ true) × (length (now b) ≡ n) × (k + 4 ≤ n) ⌝ }
+    requires { ⌜ (isMatrix (now t) n n ≡ true) × (length (now b) ≡ n) × (k + 4 ≤ n) ⌝ }
     ensures { λ _. ⌜ now (b .exit) ≡ turnsFrom (rowDone upward n (columns n n (now (t .entry)))) k 4 (now (b .entry)) ⌝ }
 {
     let mut v = [0.0f64; 4];
@@ -121,7 +121,7 @@ fn four_rows(upward: bool, t: &[f64], n: usize, b: &mut [f64], k: usize)
 
 // The turns k to k + 7.
 fn eight_rows(upward: bool, t: &[f64], n: usize, b: &mut [f64], k: usize)
-    requires { ⌜ (isMatrix n n (now t) ≡ true) × (length (now b) ≡ n) × (k + 8 ≤ n) ⌝ }
+    requires { ⌜ (isMatrix (now t) n n ≡ true) × (length (now b) ≡ n) × (k + 8 ≤ n) ⌝ }
     ensures { λ _. ⌜ now (b .exit) ≡ turnsFrom (rowDone upward n (columns n n (now (t .entry)))) k 8 (now (b .entry)) ⌝ }
 {
     let mut v = [0.0f64; 8];
@@ -135,7 +135,7 @@ fn eight_rows(upward: bool, t: &[f64], n: usize, b: &mut [f64], k: usize)
 // The first turns, one by one, until what is left is whole fours: here a row has few products to take. Answers the next turn: those from there on
 // give the rest.
 fn single_rows(upward: bool, t: &[f64], n: usize, b: &mut [f64]) -> usize
-    requires { ⌜ (isMatrix n n (now t) ≡ true) × (length (now b) ≡ n) ⌝ }
+    requires { ⌜ (isMatrix (now t) n n ≡ true) × (length (now b) ≡ n) ⌝ }
     ensures { λ k. ⌜ (k ≤ n) × ((n - k) % 4 ≡ 0) ⌝ }
     ensures { λ k. ⌜ rowsFrom upward n (now (t .entry)) k (now (b .exit)) ≡ allRows upward n (now (t .entry)) (now (b .entry)) ⌝ }
 {
@@ -149,7 +149,7 @@ fn single_rows(upward: bool, t: &[f64], n: usize, b: &mut [f64]) -> usize
 
 // The turns from `from` on, four at a time, until what is left is whole eights. Answers the next turn in the same way.
 fn rows_by_four(upward: bool, t: &[f64], n: usize, b: &mut [f64], from: usize) -> usize
-    requires { ⌜ (isMatrix n n (now t) ≡ true) × (length (now b) ≡ n) × (from ≤ n) × ((n - from) % 4 ≡ 0) ⌝ }
+    requires { ⌜ (isMatrix (now t) n n ≡ true) × (length (now b) ≡ n) × (from ≤ n) × ((n - from) % 4 ≡ 0) ⌝ }
     ensures { λ k. ⌜ (k ≤ n) × ((n - k) % 8 ≡ 0) ⌝ }
     ensures { λ k. ⌜ rowsFrom upward n (now (t .entry)) k (now (b .exit)) ≡ rowsFrom upward n (now (t .entry)) from (now (b .entry)) ⌝ }
 {
@@ -163,7 +163,7 @@ fn rows_by_four(upward: bool, t: &[f64], n: usize, b: &mut [f64], from: usize) -
 
 // The turns from `from` on, eight at a time.
 fn rows_by_eight(upward: bool, t: &[f64], n: usize, b: &mut [f64], from: usize)
-    requires { ⌜ (isMatrix n n (now t) ≡ true) × (length (now b) ≡ n) × (from ≤ n) × ((n - from) % 8 ≡ 0) ⌝ }
+    requires { ⌜ (isMatrix (now t) n n ≡ true) × (length (now b) ≡ n) × (from ≤ n) × ((n - from) % 8 ≡ 0) ⌝ }
     ensures { λ _. ⌜ now (b .exit) ≡ rowsFrom upward n (now (t .entry)) from (now (b .entry)) ⌝ }
 {
     let mut k = from;
@@ -175,7 +175,7 @@ fn rows_by_eight(upward: bool, t: &[f64], n: usize, b: &mut [f64], from: usize)
 
 // Solves one right-hand column in place.
 fn solve_column(upward: bool, t: &[f64], n: usize, b: &mut [f64])
-    requires { ⌜ (isMatrix n n (now t) ≡ true) × (length (now b) ≡ n) ⌝ }
+    requires { ⌜ (isMatrix (now t) n n ≡ true) × (length (now b) ≡ n) ⌝ }
     ensures { λ _. ⌜ now (b .exit) ≡ solvedColumn (passOf upward) n (columns n n (now (t .entry))) (now (b .entry)) ⌝ }
 {
     let after_singles = single_rows(upward, t, n, b);
@@ -186,7 +186,7 @@ fn solve_column(upward: bool, t: &[f64], n: usize, b: &mut [f64])
 // Solves the k right-hand columns in b in place by the n by n matrix t: by its upper triangle, or by its lower one with ones on the diagonal. Where a slice
 // holds no such matrix, b stays as it was.
 pub fn solve_in_place(upward: bool, t: &[f64], n: usize, b: &mut [f64], k: usize)
-    ensures { λ _. ⌜ now (b .exit) ≡ solvedInPlace (passOf upward) n k (now (t .entry)) (now (b .entry)) ⌝ }
+    ensures { λ _. ⌜ now (b .exit) ≡ solvedInPlace (passOf upward) (now (t .entry)) n (now (b .entry)) k ⌝ }
 {
     if !store::is_matrix(t, n, n) {
         return;

@@ -24,7 +24,7 @@ pub record Sized {A : Type 0} (m n : ℕ) (s : List A) : Type 0 where
   pub columns-most : n ≤ 64
   pub size : length s ≡ n * m
 
-pub sized : {A : Type 0} (m n : ℕ) (s : List A) → isMatrix m n s ≡ true → Sized m n s
+pub sized : {A : Type 0} (m n : ℕ) (s : List A) → isMatrix s m n ≡ true → Sized m n s
 unfolding isMatrix
 sized m n s h =
     let most = and-first (leb m 64 && leb n 64) (eqb (length s) (n * m)) h in
@@ -34,12 +34,12 @@ sized m n s h =
       size = eqb-true (length s) (n * m) (and-second (leb m 64 && leb n 64) (eqb (length s) (n * m)) h);
     }
 
-pub is-matrix : {A : Type 0} (m n : ℕ) (s : List A) → m ≤ 64 → n ≤ 64 → length s ≡ n * m → isMatrix m n s ≡ true
+pub is-matrix : {A : Type 0} (m n : ℕ) (s : List A) → m ≤ 64 → n ≤ 64 → length s ≡ n * m → isMatrix s m n ≡ true
 unfolding isMatrix
 is-matrix m n s hm hn len = rw (le-leb m 64 hm, le-leb n 64 hn, eq-eqb (length s) (n * m) len)
 
 -- the test goes by the length alone
-pub same-matrix : {A : Type 0} (m n : ℕ) (s t : List A) → length t ≡ length s → isMatrix m n t ≡ isMatrix m n s
+pub same-matrix : {A : Type 0} (m n : ℕ) (s t : List A) → length t ≡ length s → isMatrix t m n ≡ isMatrix s m n
 unfolding isMatrix
 same-matrix m n s t e = rw e
 
@@ -216,26 +216,26 @@ module _ {A : Type 0} where
 -- ---- a call that works on columns
 module _ {A : Type 0} (m n : ℕ) (f : List (List A) → List (List A)) (s : List A) where
   -- a slice that is no matrix stays
-  pub on-none : isMatrix m n s ≡ false → s ≡ onColumns m n f s
+  pub on-none : isMatrix s m n ≡ false → s ≡ onColumns m n f s
   unfolding onColumns
   on-none h = rw h
 
-  pub on-flat : isMatrix m n s ≡ true → onColumns m n f s ≡ flat (f (columns m n s))
+  pub on-flat : isMatrix s m n ≡ true → onColumns m n f s ≡ flat (f (columns m n s))
   unfolding onColumns
   on-flat h = rw h
 
   -- the work was done on the columns
-  pub on-done : (t : List A) → isMatrix m n s ≡ true → length t ≡ length s → columns m n t ≡ f (columns m n s) → t ≡ onColumns m n f s
+  pub on-done : (t : List A) → isMatrix s m n ≡ true → length t ≡ length s → columns m n t ≡ f (columns m n s) → t ≡ onColumns m n f s
   on-done t h len e =
       sym (flat-columns m n t (len ∙ sized m n s h .size)) ∙ ap flat e ∙ sym (on-flat h)
 
   -- only what is made of these columns counts
   pub on-same : (g : List (List A) → List (List A)) → f (columns m n s) ≡ g (columns m n s) → onColumns m n f s ≡ onColumns m n g s
   unfolding onColumns
-  on-same g e = ap (λ (cs : List (List A)). cond (isMatrix m n s) (flat cs) s) e
+  on-same g e = ap (λ (cs : List (List A)). cond (isMatrix s m n) (flat cs) s) e
 
   -- what a caller learns of the columns
-  pub on-columns : isMatrix m n s ≡ true → length (f (columns m n s)) ≡ n → HasRows m (f (columns m n s)) → columns m n (onColumns m n f s) ≡ f (columns m n s)
+  pub on-columns : isMatrix s m n ≡ true → length (f (columns m n s)) ≡ n → HasRows m (f (columns m n s)) → columns m n (onColumns m n f s) ≡ f (columns m n s)
   on-columns h len rows =
       ap (columns m n) (on-flat h) ∙ ap (λ (k : ℕ). columns m k (flat (f (columns m n s)))) (sym len) ∙ columns-flat m (f (columns m n s)) rows
 

@@ -146,7 +146,7 @@ eliminated-no-row i m cs h rows =
     ∙ axpy-none (i + 1) (neg (entry (column cs j) i)) l (column cs j) (rw (rows j hj) (omega arith)))))
 
 -- past the last column there is none to the right, and past the last row none below
-pub eliminated-past : (i m n : ℕ) (s : List Float) → isMatrix m n s ≡ true → min m n ≤ i → columns m n s ≡ eliminated i (columns m n s)
+pub eliminated-past : (i m n : ℕ) (s : List Float) → isMatrix s m n ≡ true → min m n ≤ i → columns m n s ≡ eliminated i (columns m n s)
 unfolding eliminated stepColumns
 eliminated-past i m n s fits h =
     test-cases (ltb i n)

@@ -113,7 +113,7 @@ pub within-no-column : (i j m n : ℕ) (s : List Float) → n ≤ j
     → columns m n s ≡ set (columns m n s) j (stepColumn i (column (columns m n s) i) (column (columns m n s) j))
 within-no-column i j m n s h = sym (set-out (columns m n s) j _ (rw length-columns h))
 
-module _ (i j m n : ℕ) (s : List Float) (fits : isMatrix m n s ≡ true) (hj : j < n) where
+module _ (i j m n : ℕ) (s : List Float) (fits : isMatrix s m n ≡ true) (hj : j < n) where
   full : (k : ℕ) → k < n → length (column (columns m n s) k) ≡ m
   full k h = columns-rows m n s (sized m n s fits .size) k (rw length-columns h)
 

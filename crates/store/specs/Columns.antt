@@ -22,9 +22,9 @@ abbrev pub HasRows : {A : Type 0} → ℕ → List (List A) → Type 0
 HasRows m cs = (j : ℕ) → j < length cs → length (getD cs j []) ≡ m
 
 -- the slice holds n columns of m entries each, and neither number passes 64
-unfoldable pub isMatrix : {A : Type 0} → ℕ → ℕ → List A → Bool
-isMatrix m n s = leb m 64 && leb n 64 && eqb (length s) (n * m)
+unfoldable pub isMatrix : {A : Type 0} → List A → ℕ → ℕ → Bool
+isMatrix s m n = leb m 64 && leb n 64 && eqb (length s) (n * m)
 
 -- what f makes of the columns of an m by n matrix; a slice that is none stays as it was
 unfoldable pub onColumns : {A : Type 0} → ℕ → ℕ → (List (List A) → List (List A)) → List A → List A
-onColumns m n f s = cond (isMatrix m n s) (flat (f (columns m n s))) s
+onColumns m n f s = cond (isMatrix s m n) (flat (f (columns m n s))) s

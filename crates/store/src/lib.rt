@@ -18,7 +18,7 @@ pub fn min(a: usize, b: usize) -> usize
 
 // Whether s holds n columns of m entries each, neither number past 64.
 pub fn is_matrix(s: &[f64], m: usize, n: usize) -> bool
-    ensures { λ r. ⌜ r ≡ isMatrix m n (now (s .entry)) ⌝ }
+    ensures { λ r. ⌜ r ≡ isMatrix (now (s .entry)) m n ⌝ }
 {
     if 64 < m {
         return false;
@@ -102,7 +102,7 @@ fn step_entry(c: &mut [f64], k: usize, p: f64)
 // Step i on column j, by column i of the same store: each entry below row i takes minus the entry of row i, the one number copied, times its multiplier.
 // Column j is handed on as its own part of the store, to be written there.
 fn step_inner(s: &mut [f64], m: usize, n: usize, i: usize, j: usize)
-    requires { ⌜ (isMatrix m n (now s) ≡ true) × (i < m) × (i < n) × (j < n) ⌝ }
+    requires { ⌜ (isMatrix (now s) m n ≡ true) × (i < m) × (i < n) × (j < n) ⌝ }
     ensures { λ _. ⌜ columns m n (now (s .exit)) ≡ steppedIn i j (columns m n (now (s .entry))) ⌝ }
 {
     let a = i * m;

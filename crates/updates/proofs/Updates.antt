@@ -36,7 +36,7 @@ module _ (m n i j : ℕ) (s : Column) (hi : i < j) (hj : j < n) (hm : i < m) whe
       rw zero-there (sym (set-getD cs j []))
 
   -- the column is stepped within the store
-  pub update-done : (d : Float) (t : Column) → d ≡ getD s (i * m + i) nan → isZero d ≡ false → isMatrix m n s ≡ true
+  pub update-done : (d : Float) (t : Column) → d ≡ getD s (i * m + i) nan → isZero d ≡ false → isMatrix s m n ≡ true
       → t ≡ onColumns m n (λ cs. set cs j (stepColumn i (column cs i) (column cs j))) s → columns m n t ≡ updatedAt j i (columns m n s)
   unfolding updatedAt update
   update-done d t is z fits made =
@@ -128,14 +128,14 @@ module _ (i : ℕ) (cs : Matrix) (ok : live i cs ≡ true) where
       ∙ ap (stepBy cs (i + 3)) (made (i + 2) _ (alive .2) ∙ ap (stepBy cs (i + 2)) (made (i + 1) _ (alive .1) ∙ ap (stepBy cs (i + 1)) (made i c (alive .0))))
 
 -- by the call of four steps
-pub four-done : (m n i from : ℕ) (s : Column) → isMatrix m n s ≡ true → i + 4 ≤ m → i + 4 ≤ from → (t : Column) → live i (columns m n s) ≡ true
+pub four-done : (m n i from : ℕ) (s : Column) → isMatrix s m n ≡ true → i + 4 ≤ m → i + 4 ≤ from → (t : Column) → live i (columns m n s) ≡ true
     → t ≡ onColumns m n (fourStepped m i from) s → columns m n t ≡ afterPanel i 4 from (columns m n s)
 unfolding afterPanel
 four-done m n i from s fits hm hf t ok made =
     stepped-columns i from m n s t fits hm hf made ∙ each-same _ _ from (columns m n s) (λ j c h l. sym (live-four i (columns m n s) ok c))
 
 -- on one column alone
-pub four-done-on : (m n i j : ℕ) (s : Column) → isMatrix m n s ≡ true → i + 4 ≤ m → i + 4 ≤ j → j < n → (t : Column) → live i (columns m n s) ≡ true
+pub four-done-on : (m n i j : ℕ) (s : Column) → isMatrix s m n ≡ true → i + 4 ≤ m → i + 4 ≤ j → j < n → (t : Column) → live i (columns m n s) ≡ true
     → t ≡ onColumns m n (fourSteppedOn m i j) s → columns m n t ≡ turnsFrom (updatedAt j) i 4 (columns m n s)
 four-done-on m n i j s fits hm right hj t ok made =
     let cs = columns m n s in
@@ -193,7 +193,7 @@ module _ (m n i to from : ℕ) (s : Column) where
   none-updated h (inr behind) = sym (updated-is h ∙ each-stop _ from cs (omega (arith, length-columns m n s)))
 
   -- what a caller knows of the columns then
-  pub updated-columns : (t : Column) → isMatrix m n s ≡ true → to ≤ m → to ≤ from → t ≡ onColumns m n (updatedFrom m i to from) s
+  pub updated-columns : (t : Column) → isMatrix s m n ≡ true → to ≤ m → to ≤ from → t ≡ onColumns m n (updatedFrom m i to from) s
       → columns m n t ≡ afterPanel i (to - i) from cs
   unfolding afterPanel
   updated-columns t fits hm hf made =
@@ -206,7 +206,7 @@ module _ (m n i to from : ℕ) (s : Column) where
       ∙ is
 
 -- the last column of m by n + 1
-pub last-columns : (m n : ℕ) (s t : Column) → isMatrix m (n + 1) s ≡ true → t ≡ onColumns m (n + 1) (updatedFrom m 0 (min m n) n) s
+pub last-columns : (m n : ℕ) (s t : Column) → isMatrix s m (n + 1) ≡ true → t ≡ onColumns m (n + 1) (updatedFrom m 0 (min m n) n) s
     → columns m (n + 1) t ≡ turnsFrom (updatedAt n) 0 (min m n) (columns m (n + 1) s)
 last-columns m n s t fits made =
     let cs = columns m (n + 1) s in
@@ -215,7 +215,7 @@ last-columns m n s t fits made =
     ∙ ap (λ (k : ℕ). afterPanel 0 k n cs) all
     ∙ panel-last 0 (min m n) n cs (length-columns m (n + 1) s) (omega arith)
 
-pub last-made : (m n : ℕ) (s t : Column) → isMatrix m (n + 1) s ≡ true → length t ≡ length s
+pub last-made : (m n : ℕ) (s t : Column) → isMatrix s m (n + 1) ≡ true → length t ≡ length s
     → columns m (n + 1) t ≡ turnsFrom (updatedAt n) 0 (min m n) (columns m (n + 1) s) → t ≡ onColumns m (n + 1) (updatedFrom m 0 (min m n) n) s
 last-made m n s t fits kept made =
     let cs = columns m (n + 1) s in

@@ -8,7 +8,7 @@ ghost use Rattle.updates.specs.Updates.{updatedAt, live, afterPanel, upd
 
 // Step 5 on column j by column i left of it; nothing where the packed diagonal is zero.
 fn update_by(s: &mut [f64], m: usize, n: usize, i: usize, j: usize)
-    requires { ⌜ (isMatrix m n (now s) ≡ true) × (i < j) × (j < n) × (i < m) ⌝ }
+    requires { ⌜ (isMatrix (now s) m n ≡ true) × (i < j) × (j < n) × (i < m) ⌝ }
     ensures { λ _. ⌜ columns m n (now (s .exit)) ≡ updatedAt j i (columns m n (now (s .entry))) ⌝ }
 {
     let diag = s[i * m + i];
@@ -20,7 +20,7 @@ fn update_by(s: &mut [f64], m: usize, n: usize, i: usize, j: usize)
 
 // That by each column from `from` up to but not `to`, in turn.
 fn update_each(s: &mut [f64], m: usize, n: usize, from: usize, to: usize, j: usize)
-    requires { ⌜ (isMatrix m n (now s) ≡ true) × (from ≤ to) × (to ≤ j) × (j < n) × (to ≤ m) ⌝ }
+    requires { ⌜ (isMatrix (now s) m n ≡ true) × (from ≤ to) × (to ≤ j) × (j < n) × (to ≤ m) ⌝ }
     ensures { λ _. ⌜ columns m n (now (s .exit)) ≡ turnsFrom (updatedAt j) from (to - from) (columns m n (now (s .entry))) ⌝ }
 {
     let mut i = from;
@@ -32,7 +32,7 @@ fn update_each(s: &mut [f64], m: usize, n: usize, from: usize, to: usize, j: usi
 
 // Whether no step from i to i + 3 was skipped: no zero on their packed diagonal.
 fn are_live(s: &[f64], m: usize, n: usize, i: usize) -> bool
-    requires { ⌜ (isMatrix m n (now s) ≡ true) × (i + 4 ≤ m) × (i + 4 ≤ n) ⌝ }
+    requires { ⌜ (isMatrix (now s) m n ≡ true) × (i + 4 ≤ m) × (i + 4 ≤ n) ⌝ }
     ensures { λ r. ⌜ r ≡ live i (columns m n (now (s .entry))) ⌝ }
 {
     let i1 = i + 1;
@@ -45,7 +45,7 @@ fn are_live(s: &[f64], m: usize, n: usize, i: usize) -> bool
 
 // Step 5 on each column from `from` on by the columns from i up to but not `to`, which lie left of them, one by one.
 fn update_columns_each(s: &mut [f64], m: usize, n: usize, i: usize, to: usize, from: usize)
-    requires { ⌜ (isMatrix m n (now s) ≡ true) × (i ≤ to) × (to ≤ m) × (to ≤ from) × (from ≤ n) ⌝ }
+    requires { ⌜ (isMatrix (now s) m n ≡ true) × (i ≤ to) × (to ≤ m) × (to ≤ from) × (from ≤ n) ⌝ }
     ensures { λ _. ⌜ columns m n (now (s .exit)) ≡ afterPanel i (to - i) from (columns m n (now (s .entry))) ⌝ }
 {
     let mut j = from;
@@ -57,7 +57,7 @@ fn update_columns_each(s: &mut [f64], m: usize, n: usize, i: usize, to: usize, f
 
 // The same, at once where it is four steps and all were made.
 fn update_right(s: &mut [f64], m: usize, n: usize, i: usize, to: usize, from: usize)
-    requires { ⌜ (isMatrix m n (now s) ≡ true) × (i ≤ to) × (to ≤ m) × (to ≤ from) × (from ≤ n) ⌝ }
+    requires { ⌜ (isMatrix (now s) m n ≡ true) × (i ≤ to) × (to ≤ m) × (to ≤ from) × (from ≤ n) ⌝ }
     ensures { λ _. ⌜ columns m n (now (s .exit)) ≡ afterPanel i (to - i) from (columns m n (now (s .entry))) ⌝ }
 {
     if to - i == 4 {
@@ -72,7 +72,7 @@ fn update_right(s: &mut [f64], m: usize, n: usize, i: usize, to: usize, from: us
 // Step 5 on the last column, number n, by the columns from i up to but not `to`: at once where it is four steps and all were made, one by one where it is
 // fewer, else as for all columns to the right.
 fn update_new(s: &mut [f64], m: usize, n: usize, i: usize, to: usize)
-    requires { ⌜ (isMatrix m (n + 1) (now s) ≡ true) × (i ≤ to) × (to ≤ m) × (to ≤ n) ⌝ }
+    requires { ⌜ (isMatrix (now s) m (n + 1) ≡ true) × (i ≤ to) × (to ≤ m) × (to ≤ n) ⌝ }
     ensures { λ _. ⌜ columns m (n + 1) (now (s .exit)) ≡ turnsFrom (updatedAt n) i (to - i) (columns m (n + 1) (now (s .entry))) ⌝ }
 {
     let all = n + 1;
@@ -89,7 +89,7 @@ fn update_new(s: &mut [f64], m: usize, n: usize, i: usize, to: usize)
 
 // That by each column i below min(m, n), four at a time.
 fn update_all(s: &mut [f64], m: usize, n: usize)
-    requires { ⌜ isMatrix m (n + 1) (now s) ≡ true ⌝ }
+    requires { ⌜ isMatrix (now s) m (n + 1) ≡ true ⌝ }
     ensures { λ _. ⌜ columns m (n + 1) (now (s .exit)) ≡ turnsFrom (updatedAt n) 0 (min m n) (columns m (n + 1) (now (s .entry))) ⌝ }
 {
     let all = store::min(m, n);

@@ -95,7 +95,7 @@ module _ (pass : Pass) (n : ℕ) (cs : Matrix) (b₀ : Column) where
       turning-found row t is = sym (rw t at next) ∙ ap (λ (r : ℕ). some (storedAt pass 0 k r)) (sym is)
 
 -- a turn that can be taken
-pub turn-taken : (pass : Pass) (n k : ℕ) (t b c : Column) → isMatrix n n t ≡ true → length b ≡ n → k < turnsOf pass n → c ≡ turnedBy pass n k t b
+pub turn-taken : (pass : Pass) (n k : ℕ) (t b c : Column) → isMatrix t n n ≡ true → length b ≡ n → k < turnsOf pass n → c ≡ turnedBy pass t n b k
     → c ≡ turn pass n (columns n n t) k b
 unfolding turnedBy
 turn-taken pass n k t b c fits long h made = made ∙ (rw (fits, eq-eqb (length b) n long, lt-ltb k (turnsOf pass n) h))

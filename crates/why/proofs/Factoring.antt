@@ -1,5 +1,5 @@
--- The explanation of a factoring, from what `factor` answered: accepted and no result overflows; refused by its tests; or refused with 7, and then the matrix is
--- worked on once more. By the cases of the call. Assumes nothing.
+-- The explanation of a factoring, from what `factor` answered: accepted and no result overflows; refused by its tests; or refused with 7, and then the matrix
+-- is worked on once more. By the cases of the call. Assumes nothing.
 use mathlib.Core.Path.{_≡_, refl, sym, ap, _∙_}
 use mathlib.Core.Bool.{true}
 use mathlib.Core.List.{List, []}
@@ -51,10 +51,10 @@ overflowed-none (some p) e = absurd (omega (arith, e))
 
 module _ (m n : ℕ) (a out : Column) (store : List ℕ) where
   abbrev refusal : ℕ
-  refusal = factoringRefusal m n a out store
+  refusal = factoringRefusal a m n out store
 
   abbrev answer : Outcome Record
-  answer = factoring m n a out store .answer
+  answer = factoring a m n out store .answer
 
   -- ---- past the tests
   module _ (none-before : refusal ≡ 0) where
@@ -64,12 +64,12 @@ module _ (m n : ℕ) (a out : Column) (store : List ℕ) where
     pub results-first : firstOverflow (factoringResults m (columns m n a)) ≡ firstReason m (columns m n a)
     results-first = results-reason m (columns m n a) (shape m n a out store none-before) whole-finite
 
-    explained-by : explainFactoring m n a out store ≡ overflowed (firstOverflow (factoringResults m (columns m n a)))
+    explained-by : explainFactoring a m n out store ≡ overflowed (firstOverflow (factoringResults m (columns m n a)))
     unfolding explainFactoring
     explained-by = tested-none refusal toldNumber _ none-before
 
     -- the number that is told is the call's own
-    told-number : explainFactoring m n a out store .number ≡ numberOf answer
+    told-number : explainFactoring a m n out store .number ≡ numberOf answer
     unfolding overflowed
     told-number =
         ap (λ (t : Told Place). t .number) (explained-by ∙ ap overflowed results-first)
@@ -77,17 +77,17 @@ module _ (m n : ℕ) (a out : Column) (store : List ℕ) where
 
   -- refused by the tests
   module _ (some-before : refusal ≡ 0 → ⊥) where
-    pub explained-refused : explainFactoring m n a out store ≡ toldNumber refusal
+    pub explained-refused : explainFactoring a m n out store ≡ toldNumber refusal
     unfolding explainFactoring
     explained-refused = tested-some refusal toldNumber _ some-before
 
-    refused-is : factoring m n a out store ≡ leaving (slices out store) refusal
+    refused-is : factoring a m n out store ≡ leaving (slices out store) refusal
     unfolding factoring
     refused-is = tested-some refusal (leaving (slices out store)) _ some-before
 
-  -- THEOREM. The explanation has the number of the call that it explains: so there is no reason exactly where that is accepted, and bad input is answered by the
-  -- same number as there.
-  pub same-number : explainFactoring m n a out store .number ≡ numberOf answer
+  -- THEOREM. The explanation has the number of the call that it explains: so there is no reason exactly where that is accepted, and bad input is answered by
+  -- the same number as there.
+  pub same-number : explainFactoring a m n out store .number ≡ numberOf answer
   unfolding numberOf
   same-number =
       test-cases (eqb refusal 0) (λ t. told-number (eqb-true refusal 0 t))
@@ -96,22 +96,22 @@ module _ (m n : ℕ) (a out : Column) (store : List ℕ) where
       ap (λ (x : Told Place). x .number) (explained-refused ne) ∙ sym (ap (λ (o : Factoring). numberOf (o .answer)) (refused-is ne)))
 
   -- a place is told past the tests alone
-  told-past : (p : Place) → explainFactoring m n a out store .place ≡ some p → refusal ≡ 0
+  told-past : (p : Place) → explainFactoring a m n out store .place ≡ some p → refusal ≡ 0
   told-past p e =
       test-cases (eqb refusal 0) (eqb-true refusal 0)
       (λ t. absurd
       (let none-told : none ≡ some p = sym (ap (λ (x : Told Place). x .place) (explained-refused (eqb-false refusal 0 t))) ∙ e in
       let z : _≡_ {A = ℕ} 0 1 = cc in omega arith))
 
-  first-told : (p : Place) → explainFactoring m n a out store .place ≡ some p → firstOverflow (factoringResults m (columns m n a)) ≡ some p
+  first-told : (p : Place) → explainFactoring a m n out store .place ≡ some p → firstOverflow (factoringResults m (columns m n a)) ≡ some p
   first-told p e = sym (overflowed-place _) ∙ sym (ap (λ (x : Told Place). x .place) (explained-by (told-past p e))) ∙ e
 
   -- THEOREM. The place that is told is that of a stored result that is not finite, and every result stored before it is.
-  pub named-first : (p : Place) → explainFactoring m n a out store .place ≡ some p → First (factoringResults m (columns m n a)) p
+  pub named-first : (p : Place) → explainFactoring a m n out store .place ≡ some p → First (factoringResults m (columns m n a)) p
   named-first p e = first-named _ p (first-told p e)
 
   -- THEOREM. It is a place of the matrix, and a step of its elimination.
-  pub place-within : (p : Place) → explainFactoring m n a out store .place ≡ some p → (p .step < min m n) × (p .column < n) × (p .row < m)
+  pub place-within : (p : Place) → explainFactoring a m n out store .place ≡ some p → (p .step < min m n) × (p .column < n) × (p .row < m)
   place-within p e =
       let none-before = told-past p e in
       let cs = columns m n a in
@@ -126,20 +126,20 @@ module _ (m n : ℕ) (a out : Column) (store : List ℕ) where
   -- ---- from what the call gives
   abbrev pub Promise : WhyFactor → Column → List ℕ → Type 0
   Promise r f s =
-      (toldFactor r ≡ explainFactoring m n a out store)
-      × ((f ≡ factoring m n a out store .left .factors) × (s ≡ factoring m n a out store .left .store))
+      (toldFactor r ≡ explainFactoring a m n out store)
+      × ((f ≡ factoring a m n out store .left .factors) × (s ≡ factoring a m n out store .left .store))
 
-  module _ (made : Factored) (e : factored made ≡ factoringAnswer m n a out store) where
+  module _ (made : Factored) (e : factored made ≡ factoringAnswer a m n out store) where
     -- accepted
-    pub no-reason : (told : Record) (own : ℕ) → made ≡ Factors told own → toldFactor NoReason ≡ explainFactoring m n a out store
+    pub no-reason : (told : Record) (own : ℕ) → made ≡ Factors told own → toldFactor NoReason ≡ explainFactoring a m n out store
     unfolding factored factoringAnswer toldFactor numberOf
     no-reason told own is =
         let accepted : answer ≡ done told = told-accepted _ answer told own (sym (ap factored is) ∙ e) .0 in
         let none-before = no-refusal m n a out store (ap numberOf accepted) in
-        let zero : explainFactoring m n a out store .number ≡ 0 = same-number ∙ ap numberOf accepted in
+        let zero : explainFactoring a m n out store .number ≡ 0 = same-number ∙ ap numberOf accepted in
         sym (told-none none-before zero)
       where
-        told-none : refusal ≡ 0 → explainFactoring m n a out store .number ≡ 0 → explainFactoring m n a out store ≡ toldNumber 0
+        told-none : refusal ≡ 0 → explainFactoring a m n out store .number ≡ 0 → explainFactoring a m n out store ≡ toldNumber 0
         told-none h z =
             let by = explained-by h in
             by ∙ overflowed-none _ (sym (ap (λ (x : Told Place). x .number) by) ∙ z)
@@ -164,7 +164,7 @@ module _ (m n : ℕ) (a out : Column) (store : List ℕ) where
           never-both _ number (sym (ap (λ (o : Factoring). o .answer) (accepted .0)) ∙ refused-answer))
           (λ t. sym number-is ∙ settles ∙ (rw t))
 
-      pub bad-input : (number ≡ 7 → ⊥) → toldFactor (Refused number) ≡ explainFactoring m n a out store
+      pub bad-input : (number ≡ 7 → ⊥) → toldFactor (Refused number) ≡ explainFactoring a m n out store
       unfolding toldFactor numberOf
       bad-input ne =
           test-cases (eqb refusal 0)
@@ -182,7 +182,7 @@ module _ (m n : ℕ) (a out : Column) (store : List ℕ) where
           (λ t.
           let some-before = eqb-false refusal 0 t in
           let is-seven : refusal ≡ 7 = sym (ap (λ (o : Factoring). numberOf (o .answer)) (refused-is some-before)) ∙ number-is ∙ seven in
-          absurd (first-among (λ k. k ≡ 7 → ⊥) (factoringTests m n a out store) (λ z. omega (arith, z))
+          absurd (first-among (λ k. k ≡ 7 → ⊥) (factoringTests a m n out store) (λ z. omega (arith, z))
           (λ z. omega (arith, z), (λ z. omega (arith, z), (λ z. omega (arith, z), tt))) is-seven))
 
       -- then `factor` left zeros; the matrix is copied over them, its overflow is looked for, and the slice is zeroed again
@@ -190,7 +190,7 @@ module _ (m n : ℕ) (a out : Column) (store : List ℕ) where
         its : Passed m n a out store
         its = passed m n a out store (past-tests seven)
 
-        left-zeros : factoring m n a out store .left .factors ≡ zeros (n * m)
+        left-zeros : factoring a m n out store .left .factors ≡ zeros (n * m)
         unfolding factoring settled
         left-zeros =
             let none-before = past-tests seven in
@@ -204,14 +204,14 @@ module _ (m n : ℕ) (a out : Column) (store : List ℕ) where
           copy-is : t ≡ a
           copy-is = copy ∙ copied-whole a out' (sized m n a (its .matrix) .size ∙ sym (kept ∙ sized m n out (its .slice) .size))
 
-          pub copy-ready : (isMatrix m n t ≡ true) × (allFinite t ≡ true)
-          copy-ready = (ap (isMatrix m n) copy-is ∙ its .matrix, ap allFinite copy-is ∙ its .numbers)
+          pub copy-ready : (isMatrix t m n ≡ true) × (allFinite t ≡ true)
+          copy-ready = (ap (λ (s : Column). isMatrix s m n) copy-is ∙ its .matrix, ap allFinite copy-is ∙ its .numbers)
 
           pub overflow-told : (r : WhyFactor) → toldFactor r ≡ overflowed (firstOverflow (factoringResults m (columns m n t)))
-              → toldFactor r ≡ explainFactoring m n a out store
+              → toldFactor r ≡ explainFactoring a m n out store
           overflow-told r told =
               told ∙ ap (λ (x : Column). overflowed (firstOverflow (factoringResults m (columns m n x)))) copy-is ∙ sym (explained-by (past-tests seven))
 
-          pub zeroed-again : (k : ℕ) (v : Column) → k ≡ length t → v ≡ zeros k → v ≡ factoring m n a out store .left .factors
+          pub zeroed-again : (k : ℕ) (v : Column) → k ≡ length t → v ≡ zeros k → v ≡ factoring a m n out store .left .factors
           zeroed-again k v long made =
               made ∙ ap zeros (long ∙ ap length copy-is ∙ sized m n a (its .matrix) .size) ∙ sym left-zeros

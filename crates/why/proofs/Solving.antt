@@ -1,5 +1,5 @@
--- The explanation of a solve: what its two passes store, by the reason that stands in from_factors/specs/Reason; and from what `solve` answered: accepted and no
--- result overflows; refused by its tests; or refused with 7, and then the sides are worked on once more. By the cases of the call. Assumes nothing.
+-- The explanation of a solve: what its two passes store, by the reason that stands in from_factors/specs/Reason; and from what `solve` answered: accepted and
+-- no result overflows; refused by its tests; or refused with 7, and then the sides are worked on once more. By the cases of the call. Assumes nothing.
 use mathlib.Core.Path.{_≡_, refl, sym, ap, _∙_}
 use mathlib.Core.Bool.{true, false, cond}
 use mathlib.Core.List.{List, [], _++_}

@@ -59,19 +59,19 @@ module _ (r : Record) (factors : Column) (store : List ℕ) (k : ℕ) (b x : Col
   n = r .rows
 
   abbrev refusal : ℕ
-  refusal = heldRefusal factors store r (solveAsks n k b x)
+  refusal = heldRefusal factors store r (solveAsks b n k x)
 
   abbrev call : Call (Unit {0}) Column
-  call = solving r factors store k b x
+  call = solving factors store r b k x
 
   abbrev results : Option Spot
-  results = firstOverflow (resultsOf r factors store (columns n k b))
+  results = firstOverflow (resultsOf factors store r (columns n k b))
 
   -- ---- past the tests
   module _ (none-before : refusal ≡ 0) where
-    pub explained-by : explainSolving r factors store k b x ≡ overflowed results
+    pub explained-by : explainSolving factors store r b k x ≡ overflowed results
     unfolding explainSolving
-    explained-by = tested-none refusal (refusedSolving n factors) _ none-before
+    explained-by = tested-none refusal (refusedSolving factors n) _ none-before
 
     rows : HasRows n (columns n k b)
     rows = columns-rows n k b (sides-size r factors store k b x none-before)
@@ -83,7 +83,7 @@ module _ (r : Record) (factors : Column) (store : List ℕ) (k : ℕ) (b x : Col
     results-are : results ≡ Option·map spotOf (solveReason n (columns n n factors) (pairsOf (r .pairs) store) (columns n k b))
     results-are = results-solving n (columns n n factors) (pairsOf (r .pairs) store) (columns n k b) rows (sides-finite r factors store k b x none-before)
 
-    told-number : explainSolving r factors store k b x .number ≡ numberOf (call .answer)
+    told-number : explainSolving factors store r b k x .number ≡ numberOf (call .answer)
     unfolding overflowed
     told-number =
         let none-is = solve-none n (columns n n factors) (pairsOf (r .pairs) store) (columns n k b) rows (sides-finite r factors store k b x none-before) in
@@ -100,17 +100,17 @@ module _ (r : Record) (factors : Column) (store : List ℕ) (k : ℕ) (b x : Col
 
   -- ---- refused by the tests
   module _ (some-before : refusal ≡ 0 → ⊥) where
-    pub explained-refused : explainSolving r factors store k b x ≡ refusedSolving n factors refusal
+    pub explained-refused : explainSolving factors store r b k x ≡ refusedSolving factors n refusal
     unfolding explainSolving
-    explained-refused = tested-some refusal (refusedSolving n factors) _ some-before
+    explained-refused = tested-some refusal (refusedSolving factors n) _ some-before
 
     refused-is : call ≡ leaving x refusal
     unfolding solving
     refused-is = tested-some refusal (leaving x) _ some-before
 
-  -- THEOREM. The explanation has the number of the call that it explains: so there is no reason exactly where that is accepted, and bad input is answered by the
-  -- same number as there.
-  pub same-number : explainSolving r factors store k b x .number ≡ numberOf (call .answer)
+  -- THEOREM. The explanation has the number of the call that it explains: so there is no reason exactly where that is accepted, and bad input is answered by
+  -- the same number as there.
+  pub same-number : explainSolving factors store r b k x .number ≡ numberOf (call .answer)
   unfolding numberOf refusedSolving
   same-number =
       test-cases (eqb refusal 0) (λ t. told-number (eqb-true refusal 0 t))
@@ -119,7 +119,7 @@ module _ (r : Record) (factors : Column) (store : List ℕ) (k : ℕ) (b x : Col
       ap (λ (e : Told Spot). e .number) (explained-refused ne) ∙ sym (ap (λ (o : Call (Unit {0}) Column). numberOf (o .answer)) (refused-is ne)))
 
   -- a place is told past the tests alone
-  told-past : (p : Spot) → explainSolving r factors store k b x .place ≡ some p → refusal ≡ 0
+  told-past : (p : Spot) → explainSolving factors store r b k x .place ≡ some p → refusal ≡ 0
   unfolding refusedSolving
   told-past p e =
       test-cases (eqb refusal 0) (eqb-true refusal 0)
@@ -127,15 +127,15 @@ module _ (r : Record) (factors : Column) (store : List ℕ) (k : ℕ) (b x : Col
       (let none-told : none ≡ some p = sym (ap (λ (q : Told Spot). q .place) (explained-refused (eqb-false refusal 0 t))) ∙ e in
       let z : _≡_ {A = ℕ} 0 1 = cc in omega arith))
 
-  first-told : (p : Spot) → explainSolving r factors store k b x .place ≡ some p → results ≡ some p
+  first-told : (p : Spot) → explainSolving factors store r b k x .place ≡ some p → results ≡ some p
   first-told p e = sym (overflowed-place _) ∙ sym (ap (λ (q : Told Spot). q .place) (explained-by (told-past p e))) ∙ e
 
   -- THEOREM. The place that is told is that of a stored result that is not finite, and every result stored before it is.
-  pub named-first : (p : Spot) → explainSolving r factors store k b x .place ≡ some p → First (resultsOf r factors store (columns n k b)) p
+  pub named-first : (p : Spot) → explainSolving factors store r b k x .place ≡ some p → First (resultsOf factors store r (columns n k b)) p
   named-first p e = first-named _ p (first-told p e)
 
   -- THEOREM. It is a right-hand column and a row of the sides.
-  pub spot-within : (p : Spot) → explainSolving r factors store k b x .place ≡ some p → (p .column < k) × (p .row < n)
+  pub spot-within : (p : Spot) → explainSolving factors store r b k x .place ≡ some p → (p .column < k) × (p .row < n)
   unfolding solvedFrom
   spot-within p e =
       let h = told-past p e in
@@ -156,7 +156,7 @@ module _ (r : Record) (factors : Column) (store : List ℕ) (k : ℕ) (b x : Col
       (sym (results-are h) ∙ first-told p e)
 
   -- THEOREM. The column that is told is one of the matrix.
-  pub column-within : (j : ℕ) → explainSolving r factors store k b x .column ≡ some j → j < n
+  pub column-within : (j : ℕ) → explainSolving factors store r b k x .column ≡ some j → j < n
   unfolding refusedSolving overflowed
   column-within j e =
       test-cases (eqb refusal 0)
@@ -194,7 +194,7 @@ module _ (r : Record) (factors : Column) (store : List ℕ) (k : ℕ) (b x : Col
         test-cases (eqb refusal 0) (λ t. absurd (other (past-number (eqb-true refusal 0 t) nonzero)))
         (λ t. let ne = eqb-false refusal 0 t in (test-number ne, ne))
 
-    pub no-reason : number ≡ 0 → toldSolve NoReason ≡ explainSolving r factors store k b x
+    pub no-reason : number ≡ 0 → toldSolve NoReason ≡ explainSolving factors store r b k x
     unfolding toldSolve overflowed
     no-reason zero =
         test-cases (eqb refusal 0)
@@ -208,12 +208,12 @@ module _ (r : Record) (factors : Column) (store : List ℕ) (k : ℕ) (b x : Col
         none-told (some p) e = absurd (omega (arith, e))
 
     -- a bad input, of another number than 6
-    pub bad-input : (number ≡ 0 → ⊥) → (number ≡ 6 → ⊥) → (number ≡ 7 → ⊥) → toldSolve (Refused number) ≡ explainSolving r factors store k b x
+    pub bad-input : (number ≡ 0 → ⊥) → (number ≡ 6 → ⊥) → (number ≡ 7 → ⊥) → toldSolve (Refused number) ≡ explainSolving factors store r b k x
     unfolding toldSolve refusedSolving
     bad-input nonzero other last =
         let by = by-tests nonzero last in
-        let plain : refusedSolving n factors number ≡ toldNumber number = rw (ne-eqb number 6 other) in
-        sym (explained-refused (by .1) ∙ ap (refusedSolving n factors) (sym (by .0)) ∙ plain)
+        let plain : refusedSolving factors n number ≡ toldNumber number = rw (ne-eqb number 6 other) in
+        sym (explained-refused (by .1) ∙ ap (refusedSolving factors n) (sym (by .0)) ∙ plain)
 
     -- ---- singular
     module _ (six : number ≡ 6) where
@@ -223,29 +223,29 @@ module _ (r : Record) (factors : Column) (store : List ℕ) (k : ℕ) (b x : Col
       refused-six : refusal ≡ 6
       refused-six = sym (by .0) ∙ six
 
-      its : Passed factors store r (before factors store r (solveAsks n k b x) refl refl)
-      its = six-passed factors store r (solveAsks n k b x) refl refl refused-six
+      its : Passed factors store r (before factors store r (solveAsks b n k x) refl refl)
+      its = six-passed factors store r (solveAsks b n k x) refl refl refused-six
 
-      pub six-matrix : isMatrix n n factors ≡ true
+      pub six-matrix : isMatrix factors n n ≡ true
       six-matrix = square-matrix factors store r _ refl its
 
       -- so some column is dead, and the lowest of them is told
       some-dead : deadFrom 0 (columns n n factors) ≡ 0 → ⊥
       unfolding zeroOnDiagonal deadIn
       some-dead none-dead =
-          let zero = six-zero factors store r (solveAsks n k b x) refl refl refused-six in
+          let zero = six-zero factors store r (solveAsks b n k x) refl refl refused-six in
           let all : take n (columns n n factors) ≡ columns n n factors = take-all n (columns n n factors) (omega (arith, length-columns n n factors)) in
-          let count : deadOf n n factors ≡ 0 = held-dead n n factors six-matrix ∙ ap (deadFrom 0) all ∙ none-dead in
+          let count : deadOf factors n n ≡ 0 = held-dead n n factors six-matrix ∙ ap (deadFrom 0) all ∙ none-dead in
           let z : _≡_ {A = Bool} true false = sym zero ∙ ap (λ (c : ℕ). not (eqb c 0)) count in
           let e : _≡_ {A = ℕ} 0 1 = cc in
           omega arith
 
-      pub singular : (j : ℕ) → j ≡ columnOr n (lowestZero 0 (columns n n factors)) → toldSolve (Singular j) ≡ explainSolving r factors store k b x
+      pub singular : (j : ℕ) → j ≡ columnOr n (lowestZero 0 (columns n n factors)) → toldSolve (Singular j) ≡ explainSolving factors store r b k x
       unfolding toldSolve refusedSolving
       singular j found =
-          let told : refusedSolving n factors 6 ≡ record { number = 6; column = some j; place = none } =
+          let told : refusedSolving factors n 6 ≡ record { number = 6; column = some j; place = none } =
           ap (λ (o : Option ℕ). record { number = 6; column = o; place = none }) lowest in
-          sym (explained-refused (by .1) ∙ ap (refusedSolving n factors) refused-six ∙ told)
+          sym (explained-refused (by .1) ∙ ap (refusedSolving factors n) refused-six ∙ told)
         where
           lowest : lowestZero 0 (columns n n factors) ≡ some j
           lowest =
@@ -261,7 +261,7 @@ module _ (r : Record) (factors : Column) (store : List ℕ) (k : ℕ) (b x : Col
           (λ t.
           let is-seven : refusal ≡ 7 = sym (test-number (eqb-false refusal 0 t)) ∙ last in
           let no : (j : ℕ) → (j ≡ 7 → ⊥) → j ≡ 7 → ⊥ = λ j h e. h e in
-          absurd (first-among (λ j. j ≡ 7 → ⊥) (heldTests factors store r (solveAsks n k b x)) (λ z. omega (arith, z)) (
+          absurd (first-among (λ j. j ≡ 7 → ⊥) (heldTests factors store r (solveAsks b n k x)) (λ z. omega (arith, z)) (
             λ z. omega (arith, z),
             (
               λ z. omega (arith, z),
@@ -278,21 +278,21 @@ module _ (r : Record) (factors : Column) (store : List ℕ) (k : ℕ) (b x : Col
             ),
           ) is-seven))
 
-      own : Passed factors store r (solveAsks n k b x)
-      own = passed factors store r (solveAsks n k b x) past-tests
+      own : Passed factors store r (solveAsks b n k x)
+      own = passed factors store r (solveAsks b n k x) past-tests
 
-      sides : isMatrix n k b ≡ true
-      sides = and-first (isMatrix n k b) (isMatrix n k x) (own .lengths)
+      sides : isMatrix b n k ≡ true
+      sides = and-first (isMatrix b n k) (isMatrix x n k) (own .lengths)
 
-      result : isMatrix n k x ≡ true
-      result = and-second (isMatrix n k b) (isMatrix n k x) (own .lengths)
+      result : isMatrix x n k ≡ true
+      result = and-second (isMatrix b n k) (isMatrix x n k) (own .lengths)
 
-      left-zeros : call .left ≡ zeros (length (solvedBy solved r factors store (columns n k b)))
+      left-zeros : call .left ≡ zeros (length (solvedBy solved factors store r (columns n k b)))
       unfolding solving seventh
       left-zeros =
           let settles = sym last ∙ is ∙ seven r factors store k b x past-tests in
-          rw (tested-none refusal (leaving x) (seventh (solvedBy solved r factors store (columns n k b))) past-tests)
-          (test-cases (allFinite (solvedBy solved r factors store (columns n k b)))
+          rw (tested-none refusal (leaving x) (seventh (solvedBy solved factors store r (columns n k b))) past-tests)
+          (test-cases (allFinite (solvedBy solved factors store r (columns n k b)))
           (λ t. absurd (let zero : 7 ≡ 0 = settles ∙ (rw t) in omega arith)) (λ t. rw t))
 
       -- y is the slice after `solve`, t after the copy
@@ -300,20 +300,20 @@ module _ (r : Record) (factors : Column) (store : List ℕ) (k : ℕ) (b x : Col
         copy-is : t ≡ b
         copy-is = copy ∙ copied-whole b y (sized n k b sides .size ∙ sym (kept ∙ sized n k x result .size))
 
-        pub ready : ((isMatrix n n factors ≡ true) × (isMatrix n k t ≡ true) × (1 ≤ n)) × ((goodList n n (r .pairs) store ≡ true) × (allFinite t ≡ true))
+        pub ready : ((isMatrix factors n n ≡ true) × (isMatrix t n k ≡ true) × (1 ≤ n)) × ((goodList store (r .pairs) n n ≡ true) × (allFinite t ≡ true))
         ready = (
-          (square-matrix factors store r _ refl own, ap (isMatrix n k) copy-is ∙ sides, own .rows .at-least),
+          (square-matrix factors store r _ refl own, ap (λ (s : Column). isMatrix s n k) copy-is ∙ sides, own .rows .at-least),
           (square-list factors store r _ refl own, ap allFinite copy-is ∙ own .numbers),
         )
 
-        pub overflow-told : (a : WhySolve) → toldSolve a ≡ overflowed (firstOverflow (resultsOf r factors store (columns n k t)))
-            → toldSolve a ≡ explainSolving r factors store k b x
+        pub overflow-told : (a : WhySolve) → toldSolve a ≡ overflowed (firstOverflow (resultsOf factors store r (columns n k t)))
+            → toldSolve a ≡ explainSolving factors store r b k x
         overflow-told a told =
-            told ∙ ap (λ (c : Column). overflowed (firstOverflow (resultsOf r factors store (columns n k c)))) copy-is ∙ sym (explained-by past-tests)
+            told ∙ ap (λ (c : Column). overflowed (firstOverflow (resultsOf factors store r (columns n k c)))) copy-is ∙ sym (explained-by past-tests)
 
         pub zeroed-again : (j : ℕ) (v : Column) → j ≡ length t → v ≡ zeros j → v ≡ call .left
         zeroed-again j v long made =
             let size : length x ≡ k * n = sized n k x result .size in
             let as-long : j ≡ length y = long ∙ ap length copy-is ∙ sized n k b sides .size ∙ sym (kept ∙ size) in
-            let zeros-long : length y ≡ length (solvedBy solved r factors store (columns n k b)) = ap length (y-is ∙ left-zeros) ∙ length-replicate _ zero64 in
+            let zeros-long : length y ≡ length (solvedBy solved factors store r (columns n k b)) = ap length (y-is ∙ left-zeros) ∙ length-replicate _ zero64 in
             made ∙ ap zeros (as-long ∙ zeros-long) ∙ sym left-zeros

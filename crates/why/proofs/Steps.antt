@@ -158,7 +158,7 @@ pub record Stepping (m n : ℕ) (s₀ s : Column) (i : ℕ) : Type 0 where
   pub fine : allFinite s ≡ true
   pub left : firstOverflow (stepsResults i (min m n - i) (steps i (unfactored (columns m n s₀)))) ≡ firstOverflow (factoringResults m (columns m n s₀))
 
-module _ (m n : ℕ) (s₀ : Column) (fits : isMatrix m n s₀ ≡ true) where
+module _ (m n : ℕ) (s₀ : Column) (fits : isMatrix s₀ m n ≡ true) where
   abbrev a : Matrix
   a = columns m n s₀
 
@@ -181,7 +181,7 @@ module _ (m n : ℕ) (s₀ : Column) (fits : isMatrix m n s₀ ≡ true) where
       ap overflowed (sym (now .left) ∙ ap (λ (k : ℕ). firstOverflow (stepsResults i k (steps i u))) none-left)
 
   -- one turn: s' is the store after step i
-  module _ (s s' : Column) (i : ℕ) (now : Stepping m n s₀ s i) (h : i < min m n) (kept : length s' ≡ length s) (made : s' ≡ plainStep m n i s) where
+  module _ (s s' : Column) (i : ℕ) (now : Stepping m n s₀ s i) (h : i < min m n) (kept : length s' ≡ length s) (made : s' ≡ plainStep s m n i) where
     abbrev f : Factors
     f = steps i u
 
@@ -201,7 +201,7 @@ module _ (m n : ℕ) (s₀ : Column) (fits : isMatrix m n s₀ ≡ true) where
     unfolding plainStep
     after =
         let cs = columns m n s in
-        let fits-s : isMatrix m n s ≡ true = same-matrix m n s₀ s (now .long) ∙ fits in
+        let fits-s : isMatrix s m n ≡ true = same-matrix m n s₀ s (now .long) ∙ fits in
         let rows = rows-step m i (unfactored cs) (columns-rows m n s (now .long ∙ size)) in
         let wide = length-step i (unfactored cs) ∙ length-columns m n s in
         ap (columns m n) (made ∙ (rw (lt-ltb i (min m n) h)))

@@ -151,7 +151,8 @@ module _ (pass : Pass) (n number : ℕ) (cs : Matrix) (stored : ℕ → ℕ → 
       turns-first (stored j) (turn pass n cs) 0 (turnsOf pass n) b k (spotAt number j r) h
       (λ q l. turn-fine j q b long (omega arith) (x .turns-before (suc q) (omega arith)))
       (rw (zero-add k)
-      (listed .first j k (turn pass n cs k (after k b)) r (ap length (after-next k b) ∙ length-after pass n cs (suc k) b ∙ long) (low k h) (x .long) (x .is-stored)
+      (listed .first j k (turn pass n cs k (after k b)) r (ap length (after-next k b) ∙ length-after pass n cs (suc k) b ∙ long) (low k h) (x .long)
+      (x .is-stored)
       (x .fails)
       (x .own-before)
       (x .rows-before)))

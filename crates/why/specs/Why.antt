@@ -45,9 +45,9 @@ toldFactor NoReason = toldNumber 0
 toldFactor (Refused number) = toldNumber number
 toldFactor (Overflow i j r) = overflowed (some (placeAt i j r))
 
-unfoldable pub explainFactoring : ℕ → ℕ → Column → Column → List ℕ → Told Place
-explainFactoring m n a out store =
-    tested (factoringRefusal m n a out store) toldNumber (overflowed (firstOverflow (factoringResults m (columns m n a))))
+unfoldable pub explainFactoring : Column → ℕ → ℕ → Column → List ℕ → Told Place
+explainFactoring a m n out store =
+    tested (factoringRefusal a m n out store) toldNumber (overflowed (firstOverflow (factoringResults m (columns m n a))))
 
 -- ---- solving
 
@@ -58,15 +58,15 @@ toldSolve (Singular j) = record { number = 6; column = some j; place = none }
 toldSolve (OverflowSolve pass j r) = overflowed (some (spotAt pass j r))
 
 -- a refusal before the work: "for a singular solve it gives the lowest column with a zero diagonal"
-unfoldable pub refusedSolving : ℕ → Column → ℕ → Told Spot
-refusedSolving n factors number =
+unfoldable pub refusedSolving : Column → ℕ → ℕ → Told Spot
+refusedSolving factors n number =
     record { number = number; column = cond (eqb number 6) (lowestZero 0 (columns n n factors)) none; place = none }
 
 -- what the solve of right-hand columns by the factors of the record stores
-abbrev pub resultsOf : Record → Column → List ℕ → Matrix → List (Result Spot)
-resultsOf r factors store bs = solvingResults (r .rows) (columns (r .rows) (r .rows) factors) (pairsOf (r .pairs) store) bs
+abbrev pub resultsOf : Column → List ℕ → Record → Matrix → List (Result Spot)
+resultsOf factors store r bs = solvingResults (r .rows) (columns (r .rows) (r .rows) factors) (pairsOf (r .pairs) store) bs
 
-unfoldable pub explainSolving : Record → Column → List ℕ → ℕ → Column → Column → Told Spot
-explainSolving r factors store k b x =
-    tested (heldRefusal factors store r (solveAsks (r .rows) k b x)) (refusedSolving (r .rows) factors)
-    (overflowed (firstOverflow (resultsOf r factors store (columns (r .rows) k b))))
+unfoldable pub explainSolving : Column → List ℕ → Record → Column → ℕ → Column → Told Spot
+explainSolving factors store r b k x =
+    tested (heldRefusal factors store r (solveAsks b (r .rows) k x)) (refusedSolving factors (r .rows))
+    (overflowed (firstOverflow (resultsOf factors store r (columns (r .rows) k b))))

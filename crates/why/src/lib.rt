@@ -63,7 +63,7 @@ fn first_not_finite(s: &[f64]) -> usize
 
 // The reason of an overflow in the elimination of the m by n matrix in s, by plain steps.
 fn overflow_in_steps(s: &mut [f64], m: usize, n: usize) -> WhyFactor
-    requires { ⌜ (isMatrix m n (now s) ≡ true) × (allFinite (now s) ≡ true) ⌝ }
+    requires { ⌜ (isMatrix (now s) m n ≡ true) × (allFinite (now s) ≡ true) ⌝ }
     ensures { λ r. ⌜ toldFactor r ≡ overflowed (firstOverflow (factoringResults m (columns m n (now (s .entry))))) ⌝ }
 {
     let end = store::min(m, n);
@@ -85,9 +85,9 @@ fn overflow_in_steps(s: &mut [f64], m: usize, n: usize) -> WhyFactor
 
 // Explains `lu::factor`.
 pub fn why_factor(a: &[f64], m: usize, n: usize, out: &mut [f64], swaps: &mut [usize]) -> WhyFactor
-    ensures { λ r. ⌜ toldFactor r ≡ explainFactoring m n (now (a .entry)) (now (out .entry)) (now (swaps .entry)) ⌝ }
-    ensures { λ _. ⌜ now (out .exit) ≡ factoring m n (now (a .entry)) (now (out .entry)) (now (swaps .entry)) .left .factors ⌝ }
-    ensures { λ _. ⌜ now (swaps .exit) ≡ factoring m n (now (a .entry)) (now (out .entry)) (now (swaps .entry)) .left .store ⌝ }
+    ensures { λ r. ⌜ toldFactor r ≡ explainFactoring (now (a .entry)) m n (now (out .entry)) (now (swaps .entry)) ⌝ }
+    ensures { λ _. ⌜ now (out .exit) ≡ factoring (now (a .entry)) m n (now (out .entry)) (now (swaps .entry)) .left .factors ⌝ }
+    ensures { λ _. ⌜ now (swaps .exit) ≡ factoring (now (a .entry)) m n (now (out .entry)) (now (swaps .entry)) .left .store ⌝ }
 {
     let answer = lu::factor(a, m, n, out, swaps);
     let Factored::Refused(number) = answer else {
@@ -141,7 +141,7 @@ fn stored_row(b: &[f64], own: usize) -> usize
 
 // The row of the first result that is not finite of a pass on the right-hand column b, by plain turns; n where there is none, and then b is solved.
 fn overflow_in_column(upper: bool, t: &[f64], n: usize, b: &mut [f64]) -> usize
-    requires { ⌜ (isMatrix n n (now t) ≡ true) × (length (now b) ≡ n) × (1 ≤ n) ⌝ }
+    requires { ⌜ (isMatrix (now t) n n ≡ true) × (length (now b) ≡ n) × (1 ≤ n) ⌝ }
     ensures { λ r. ⌜ Turned upper n (columns n n (now (t .entry))) (now (b .entry)) r (now (b .exit)) ⌝ }
 {
     let turns = turns_of(upper, n);
@@ -165,7 +165,7 @@ struct Found {
 
 // The first result that is not finite of a pass over the k right-hand columns in x; column k where there is none, and then x is solved.
 fn overflow_in_pass(upper: bool, t: &[f64], n: usize, x: &mut [f64], k: usize) -> Found
-    requires { ⌜ (isMatrix n n (now t) ≡ true) × (isMatrix n k (now x) ≡ true) × (1 ≤ n) ⌝ }
+    requires { ⌜ (isMatrix (now t) n n ≡ true) × (isMatrix (now x) n k ≡ true) × (1 ≤ n) ⌝ }
     ensures { λ r. ⌜ Passed upper n k (columns n n (now (t .entry))) (columns n k (now (x .entry))) r (columns n k (now (x .exit))) ⌝ }
 {
     let mut j = 0;
@@ -189,9 +189,10 @@ fn overflow_in_solve(
     x: &mut [f64],
     k: usize,
 ) -> WhySolve
-    requires { ⌜ (isMatrix (told .rows) (told .rows) (now factors) ≡ true) × (isMatrix (told .rows) k (now x) ≡ true) × (1 ≤ told .rows) ⌝ }
-    requires { ⌜ (goodList (told .rows) (told .rows) (told .pairs) (now swaps) ≡ true) × (allFinite (now x) ≡ true) ⌝ }
-    ensures { λ r. ⌜ toldSolve r ≡ overflowed (firstOverflow (resultsOf told (now (factors .entry)) (now (swaps .entry)) (columns (told .rows) k (now (x .entry))))) ⌝ }
+    requires { ⌜ (isMatrix (now factors) (told .rows) (told .rows) ≡ true) × (isMatrix (now x) (told .rows) k ≡ true) × (1 ≤ told .rows) ⌝ }
+    requires { ⌜ (goodList (now swaps) (told .pairs) (told .rows) (told .rows) ≡ true) × (allFinite (now x) ≡ true) ⌝ }
+    ensures { λ r. ⌜ toldSolve r ≡ overflowed (firstOverflow
+        (resultsOf (now (factors .entry)) (now (swaps .entry)) told (columns (told .rows) k (now (x .entry))))) ⌝ }
 {
     let n = told.rows;
     permutation_sequence::apply_to_rows(x, n, k, swaps, told.pairs, false);
@@ -216,7 +217,7 @@ fn overflow_in_solve(
 
 // The lowest dead column of the n by n matrix t; n where there is none.
 fn lowest_dead(t: &[f64], n: usize) -> usize
-    requires { ⌜ isMatrix n n (now t) ≡ true ⌝ }
+    requires { ⌜ isMatrix (now t) n n ≡ true ⌝ }
     ensures { λ r. ⌜ r ≡ columnOr n (lowestZero 0 (columns n n (now (t .entry)))) ⌝ }
 {
     let mut j = 0;
@@ -240,8 +241,8 @@ pub fn why_solve(
     k: usize,
     x: &mut [f64],
 ) -> WhySolve
-    ensures { λ r. ⌜ toldSolve r ≡ explainSolving told (now (factors .entry)) (now (swaps .entry)) k (now (b .entry)) (now (x .entry)) ⌝ }
-    ensures { λ _. ⌜ now (x .exit) ≡ solving told (now (factors .entry)) (now (swaps .entry)) k (now (b .entry)) (now (x .entry)) .left ⌝ }
+    ensures { λ r. ⌜ toldSolve r ≡ explainSolving (now (factors .entry)) (now (swaps .entry)) told (now (b .entry)) k (now (x .entry)) ⌝ }
+    ensures { λ _. ⌜ now (x .exit) ≡ solving (now (factors .entry)) (now (swaps .entry)) told (now (b .entry)) k (now (x .entry)) .left ⌝ }
 {
     let number = refusals::number_of(from_factors::solve(factors, swaps, told, b, k, x));
     if number == 0 {

@@ -31,10 +31,10 @@ zeros-front (suc k) (suc m) h = ap (λ (l : Column). zero64 ∷ l) (zeros-front 
 module _ (bytes : List ℕ) where
   -- ---- the file has factors, which stand in front of their store
   pub by-loads : (why : WhyFile) (M R : Column) (S : List ℕ) (told : Record) → Ready bytes M R S told
-      → toldFile why ≡ explainLoads (packedIn told M S) (take (told .rows) R) → toldFile why ≡ explainFile bytes
+      → toldFile why ≡ explainLoads (packedIn M S told) (take (told .rows) R) → toldFile why ≡ explainFile bytes
   unfolding explainFile explainedBy
   by-loads why M R S told w e =
-      e ∙ ap (explainLoads (packedIn told M S)) (w .is-readings)
+      e ∙ ap (explainLoads (packedIn M S told)) (w .is-readings)
       ∙ ap (λ (o : Outcome Packed). explainedBy o (explainFactors bytes) (λ f. explainLoads f (readingsOf (padsOf bytes) bytes))) (sym (w .factors))
 
   -- ---- it has none
@@ -52,12 +52,12 @@ module _ (bytes : List ℕ) where
 
     -- a good file: why its matrix is not factored
     pub by-matrix : (why : WhyFile) (k : ℕ) → made ≡ Pads k
-        → toldFile why ≡ toldIn inFactoring (explainFactoring k k (take (k * k) M) (zeros (k * k)) (replicate 128 0)) → toldFile why ≡ explainFactors bytes
+        → toldFile why ≡ toldIn inFactoring (explainFactoring (take (k * k) M) k k (zeros (k * k)) (replicate 128 0)) → toldFile why ≡ explainFactors bytes
     unfolding explainFactors
     by-matrix why k t e =
         let w = was-read k t in
         let n = padsOf bytes in
-        e ∙ ap₂ (λ (j : ℕ) (a : Column). toldIn inFactoring (explainFactoring j j a (zeros (j * j)) (replicate 128 0))) (w .pads) (w .is-matrix)
+        e ∙ ap₂ (λ (j : ℕ) (a : Column). toldIn inFactoring (explainFactoring a j j (zeros (j * j)) (replicate 128 0))) (w .pads) (w .is-matrix)
         ∙ sym (tested-none (fileRefusal bytes) toldNumber _ (w .none))
 
     -- a bad one is refused by the reader

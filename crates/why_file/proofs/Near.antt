@@ -60,10 +60,10 @@ near-number k =
     }
 
 -- ---- factoring tells no column, and places of its own
-no-column : (m n : ℕ) (a out : Column) (store : List ℕ) → explainFactoring m n a out store .column ≡ none
+no-column : (m n : ℕ) (a out : Column) (store : List ℕ) → explainFactoring a m n out store .column ≡ none
 unfolding explainFactoring tested overflowed
 no-column m n a out store =
-    cond-cases (λ (t : Told Place). t .column ≡ none) (eqb (factoringRefusal m n a out store) 0)
+    cond-cases (λ (t : Told Place). t .column ≡ none) (eqb (factoringRefusal a m n out store) 0)
     (λ _. of-overflow (firstOverflow (factoringResults m (columns m n a)))) (λ _. refl)
   where
     of-overflow : (o : Option Place) → overflowed o .column ≡ none
@@ -78,14 +78,14 @@ not-solving : (o : Option Place) (p : Spot) → Option·map inFactoring o ≡ so
 not-solving none p e = let z : _≡_ {A = ℕ} 0 1 = cc in omega arith
 not-solving (some q) p e = let z : _≡_ {A = ℕ} 0 1 = cc in omega arith
 
-near-factoring : (n : ℕ) (a out : Column) (store : List ℕ) → n ≤ 64 → Near (toldIn inFactoring (explainFactoring n n a out store))
+near-factoring : (n : ℕ) (a out : Column) (store : List ℕ) → n ≤ 64 → Near (toldIn inFactoring (explainFactoring a n n out store))
 near-factoring n a out store most =
     record {
       column = λ j e. absurd (let none-told : none ≡ some j = sym (no-column n n a out store) ∙ e in let z : _≡_ {A = ℕ} 0 1 = cc in omega arith);
       factoring = λ p e.
-          (let w = place-within n n a out store p (in-factoring (explainFactoring n n a out store .place) p e) in
+          (let w = place-within n n a out store p (in-factoring (explainFactoring a n n out store .place) p e) in
           (omega (arith, w .0), omega (arith, w .1), omega (arith, w .2)));
-      solving = λ p e. absurd (not-solving (explainFactoring n n a out store .place) p e);
+      solving = λ p e. absurd (not-solving (explainFactoring a n n out store .place) p e);
     }
 
 -- ---- the solve
@@ -100,7 +100,7 @@ not-factoring (some q) p e = let z : _≡_ {A = ℕ} 0 1 = cc in omega arith
 near-loads : (f : Packed) (b : Column) → f .told .rows ≤ 64 → Near (explainLoads f b)
 unfolding explainLoads
 near-loads f b most =
-    let t = explainSolving (f .told) (f .factors) (f .swaps) 1 b (zeros (f .told .rows)) in
+    let t = explainSolving (f .factors) (f .swaps) (f .told) b 1 (zeros (f .told .rows)) in
     record {
       column = λ j e. (let w = column-within (f .told) (f .factors) (f .swaps) 1 b (zeros (f .told .rows)) j e in omega arith);
       factoring = λ p e. absurd (not-factoring (t .place) p e);
@@ -126,14 +126,14 @@ module _ (bytes : List ℕ) where
       test-cases (eqb (fileRefusal bytes) 0)
       (λ t.
       let z = eqb-true (fileRefusal bytes) 0 t in
-      rw (tested-none (fileRefusal bytes) toldNumber (toldIn inFactoring (explainFactoring n n a (zeros (n * n)) (replicate 128 0))) z)
+      rw (tested-none (fileRefusal bytes) toldNumber (toldIn inFactoring (explainFactoring a n n (zeros (n * n)) (replicate 128 0))) z)
       (near-factoring n a (zeros (n * n)) (replicate 128 0) (file-good bytes z .most)))
       (λ t.
-      rw (tested-some (fileRefusal bytes) toldNumber (toldIn inFactoring (explainFactoring n n a (zeros (n * n)) (replicate 128 0)))
+      rw (tested-some (fileRefusal bytes) toldNumber (toldIn inFactoring (explainFactoring a n n (zeros (n * n)) (replicate 128 0)))
       (eqb-false (fileRefusal bytes) 0 t)) (near-number (fileRefusal bytes)))
 
   -- factoring passes its tests, whatever slice of the right length it writes to
-  none-before : fileRefusal bytes ≡ 0 → (out : Column) → length out ≡ n * n → factoringRefusal n n a out (replicate 128 0) ≡ 0
+  none-before : fileRefusal bytes ≡ 0 → (out : Column) → length out ≡ n * n → factoringRefusal a n n out (replicate 128 0) ≡ 0
   none-before z out l =
       let good = file-good bytes z in
       passes n n a out (replicate 128 0)
@@ -149,14 +149,14 @@ module _ (bytes : List ℕ) where
   factors-number : (k : ℕ) → factorsIn bytes ≡ refused k → explainFactors bytes .number ≡ k
   unfolding factorsIn explainFactors factorsOf numberOf
   factors-number k e =
-      tested-refused (fileRefusal bytes) (factorsOf n a) k e
+      tested-refused (fileRefusal bytes) (factorsOf a n) k e
       (λ z d.
       let mine = none-before z (zeros (n * n)) (length-replicate (n * n) zero64) in
       let its = none-before z a (file-good bytes z .size) in
       ap (λ (t : Told Stage). t .number) (tested-none (fileRefusal bytes) toldNumber _ z)
       ∙ factoring-number n n a (zeros (n * n)) (replicate 128 0)
       ∙ settled-number n n a (zeros (n * n)) (replicate 128 0) mine ∙ sym (settled-number n n a a (replicate 128 0) its)
-      ∙ sym (number-then (factoring n n a a (replicate 128 0) .answer) _) ∙ ap numberOf d)
+      ∙ sym (number-then (factoring a n n a (replicate 128 0) .answer) _) ∙ ap numberOf d)
       (λ some d. ap (λ (t : Told Stage). t .number) (tested-some (fileRefusal bytes) toldNumber _ some) ∙ d)
 
   -- ---- the file
@@ -165,7 +165,8 @@ module _ (bytes : List ℕ) where
   unfolding explainFile explainedBy loadsOf andThen
   by-outcome P none-there there = cases (factorsIn bytes) refl
     where
-      cases : (o : Outcome Packed) → factorsIn bytes ≡ o → P (explainedBy o (explainFactors bytes) (λ f. explainLoads f b)) (andThen o (λ f. solutionBy false f b))
+      cases : (o : Outcome Packed) → factorsIn bytes ≡ o → P (explainedBy o (explainFactors bytes) (λ f. explainLoads f b))
+          (andThen o (λ f. solutionBy false f b))
       cases (refused k) e = none-there k e
       cases (done f) e = there f e
 
@@ -185,7 +186,7 @@ module _ (bytes : List ℕ) where
     where
       packed-rows : (f : Packed) → factorsIn bytes ≡ done f → f .told .rows ≡ n
       packed-rows f e =
-          let passed = tested-done (fileRefusal bytes) (factorsOf n a) f e in
+          let passed = tested-done (fileRefusal bytes) (factorsOf a n) f e in
           factored-rows n a (file-good bytes (passed .0)) f (passed .1)
 
   number-few : explainFile bytes .number ≤ 9

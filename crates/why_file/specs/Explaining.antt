@@ -28,11 +28,11 @@ toldIn stage t = record { number = t .number; column = t .column; place = Option
 unfoldable pub explainFactors : List ℕ → Told Stage
 explainFactors bytes =
     let n = padsOf bytes in
-    tested (fileRefusal bytes) toldNumber (toldIn inFactoring (explainFactoring n n (matrixOf n bytes) (zeros (n * n)) (replicate 128 0)))
+    tested (fileRefusal bytes) toldNumber (toldIn inFactoring (explainFactoring (matrixOf n bytes) n n (zeros (n * n)) (replicate 128 0)))
 
 -- why its factors do not solve for the right-hand column b
 unfoldable pub explainLoads : Packed → Column → Told Stage
-explainLoads f b = toldIn inSolving (explainSolving (f .told) (f .factors) (f .swaps) 1 b (zeros (f .told .rows)))
+explainLoads f b = toldIn inSolving (explainSolving (f .factors) (f .swaps) (f .told) b 1 (zeros (f .told .rows)))
 
 -- the one where the file has no factors, else the other
 unfoldable pub explainedBy : Outcome Packed → Told Stage → (Packed → Told Stage) → Told Stage

@@ -57,7 +57,7 @@ fn of_solving(reason: WhySolve) -> WhyFile
 // Why factoring the n by n matrix in front of a store is refused.
 fn why_matrix(n: usize, matrix: &[f64]) -> WhyFile
     requires { ⌜ (n ≤ 64) × (length (now matrix) ≡ 4096) ⌝ }
-    ensures { λ r. ⌜ toldFile r ≡ toldIn inFactoring (explainFactoring n n (take (n * n) (now (matrix .entry))) (zeros (n * n)) (replicate 128 0)) ⌝ }
+    ensures { λ r. ⌜ toldFile r ≡ toldIn inFactoring (explainFactoring (take (n * n) (now (matrix .entry))) n n (zeros (n * n)) (replicate 128 0)) ⌝ }
 {
     let mut factors = [0.0f64; 4096];
     let mut swaps = [0usize; 128];
@@ -87,7 +87,7 @@ fn why_factors(file: &[u8]) -> WhyFile
 fn why_loads(matrix: &[f64], swaps: &[usize], told: Record, readings: &[f64]) -> WhyFile
     requires { ⌜ (told .rows ≤ 64) × (length (now matrix) ≡ 4096) × (length (now readings) ≡ 64) ⌝ }
     ensures { λ r. ⌜ toldFile r
-        ≡ explainLoads (packedIn told (now (matrix .entry)) (now (swaps .entry))) (take (told .rows) (now (readings .entry))) ⌝ }
+        ≡ explainLoads (packedIn (now (matrix .entry)) (now (swaps .entry)) told) (take (told .rows) (now (readings .entry))) ⌝ }
 {
     let mut loads = [0.0f64; 64];
     let n = told.rows;

@@ -43,7 +43,8 @@ returns-2 c =
     let own = at-own .own-step in
     joins _ _ _ _ (at-start .pre) _ _ _ (at-reduce .reduce-column .kept .0) (at-reduce .reduce-column .ensures) (own .kept .0) (own .ensures .0 .0)
     (own .ensures .1)
-    _ _ _ _ _ _ (own .ensures .0 .1) (at-count .count .ensures) (ap (λ (k : ℕ). at-start .args .told .dead + k) (at-dead .dead-at .ensures .0)) (sym (at-finite .all-finite .ensures) ∙ not-false _ (at-if1 .if1 .left))
+    _ _ _ _ _ _ (own .ensures .0 .1) (at-count .count .ensures) (ap (λ (k : ℕ). at-start .args .told .dead + k) (at-dead .dead-at .ensures .0))
+    (sym (at-finite .all-finite .ensures) ∙ not-false _ (at-if1 .if1 .left))
     (at-join .join .kept .0) (at-join .join .ensures)
 
 pub add-tested-spec : {M : Type 1} → statement M

@@ -12,10 +12,10 @@ use Rattle.columns.proofs.is_good_to_remove.Tie as tie
 
 -- what was found of the list
 listed : (c : tie.After-is-good-list) → let r = c .before .before .before .args .told in
-    c .is-good-list .result ≡ goodList (r .rows) (min (r .rows) (r .columns)) (r .pairs) (c .before .before .before .args .swaps .now)
+    c .is-good-list .result ≡ goodList (c .before .before .before .args .swaps .now) (r .pairs) (r .rows) (min (r .rows) (r .columns))
 listed c =
     let g = c .before .before .before .args in
-    c .is-good-list .ensures ∙ ap (λ (k : ℕ). goodList (g .told .rows) k (g .told .pairs) (g .swaps .now)) (c .before .min .ensures)
+    c .is-good-list .ensures ∙ ap (λ (k : ℕ). goodList (g .swaps .now) (g .told .pairs) (g .told .rows) k) (c .before .min .ensures)
 
 its : (c : tie.Then1) → let g = c .before .before .before .before .args in
     Good (g .told .rows) (min (g .told .rows) (g .told .columns)) (g .told .pairs) (g .swaps .now)

@@ -61,7 +61,8 @@ returns-2 c =
     let at-sub = at-fill .before .before in
     let at-known = at-sub .before .before .before .before in
     let at-start = at-known .before .before .before in
-    promise-kept _ _ _ (at-start .pre) _ (at-fill .fill-zero .kept .0) (at-fill .fill-zero .ensures) _ (omega (arith, older-dead at-sub)) (sym (c .before .undoes-swap .ensures) ∙ c .if1 .left)
+    promise-kept _ _ _ (at-start .pre) _ (at-fill .fill-zero .kept .0) (at-fill .fill-zero .ensures) _ (omega (arith, older-dead at-sub))
+    (sym (c .before .undoes-swap .ensures) ∙ c .if1 .left)
 
 pub remove-tested-spec : {M : Type 1} → statement M
 remove-tested-spec =

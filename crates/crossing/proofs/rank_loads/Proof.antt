@@ -17,7 +17,7 @@ abbrev asked : tie.After-solve-front → tie.Start
 asked c = let at-known = c .before .before in at-known .before .before .before .before .before
 
 solved-at : (c : tie.After-n) → let at-solve = c .before .before .before .before in let g = asked at-solve .args in
-    Solved (g .told .rows) (g .toss-ups) (solutionIn false (g .told) (g .matrix .now) (g .swaps .now) (g .readings .now)) (c .n .given .0 .0)
+    Solved (g .told .rows) (g .toss-ups) (solutionIn false (g .matrix .now) (g .swaps .now) (g .told) (g .readings .now)) (c .n .given .0 .0)
     (at-solve .solve-front .last .1 .1 .1 .1 .1 .1 .0)
 solved-at c =
     let at-solve = c .before .before .before .before in
@@ -54,7 +54,7 @@ returns c =
     let at-solve = at-n .before .before .before .before in
     let g = asked at-solve in
     let e = at-solve .solve-front .ensures in
-    let p = packedIn (g .args .told) (g .args .matrix .now) (g .args .swaps .now) in
+    let p = packedIn (g .args .matrix .now) (g .args .swaps .now) (g .args .told) in
     let ranks = at-rank .rank-all .ensures .1 in
     let finite = solution-finite false p (take (g .args .told .rows) (g .args .readings .now)) in (
       ap padsOrdered (sym (at-n .n .given .1)) ∙ e .0,

@@ -13,7 +13,7 @@ returns c =
     let at-tr-solve = at-number-of .before .before .before in
     let at-if1 = at-tr-solve .before .before in
     let g = at-if1 .before .before .before .before .before in
-    let p = packed (g .args .told) (g .args .factors .now) (g .args .swaps .now) in
+    let p = packed (g .args .factors .now) (g .args .swaps .now) (g .args .told) in
     let e = at-tr-solve .tr-solve .ensures in
     rw (at-if1 .if1 .taken) (
       c .order-for .ensures ∙ solved-answer true p _ (g .args .x .now) (g .pre) _ _ _ (at-number-of .number-of .ensures) (e .0),
@@ -26,7 +26,7 @@ returns-2 c =
     let at-solve = at-number-of .before .before .before in
     let at-if1 = at-solve .before .before in
     let g = at-if1 .before .before .before .before .before in
-    let p = packed (g .args .told) (g .args .factors .now) (g .args .swaps .now) in
+    let p = packed (g .args .factors .now) (g .args .swaps .now) (g .args .told) in
     let e = at-solve .solve .ensures in
     rw (at-if1 .if1 .left) (
       c .order-for2 .ensures ∙ solved-answer false p _ (g .args .x .now) (g .pre) _ _ _ (at-number-of .number-of2 .ensures) (e .0),

@@ -20,7 +20,7 @@ abbrev μ-loop : tie.MeasureT-loop
 μ-loop s m n end₀ dead₀ j₀ dead j = min m n - j
 
 -- past the test, s holds the matrix
-matrix : (c : tie.Else1 Inv-loop μ-loop) → let g = c .before .before .before .args in isMatrix (g .m) (g .n) (g .s .now) ≡ true
+matrix : (c : tie.Else1 Inv-loop μ-loop) → let g = c .before .before .before .args in isMatrix (g .s .now) (g .m) (g .n) ≡ true
 matrix c = sym (c .before .is-matrix .ensures) ∙ not-false _ (c .if1 .left)
 
 -- in a turn, column j ends within it, and row j lies in the column

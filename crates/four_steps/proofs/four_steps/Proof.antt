@@ -45,7 +45,7 @@ returns-3 c =
 -- past the tests: the slice is a matrix, row i + 3 is there, and the four columns lie left of column `from`
 has : (c : tie.Else3 Inv-loop μ-loop) → let at-if1 = c .before .before .before in
     let g = at-if1 .before .before .before .before .args in
-    (isMatrix (g .m) (g .n) (g .s .now) ≡ true) × (g .i + 4 ≤ g .m) × (g .i + 4 ≤ g .from) × (g .n ≤ 64)
+    (isMatrix (g .s .now) (g .m) (g .n) ≡ true) × (g .i + 4 ≤ g .m) × (g .i + 4 ≤ g .from) × (g .n ≤ 64)
 has c =
     let at-min = c .before .before in
     let e = at-min .min .ensures in

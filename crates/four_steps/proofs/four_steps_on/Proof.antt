@@ -39,7 +39,7 @@ returns-4 c =
 -- past the tests: the slice is a matrix, row i + 3 is there, and column j is there, right of the four columns
 has : (c : tie.Else4) → let at-if1 = c .before .before .before .before in
     let g = at-if1 .before .before .before .before .args in
-    (isMatrix (g .m) (g .n) (g .s .now) ≡ true) × (g .i + 4 ≤ g .m) × (g .i + 4 ≤ g .j) × (g .j < g .n)
+    (isMatrix (g .s .now) (g .m) (g .n) ≡ true) × (g .i + 4 ≤ g .m) × (g .i + 4 ≤ g .j) × (g .j < g .n)
 has c =
     let at-min = c .before .before in
     let at-if2 = at-min .before in

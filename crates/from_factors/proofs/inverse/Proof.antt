@@ -16,12 +16,12 @@ start c = let at-asks = c .before .before .before .before .before in at-asks .be
 
 -- the number is that of the tests
 number-is : (c : tie.After-held-refusal) → let g = start c .args in
-    c .held-refusal .result ≡ heldRefusal (g .factors .now) (g .swaps .now) (g .told) (inverseAsks (g .told .rows) (g .x .now))
+    c .held-refusal .result ≡ heldRefusal (g .factors .now) (g .swaps .now) (g .told) (inverseAsks (g .x .now) (g .told .rows))
 number-is c = rw (c .before .is-matrix .ensures) at (c .held-refusal .ensures)
 
 -- past the tests
 past : (c : tie.Else1) → let g = start (c .before) .args in
-    Passed (g .factors .now) (g .swaps .now) (g .told) (inverseAsks (g .told .rows) (g .x .now))
+    Passed (g .factors .now) (g .swaps .now) (g .told) (inverseAsks (g .x .now) (g .told .rows))
 past c = passed _ _ _ _ (sym (number-is (c .before)) ∙ c .if1 .left)
 
 returns : tie.Need-returns

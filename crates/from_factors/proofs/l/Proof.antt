@@ -18,12 +18,12 @@ start c = let at-asks = c .before .before .before in at-asks .before .before .be
 -- the number is that of the tests
 number-is : (c : tie.After-held-refusal) → let g = start c .args in
     c .held-refusal .result ≡ heldRefusal (g .factors .now) (g .swaps .now) (g .told)
-    (readAsks (g .told .rows) (min (g .told .rows) (g .told .columns)) (g .out .now))
+    (readAsks (g .out .now) (g .told .rows) (min (g .told .rows) (g .told .columns)))
 number-is c = rw (c .before .is-matrix .ensures, c .before .before .before .min .ensures) at (c .held-refusal .ensures)
 
 -- past the tests
 past : (c : tie.Else1) → let g = start (c .before) .args in
-    Passed (g .factors .now) (g .swaps .now) (g .told) (readAsks (g .told .rows) (min (g .told .rows) (g .told .columns)) (g .out .now))
+    Passed (g .factors .now) (g .swaps .now) (g .told) (readAsks (g .out .now) (g .told .rows) (min (g .told .rows) (g .told .columns)))
 past c = passed _ _ _ _ (sym (number-is (c .before)) ∙ c .if1 .left)
 
 returns : tie.Need-returns

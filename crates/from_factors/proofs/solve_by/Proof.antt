@@ -20,7 +20,7 @@ start c = let at-asks = c .before .before .before .before .before in at-asks .be
 
 -- the number is that of the tests
 number-is : (c : tie.After-held-refusal) → let g = start c .args in
-    c .held-refusal .result ≡ heldRefusal (g .factors .now) (g .swaps .now) (g .told) (solveAsks (g .told .rows) (g .k) (g .b .now) (g .x .now))
+    c .held-refusal .result ≡ heldRefusal (g .factors .now) (g .swaps .now) (g .told) (solveAsks (g .b .now) (g .told .rows) (g .k) (g .x .now))
 number-is c =
     rw (
       c .before .before .before .before .before .outside .ensures,
@@ -31,16 +31,16 @@ number-is c =
 
 -- past the tests
 past : (c : tie.Else1) → let g = start (c .before) .args in
-    Passed (g .factors .now) (g .swaps .now) (g .told) (solveAsks (g .told .rows) (g .k) (g .b .now) (g .x .now))
+    Passed (g .factors .now) (g .swaps .now) (g .told) (solveAsks (g .b .now) (g .told .rows) (g .k) (g .x .now))
 past c = passed _ _ _ _ (sym (number-is (c .before)) ∙ c .if1 .left)
 
 -- the right-hand sides and the slice for the solution are matrices
 sides : (c : tie.Else1) → let g = start (c .before) .args in
-    (isMatrix (g .told .rows) (g .k) (g .b .now) ≡ true) × (isMatrix (g .told .rows) (g .k) (g .x .now) ≡ true)
+    (isMatrix (g .b .now) (g .told .rows) (g .k) ≡ true) × (isMatrix (g .x .now) (g .told .rows) (g .k) ≡ true)
 sides c =
     let g = start (c .before) .args in
-    let b = isMatrix (g .told .rows) (g .k) (g .b .now) in
-    let x = isMatrix (g .told .rows) (g .k) (g .x .now) in
+    let b = isMatrix (g .b .now) (g .told .rows) (g .k) in
+    let x = isMatrix (g .x .now) (g .told .rows) (g .k) in
     (and-first b x (past c .lengths), and-second b x (past c .lengths))
 
 returns : tie.Need-returns

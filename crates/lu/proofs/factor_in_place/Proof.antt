@@ -23,7 +23,7 @@ use Rattle.lu.proofs.factor_in_place.Tie as tie
 abbrev Inv-loop : tie.InvT-loop
 Inv-loop s₀ m n swaps₀ min-nrows-ncols counts₀ i₀ s swaps counts i =
     (length s ≡ length s₀) × (length swaps ≡ length swaps₀) × (i ≤ min m n) × ((counts .pairs ≤ i) × (counts .tossed ≤ i))
-    × ((f : Factors) × (Held m n f s swaps (counts .pairs) × (turnsFrom step i (min m n - i) f ≡ eliminate m (columns m n s₀)) × (counts .tossed + tossFrom i
+    × ((f : Factors) × (Held s m n swaps (counts .pairs) f × (turnsFrom step i (min m n - i) f ≡ eliminate m (columns m n s₀)) × (counts .tossed + tossFrom i
     (min m n - i) f ≡ tossUps m (columns m n s₀))))
 
 abbrev μ-loop : tie.MeasureT-loop
@@ -125,7 +125,7 @@ returns c =
     let upto = at-loop .before .min .result in
     let steps : turnsFrom step (l .i) (upto - l .i) f ≡ eliminate (g .m) (columns (g .m) (g .n) (g .s .now)) =
     ap (λ j. turnsFrom step (l .i) (j - l .i) f) e ∙ l .inv .4 .1 .1 in (
-      subst (λ w. Held (g .m) (g .n) w (k .last .0) (k .last .1 .1 .1 .1 .1 .0) (k .result .pairs)) steps (k .ensures .steps f h),
+      subst (λ w. Held (k .last .0) (g .m) (g .n) (k .last .1 .1 .1 .1 .1 .0) (k .result .pairs) w) steps (k .ensures .steps f h),
       k .ensures .toss f h ∙ ap (λ j. l .counts .tossed + tossFrom (l .i) (j - l .i) f) e ∙ l .inv .4 .1 .2,
     )
 

@@ -83,7 +83,7 @@ part-apply-to-rows-start-2 c =
 swapped-fits : (c : tie.After-apply-to-rows) → let g = start (steps-made c) .args in
     let z = (g .i + 4) * g .m in
     let t = steps-made c .factor-steps .last .0 ++ drop z (g .s .now) in
-    isMatrix (g .m) (g .n) (putMid z (length t - z) t (c .apply-to-rows .last .0)) ≡ true
+    isMatrix (putMid z (length t - z) t (c .apply-to-rows .last .0)) (g .m) (g .n) ≡ true
 swapped-fits c =
     let at-factor-steps = steps-made c in
     let at-start = start at-factor-steps in

@@ -21,8 +21,8 @@ use Rattle.lu.proofs.factor_steps.Tie as tie
 abbrev Inv-loop : tie.InvT-loop
 Inv-loop s₀ m n from to swaps₀ now₀ i₀ s swaps now i =
     (length s ≡ length s₀) × (length swaps ≡ length swaps₀) × (i ≤ to) × ((now .pairs ≤ i) × (now .tossed ≤ i) × (now₀ .pairs ≤ now .pairs))
-    × ((f : Factors) → Held m n f s₀ swaps₀ (now₀ .pairs) → (g : Factors) × (Held m n g s swaps
-    (now .pairs) × (turnsFrom step i (to - i) g ≡ turnsFrom step from (to - from) f) × (now .tossed + tossFrom i (to - i) g ≡ now₀ .tossed + tossFrom from
+    × ((f : Factors) → Held s₀ m n swaps₀ (now₀ .pairs) f → (g : Factors) × (Held s m n swaps (now .pairs)
+    g × (turnsFrom step i (to - i) g ≡ turnsFrom step from (to - from) f) × (now .tossed + tossFrom i (to - i) g ≡ now₀ .tossed + tossFrom from
     (to - from) f)))
 
 abbrev μ-loop : tie.MeasureT-loop
@@ -86,7 +86,7 @@ returns c =
     record {
       steps = λ f h.
           let e = l .inv .4 f h in
-          subst (λ (w : Factors). Held (g .m) (g .n) w (l .s) (l .swaps) (l .now .pairs)) (sym (turns-done step (l .i) (g .to) (e .0) end) ∙ e .1 .1) (e .1 .0);
+          subst (λ (w : Factors). Held (l .s) (g .m) (g .n) (l .swaps) (l .now .pairs) w) (sym (turns-done step (l .i) (g .to) (e .0) end) ∙ e .1 .1) (e .1 .0);
       toss = λ f h.
           let e = l .inv .4 f h in
           sym (add-zero (l .now .tossed)) ∙ ap (λ (t : ℕ). l .now .tossed + t) (sym (toss-done (l .i) (g .to) (e .0) end)) ∙ e .1 .2;

@@ -23,7 +23,7 @@ record Past (m n i : ℕ) (fits : Type 0) : Type 0 where
 abbrev start : tie.Else2 → tie.Start
 start c = let at-matrix = c .before .before .before in at-matrix .before .before .before
 
-past : (c : tie.Else2) → let g = start c .args in Past (g .m) (g .n) (g .i) (isMatrix (g .m) (g .n) (g .s .now) ≡ true)
+past : (c : tie.Else2) → let g = start c .args in Past (g .m) (g .n) (g .i) (isMatrix (g .s .now) (g .m) (g .n) ≡ true)
 past c =
     let at-matrix = c .before .before .before in
     let least = c .before .min .ensures in

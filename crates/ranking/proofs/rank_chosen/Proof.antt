@@ -9,7 +9,7 @@ use Rattle.ranking.proofs.rank_chosen.Tie as tie
 returns : tie.Need-returns
 returns c = outcome-refused _ _ _ _ _ (c .before .rank-refusal .ensures) (c .if1 .taken)
 
-none : (c : tie.Else1) → let g = c .before .before .before .before .before .args in rankingRefusal (g .n) (g .loads .now) (g .ranks .now) ≡ 0
+none : (c : tie.Else1) → let g = c .before .before .before .before .before .args in rankingRefusal (g .loads .now) (g .n) (g .ranks .now) ≡ 0
 none c = sym (c .before .rank-refusal .ensures) ∙ c .if1 .left
 
 list-requires : tie.Need-list-requires

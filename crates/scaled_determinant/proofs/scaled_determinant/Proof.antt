@@ -25,13 +25,13 @@ held : (c : tie.Else1) → let g = at-start c .args in Passed (g .factors .now) 
 held c = passed _ _ _ _ (sym (c .before .held-refusal .ensures) ∙ c .if1 .left)
 
 -- the call's answer is the number then
-answered : (c : tie.Else1) (x : Scaled) → let g = at-start c .args in x ≡ scaledDeterminant (g .told .rows) (g .factors .now) (g .told .pairs)
-    → done x ≡ scaling (g .told) (g .factors .now) (g .swaps .now)
+answered : (c : tie.Else1) (x : Scaled) → let g = at-start c .args in x ≡ scaledDeterminant (g .factors .now) (g .told .rows) (g .told .pairs)
+    → done x ≡ scaling (g .factors .now) (g .swaps .now) (g .told)
 unfolding scaling
 answered c x e = ap done e ∙ sym (tested-none _ refused _ (sym (c .before .held-refusal .ensures) ∙ c .if1 .left))
 
 -- whether a zero stands on the diagonal, by the record
-zero-there : (c : tie.Else1) → let g = at-start c .args in zeroOnDiagonal (g .told .rows) (g .factors .now) ≡ not (eqb (g .told .dead) 0)
+zero-there : (c : tie.Else1) → let g = at-start c .args in zeroOnDiagonal (g .factors .now) (g .told .rows) ≡ not (eqb (g .told .dead) 0)
 zero-there c = dead-zero _ _ _ squareAsks refl (held c)
 
 returns : tie.Need-returns

@@ -13,7 +13,8 @@ unfolding oneMoreAt
 returns c = rw (c .wrapping-add-usize .ensures)
 
 returns-2 : tie.Need-returns-2
-returns-2 c = let at-start = c .before in past-end _ (at-start .args .t1) (omega (arith, good-length (eInt w64) 5 (at-start .args .t1) _ (at-start .good .0), c .if1 .left))
+returns-2 c = let at-start = c .before in past-end _ (at-start .args .t1)
+    (omega (arith, good-length (eInt w64) 5 (at-start .args .t1) _ (at-start .good .0), c .if1 .left))
 
 pub one-more-band-spec : {M : Type 1} → statement M
 one-more-band-spec =

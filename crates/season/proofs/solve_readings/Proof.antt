@@ -40,7 +40,7 @@ returns c =
     let at-matrix = at-solve .before .before .before in
     let at-start = at-matrix .before .before .before .before .before in
     let g = at-start .args in
-    let p = packedIn (g .told) (g .matrix .now) (g .swaps .now) in
+    let p = packedIn (g .matrix .now) (g .swaps .now) (g .told) in
     let fits = sym (taken-count (g .told .rows) (g .loads .now) (omega arith)) in
     let e = at-solve .solve .ensures in (
       solve-number p _ _ fits _ _ (c .number-of .ensures) (e .0),

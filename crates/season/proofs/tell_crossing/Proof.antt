@@ -22,10 +22,10 @@ returns : tie.Need-returns
 returns c = told-refused _ _ _ (c .before .before .solve-readings .ensures .0) (c .if1 .taken)
 
 -- past the test there are loads, which stand in front of their store
-loads : (c : tie.Else1) → let g = asked (c .before .before) .args in Loads (solutionIn false (g .told) (g .matrix .now) (g .swaps .now) (g .readings .now))
+loads : (c : tie.Else1) → let g = asked (c .before .before) .args in Loads (solutionIn false (g .matrix .now) (g .swaps .now) (g .told) (g .readings .now))
 loads c =
     let g = asked (c .before .before) .args in
-    loads-of (packedIn (g .told) (g .matrix .now) (g .swaps .now)) (take (g .told .rows) (g .readings .now)) _ (c .before .before .solve-readings .ensures .0)
+    loads-of (packedIn (g .matrix .now) (g .swaps .now) (g .told)) (take (g .told .rows) (g .readings .now)) _ (c .before .before .solve-readings .ensures .0)
     (c .if1 .left)
 
 front : (c : tie.Else1) → let at-solve = c .before .before in let n = asked at-solve .args .told .rows in
@@ -47,7 +47,7 @@ listed-requires c κs =
     let at-start = asked (at-else .before .before) in
     let g = at-start .args in
     let f = front at-else in
-    let p = packedIn (g .told) (g .matrix .now) (g .swaps .now) in
+    let p = packedIn (g .matrix .now) (g .swaps .now) (g .told) in
     let numbers = solution-finite false p (take (g .told .rows) (g .readings .now)) _ (loads at-else .is) in
     (at-start .pre .0, at-start .pre .1, ap length (f .1) ∙ f .0, ap allFinite (f .1) ∙ numbers)
 
@@ -62,7 +62,7 @@ returns-2 c =
     let at-listed = c .before .before in
     let at-else = at-listed .before .before in
     let g = asked (at-else .before .before) .args in
-    told-share _ (loads at-else) (packedIn (g .told) (g .matrix .now) (g .swaps .now)) _ _ _ (front at-else .1) (at-listed .listed .ensures)
+    told-share _ (loads at-else) (packedIn (g .matrix .now) (g .swaps .now) (g .told)) _ _ _ (front at-else .1) (at-listed .listed .ensures)
     (c .band .ensures)
 
 pub tell-crossing-spec : {M : Type 1} → statement M

@@ -12,7 +12,7 @@ use Rattle.solve.proofs.solve_turn.Statement.{statement}
 use Rattle.solve.proofs.solve_turn.Tie as tie
 
 -- past the first test
-matrix : (c : tie.Else1) → let g = c .before .before .before .before .args in isMatrix (g .n) (g .n) (g .t .now) ≡ true
+matrix : (c : tie.Else1) → let g = c .before .before .before .before .args in isMatrix (g .t .now) (g .n) (g .n) ≡ true
 matrix c = sym (c .before .is-matrix .ensures) ∙ not-false _ (c .if1 .left)
 
 returns : tie.Need-returns

@@ -25,7 +25,7 @@ abbrev μ-loop : tie.MeasureT-loop
 -- past the tests the slice is a matrix that has row and column i
 has : (c : tie.Else2 Inv-loop μ-loop) → let at-if1 = c .before .before in
     let g = at-if1 .before .before .before .before .args in
-    (isMatrix (g .m) (g .n) (g .s .now) ≡ true) × (g .i < g .m) × (g .i < g .n)
+    (isMatrix (g .s .now) (g .m) (g .n) ≡ true) × (g .i < g .m) × (g .i < g .n)
 has c =
     let at-min = c .before in
     let e = at-min .min .ensures in

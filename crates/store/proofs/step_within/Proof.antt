@@ -30,7 +30,7 @@ returns-3 c =
 -- past the tests: the slice is a matrix that has row i and both columns
 has : (c : tie.Else3) → let at-if1 = c .before .before .before in
     let g = at-if1 .before .before .before .before .args in
-    (isMatrix (g .m) (g .n) (g .s .now) ≡ true) × (g .i < g .m) × (g .i < g .n) × (g .j < g .n)
+    (isMatrix (g .s .now) (g .m) (g .n) ≡ true) × (g .i < g .m) × (g .i < g .n) × (g .j < g .n)
 has c =
     let at-min = c .before in
     let at-if1 = at-min .before .before in

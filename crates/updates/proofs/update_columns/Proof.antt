@@ -16,7 +16,7 @@ returns : tie.Need-returns
 returns c = on-none _ _ _ _ (sym (c .before .is-matrix .ensures) ∙ not-true _ (c .if1 .taken))
 
 -- the slice is a matrix
-fits : (c : tie.Else1) → let g = c .before .before .before .before .args in isMatrix (g .m) (g .n) (g .s .now) ≡ true
+fits : (c : tie.Else1) → let g = c .before .before .before .before .args in isMatrix (g .s .now) (g .m) (g .n) ≡ true
 fits c = sym (c .before .is-matrix .ensures) ∙ not-false _ (c .if1 .left)
 
 returns-2 : tie.Need-returns-2

@@ -43,8 +43,9 @@ taken c =
     let at-loop = at-pass .before .before in
     let at-start = start at-loop in
     let g = at-start .args in
-    turn-taken (passOf (g .upper)) (g .n) (at-loop .loop .k) (g .t .now) (at-loop .loop .b) _ (at-start .pre .0) (at-loop .loop .inv .long) (in-time (at-pass .before))
-    (c .solve-turn .ensures ∙ ap (λ (p : Pass). turnedBy p (g .n) (at-loop .loop .k) (g .t .now) (at-loop .loop .b)) (at-pass .pass-of .ensures))
+    turn-taken (passOf (g .upper)) (g .n) (at-loop .loop .k) (g .t .now) (at-loop .loop .b) _ (at-start .pre .0) (at-loop .loop .inv .long)
+    (in-time (at-pass .before))
+    (c .solve-turn .ensures ∙ ap (λ (p : Pass). turnedBy p (g .t .now) (g .n) (at-loop .loop .b) (at-loop .loop .k)) (at-pass .pass-of .ensures))
 
 -- the length that it keeps
 kept : (c : tie.After-solve-turn Inv-loop μ-loop) → let at-loop = c .before .before .before .before in

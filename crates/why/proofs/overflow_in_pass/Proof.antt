@@ -78,7 +78,8 @@ returns c =
       fine = λ l. absurd (let n : ⊥ = omega arith in n);
       spoilt = λ _. (
         found .0,
-        passing-found _ _ _ _ _ _ _ (at-loop .loop .inv .1) (wide at-loop) (wide-now at-loop) h (found .0) _ (ap (firstInColumn _ _ _ 0) (sym (part-is at-turn)) ∙ found .1),
+        passing-found _ _ _ _ _ _ _ (at-loop .loop .inv .1) (wide at-loop) (wide-now at-loop) h (found .0) _
+            (ap (firstInColumn _ _ _ 0) (sym (part-is at-turn)) ∙ found .1),
       );
     }
 

@@ -25,7 +25,8 @@ abbrev start : tie.After-apply-to-rows → tie.Start
 start c = c .before .before .before .before .before
 
 sides : (c : tie.After-apply-to-rows) → let g = start c .args in
-    columns (g .told .rows) (g .k) (c .apply-to-rows .last .0) ≡ swappedSides (pairsOf (g .told .pairs) (g .swaps .now)) (columns (g .told .rows) (g .k) (g .x .now))
+    columns (g .told .rows) (g .k) (c .apply-to-rows .last .0) ≡ swappedSides (pairsOf (g .told .pairs) (g .swaps .now))
+    (columns (g .told .rows) (g .k) (g .x .now))
 unfolding inOrder
 sides c =
     let at-start = start c in
@@ -34,7 +35,7 @@ sides c =
     (c .apply-to-rows .kept .0) .each
 
 -- a slice as long as the sides holds them in the same shape
-shaped : (c : tie.After-apply-to-rows) (y : Column) → let g = start c .args in length y ≡ length (g .x .now) → isMatrix (g .told .rows) (g .k) y ≡ true
+shaped : (c : tie.After-apply-to-rows) (y : Column) → let g = start c .args in length y ≡ length (g .x .now) → isMatrix y (g .told .rows) (g .k) ≡ true
 shaped c y long = let at-start = start c in same-matrix _ _ (at-start .args .x .now) y long ∙ at-start .pre .0 .1
 
 -- the sides before have their rows, and are finite
@@ -106,7 +107,8 @@ returns-3 c =
     let g = start at-swap .args in
     let low = none-low at-else in
     let fine = at-up .overflow-in-pass2 .ensures .fine (c .if2 .left) in
-    found-none (g .told .rows) _ (pairsOf (g .told .pairs) (g .swaps .now)) _ (rows at-swap) (ok at-swap) (low .0) (ap (firstInPass Upper _ _) (sym (low .1)) ∙ fine .0)
+    found-none (g .told .rows) _ (pairsOf (g .told .pairs) (g .swaps .now)) _ (rows at-swap) (ok at-swap) (low .0)
+    (ap (firstInPass Upper _ _) (sym (low .1)) ∙ fine .0)
 
 pub overflow-in-solve-spec : {M : Type 1} → statement M
 overflow-in-solve-spec =

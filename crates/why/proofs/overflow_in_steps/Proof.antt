@@ -23,7 +23,8 @@ abbrev in-turn : tie.After-first-not-finite Inv-loop μ-loop → tie.In-loop Inv
 in-turn c = let at-step = c .before .before .before .before in at-step .before .before
 
 -- it is a step of the matrix
-before-end : (c : tie.In-loop Inv-loop μ-loop) → let at-start = c .before .before .before .before in c .before .loop .i < min (at-start .args .m) (at-start .args .n)
+before-end : (c : tie.In-loop Inv-loop μ-loop) → let at-start = c .before .before .before .before in c .before .loop .i < min (at-start .args .m)
+    (at-start .args .n)
 before-end c = let least = c .before .before .min .ensures in rw least at (c .loop-test .taken)
 
 div-t14 : tie.Need-div-t14 Inv-loop μ-loop

@@ -16,7 +16,7 @@ start c = let at-solve = solved-at c in at-solve .before .before .before .before
 
 -- the number that it gave
 number-is : (c : tie.After-number-of) → let g = start c .args in
-    c .number-of .result ≡ numberOf (solving (g .told) (g .factors .now) (g .swaps .now) (g .k) (g .b .now) (g .x .now) .answer)
+    c .number-of .result ≡ numberOf (solving (g .factors .now) (g .swaps .now) (g .told) (g .b .now) (g .k) (g .x .now) .answer)
 number-is c = c .number-of .ensures ∙ ap numberOf (solved-at c .solve .ensures .0)
 
 returns : tie.Need-returns

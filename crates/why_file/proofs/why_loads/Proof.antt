@@ -44,7 +44,7 @@ returns c =
     c .of-solving .ensures ∙ ap (toldIn inSolving) (at-why .why-solve .ensures .0)
     ∙ ap
     (λ (x : Column). toldIn inSolving
-    (explainSolving (g .told) (take (g .told .rows * g .told .rows) (g .matrix .now)) (g .swaps .now) 1 (take (g .told .rows) (g .readings .now)) x))
+    (explainSolving (take (g .told .rows * g .told .rows) (g .matrix .now)) (g .swaps .now) (g .told) (take (g .told .rows) (g .readings .now)) 1 x))
     (zeros-front (g .told .rows) 64 (at-start .pre .0))
 
 pub why-loads-spec : {M : Type 1} → statement M

@@ -36,7 +36,7 @@ returns c =
     let at-start = at-why .before .before .before .before .before in
     let g = at-start .args in
     c .of-factoring .ensures ∙ ap (toldIn inFactoring) (at-why .why-factor .ensures .0)
-    ∙ ap (λ (x : Column). toldIn inFactoring (explainFactoring (g .n) (g .n) (take (g .n * g .n) (g .matrix .now)) x (replicate 128 0)))
+    ∙ ap (λ (x : Column). toldIn inFactoring (explainFactoring (take (g .n * g .n) (g .matrix .now)) (g .n) (g .n) x (replicate 128 0)))
     (zeros-front (g .n * g .n) 4096 (square (g .n) 64 (at-start .pre .0)))
 
 pub why-matrix-spec : {M : Type 1} → statement M
