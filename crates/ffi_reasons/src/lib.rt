@@ -1,10 +1,11 @@
-// The explaining calls for C and Rust (document 02, request 8): the number that is told is the answer, the place is written through three pointers.
+// The explaining calls for C and Rust (document 02, request 8), in the form of `ffi`: the number that is told is the answer, the place is written through three
+// pointers. include/wejdarox.h is the caller's side.
 ghost use mathlib.Core.Path.{_≡_};
 ghost use Rattle.factors.specs.Factors.{recordOf};
 ghost use Rattle.lu.specs.Factoring.{factoring};
 ghost use Rattle.from_factors.specs.Solving.{solving};
 ghost use Rattle.why.specs.Why.{toldFactor, explainFactoring, toldSolve, explainSolving};
-ghost use Rattle.ffi.specs.Why.{placeTold, spotTold};
+ghost use Rattle.ffi_reasons.specs.Why.{placeTold, spotTold};
 use factors::Record;
 use why::WhyFactor;
 use why::WhySolve;

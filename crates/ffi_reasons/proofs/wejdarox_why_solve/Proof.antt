@@ -3,9 +3,9 @@ use mathlib.Core.Path.{ap, _∙_}
 use borrow.Author.Needs.{needs}
 use Rattle.why.specs.Solving.{Spot}
 use Rattle.why.specs.Why.{Told}
-use Rattle.ffi.specs.Why.{spotTold}
-use Rattle.ffi.proofs.reasons.wejdarox_why_solve.Statement.{statement}
-use Rattle.ffi.proofs.reasons.wejdarox_why_solve.Tie as tie
+use Rattle.ffi_reasons.specs.Why.{spotTold}
+use Rattle.ffi_reasons.proofs.wejdarox_why_solve.Statement.{statement}
+use Rattle.ffi_reasons.proofs.wejdarox_why_solve.Tie as tie
 
 returns : tie.Need-returns
 returns c =

@@ -3,9 +3,9 @@ use mathlib.Core.Path.{ap, _∙_}
 use borrow.Author.Needs.{needs}
 use Rattle.elimination.specs.Reason.{Place}
 use Rattle.why.specs.Why.{Told}
-use Rattle.ffi.specs.Why.{placeTold}
-use Rattle.ffi.proofs.reasons.wejdarox_why_factor.Statement.{statement}
-use Rattle.ffi.proofs.reasons.wejdarox_why_factor.Tie as tie
+use Rattle.ffi_reasons.specs.Why.{placeTold}
+use Rattle.ffi_reasons.proofs.wejdarox_why_factor.Statement.{statement}
+use Rattle.ffi_reasons.proofs.wejdarox_why_factor.Tie as tie
 
 returns : tie.Need-returns
 returns c =
