@@ -11,9 +11,9 @@ use Rattle.numbers.specs.Column.{Column}
 use Rattle.finite.specs.Finite.{allFinite}
 use Rattle.refusals.specs.Outcome.{Outcome, done, refused, numberOf, firstOf, tested, Call}
 use Rattle.refusals.specs.Refusals.{outside}
-use Rattle.panel_file.specs.declared.Written.{Written}
-use Rattle.panel_file.specs.declared.Written.the-variants.{Bytes, Refused}
 use Rattle.panel_file.specs.File.{fileLength, IsFile}
+use Rattle.panel_file_writer.specs.declared.Written.{Written}
+use Rattle.panel_file_writer.specs.declared.Written.the-variants.{Bytes, Refused}
 
 -- refusal 3: the matrix or the readings have another length than the size asks for, or the lent slice, of `room` bytes, is shorter than the file
 abbrev pub lengthsFit : ℕ → Column → Column → ℕ → Bool

@@ -1,9 +1,9 @@
 -- Each piece leaves what stands before it (`file-put`). Assumes nothing.
 use mathlib.Core.Path.{_∙_}
 use borrow.Author.Needs.{needs}
-use Rattle.panel_file.proofs.Fields.{file-put}
-use Rattle.panel_file.proofs.put_file.Statement.{statement}
-use Rattle.panel_file.proofs.put_file.Tie as tie
+use Rattle.panel_file_writer.proofs.Fields.{file-put}
+use Rattle.panel_file_writer.proofs.put_file.Statement.{statement}
+use Rattle.panel_file_writer.proofs.put_file.Tie as tie
 
 returns : tie.Need-returns
 returns c =

@@ -2,9 +2,9 @@
 use native.Mathlib.Omega.{arith}
 use borrow.Author.Needs.{needs}
 use lib.ListN.{length-set}
-use Rattle.panel_file.proofs.Fields.{head-put}
-use Rattle.panel_file.proofs.put_head.Statement.{statement}
-use Rattle.panel_file.proofs.put_head.Tie as tie
+use Rattle.panel_file_writer.proofs.Fields.{head-put}
+use Rattle.panel_file_writer.proofs.put_head.Statement.{statement}
+use Rattle.panel_file_writer.proofs.put_head.Tie as tie
 
 returns : tie.Need-returns
 returns c = let h = head-put (c .args .file .now) (c .args .n) (c .pre .0) in (search needs, h .0, h .1)

@@ -18,14 +18,14 @@ use Rattle.finite.proofs.Finite.{finite-append}
 use Rattle.numbers.proofs.Choice.{and-first, and-second, test-cases}
 use Rattle.refusals.specs.Outcome.{done, refused, numberOf, tested, Call}
 use Rattle.refusals.proofs.Outcomes.{tested-cases}
-use Rattle.panel_file.specs.declared.Written.{Written}
-use Rattle.panel_file.specs.declared.Written.the-variants.{Bytes, Refused}
 use Rattle.panel_file.specs.File.{padsOf, fileLength, matrixOf, readingsOf, AllBytes, IsFile}
 use Rattle.panel_file.specs.Reading.{Stores, storesFit, readingRefusal, reading}
-use Rattle.panel_file.specs.Writing.{bytesWritten, written, Writing}
 use Rattle.panel_file.proofs.Reading.{reader-whole}
 use Rattle.panel_file.proofs.Files.{Same, one-crossing, only-file, numbers-parts, readAs, reading-is, taken, file-read, read-file}
-use Rattle.panel_file.proofs.Writing.{Fit, fit, not-refused, write-done}
+use Rattle.panel_file_writer.specs.declared.Written.{Written}
+use Rattle.panel_file_writer.specs.declared.Written.the-variants.{Bytes, Refused}
+use Rattle.panel_file_writer.specs.Writing.{bytesWritten, written, Writing}
+use Rattle.panel_file_writer.proofs.Writing.{Fit, fit, not-refused, write-done}
 
 -- an answer that is none of the tests' refusals has none by them
 none-tested : (number count : ℕ) → numberOf (tested number refused (done count)) ≡ 0 → number ≡ 0

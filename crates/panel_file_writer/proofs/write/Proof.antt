@@ -3,9 +3,9 @@ use mathlib.Core.Path.{sym, _∙_}
 use native.Mathlib.Omega.{arith}
 use borrow.Author.Needs.{needs}
 use lib.Seq.{length-take-le}
-use Rattle.panel_file.proofs.Writing.{small, fit, write-refused, write-done}
-use Rattle.panel_file.proofs.write.Statement.{statement}
-use Rattle.panel_file.proofs.write.Tie as tie
+use Rattle.panel_file_writer.proofs.Writing.{small, fit, write-refused, write-done}
+use Rattle.panel_file_writer.proofs.write.Statement.{statement}
+use Rattle.panel_file_writer.proofs.write.Tie as tie
 
 returns : tie.Need-returns
 returns c = write-refused _ _ _ _ _ (c .before .write-refusal .ensures) (c .if1 .taken)

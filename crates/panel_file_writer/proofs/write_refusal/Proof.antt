@@ -3,9 +3,9 @@ use mathlib.Core.Path.{sym, _∙_}
 use native.Mathlib.Omega.{arith}
 use borrow.Author.Needs.{needs}
 use Rattle.refusals.proofs.Tests.{inside}
-use Rattle.panel_file.proofs.Writing.{small, size-refused, size-passed}
-use Rattle.panel_file.proofs.write_refusal.Statement.{statement}
-use Rattle.panel_file.proofs.write_refusal.Tie as tie
+use Rattle.panel_file_writer.proofs.Writing.{small, size-refused, size-passed}
+use Rattle.panel_file_writer.proofs.write_refusal.Statement.{statement}
+use Rattle.panel_file_writer.proofs.write_refusal.Tie as tie
 
 returns : tie.Need-returns
 returns c = size-refused _ _ _ _ (sym (c .before .outside .ensures) ∙ (c .if1 .taken))

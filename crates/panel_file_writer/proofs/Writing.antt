@@ -15,10 +15,10 @@ use Rattle.refusals.specs.Outcome.{done, refused, numberOf, firstOf}
 use Rattle.refusals.specs.Refusals.{outside}
 use Rattle.refusals.proofs.Outcomes.{first-none, tested-none, tested-some}
 use Rattle.refusals.proofs.Tests.{Inside, inside, not-outside}
-use Rattle.panel_file.specs.declared.Written.the-variants.{Bytes, Refused}
 use Rattle.panel_file.specs.File.{fileLength, IsFile}
-use Rattle.panel_file.specs.Writing.{lengthsFit, writingTests, writingRefusal, bytesWritten, written, Writing}
 use Rattle.panel_file.proofs.Reading.{square}
+use Rattle.panel_file_writer.specs.declared.Written.the-variants.{Bytes, Refused}
+use Rattle.panel_file_writer.specs.Writing.{lengthsFit, writingTests, writingRefusal, bytesWritten, written, Writing}
 
 -- a size within the limits, and its square
 pub small : (n : ℕ) → Inside 1 n → (n ≤ 64) × (n * n ≤ 4096)

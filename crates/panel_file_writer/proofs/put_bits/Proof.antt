@@ -2,9 +2,9 @@
 use Prim.Native.Nat.{_-_}
 use native.Mathlib.Omega.{arith}
 use borrow.Author.Needs.{needs}
-use Rattle.panel_file.proofs.Fields.{Putting, put-begin, put-turn, put-end}
-use Rattle.panel_file.proofs.put_bits.Statement.{statement}
-use Rattle.panel_file.proofs.put_bits.Tie as tie
+use Rattle.panel_file_writer.proofs.Fields.{Putting, put-begin, put-turn, put-end}
+use Rattle.panel_file_writer.proofs.put_bits.Statement.{statement}
+use Rattle.panel_file_writer.proofs.put_bits.Tie as tie
 
 abbrev Inv-loop : tie.InvT-loop
 Inv-loop file₀ at bits rest₀ k₀ file rest k = Putting at bits file₀ file rest k

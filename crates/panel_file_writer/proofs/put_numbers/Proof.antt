@@ -5,10 +5,10 @@ use native.Mathlib.Omega.{arith}
 use borrow.Author.Needs.{needs}
 use lib.ListN.{length}
 use Rattle.finite.proofs.Finite.{finite-entry}
 use Rattle.panel_file.proofs.Bits.{no-nan}
-use Rattle.panel_file.proofs.Fields.{Filling, fill-turn, fill-end}
-use Rattle.panel_file.proofs.put_numbers.Statement.{statement}
-use Rattle.panel_file.proofs.put_numbers.Tie as tie
+use Rattle.panel_file_writer.proofs.Fields.{Filling, fill-turn, fill-end}
+use Rattle.panel_file_writer.proofs.put_numbers.Statement.{statement}
+use Rattle.panel_file_writer.proofs.put_numbers.Tie as tie
 
 abbrev Inv-loop : tie.InvT-loop
 Inv-loop file₀ from numbers k₀ file k = Filling from numbers file₀ file k

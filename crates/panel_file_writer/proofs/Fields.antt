@@ -1,5 +1,5 @@
--- Fields of bytes as the writer and the theorems on files meet them: a field by its last byte, what depends on the bytes before a place alone, and bytes by the
--- number that they stand for. By one byte after the other. Assumes nothing.
+-- Fields of bytes as the writer's loops meet them: a field by its last byte, and what depends on the bytes before a place alone. By one byte after the other.
+-- Assumes nothing.
 use mathlib.Core.Path.{_≡_, refl, sym, ap, ap₂, _∙_}
 use mathlib.Core.Bool.{true}
 use mathlib.Core.List.{List, [], _∷_}
@@ -10,15 +10,15 @@ use native.Mathlib.Omega.{arith}
 use borrow.Author.Tests.{le-leb, ltb-true, ltb-false}
 use lib.Dec.{T, ltb}
 use lib.ListN.{length, getD, take, drop, set, length-set}
-use lib.Seq.{length-take-le, take-take, take-add, take-set-le, drop-at, ext-getD, getD-take, getD-drop, getD-set-same}
+use lib.Seq.{length-take-le, take-take, take-add, take-set-le, drop-at, ext-getD, getD-take, getD-set-same}
 use lib.Ieee.{nan, binary64, fits, ofBits, toBits}
 use lib.Ieee.Bits.{ofBits-toBits}
 use Rattle.numbers.specs.Each.{listOf}
 use Rattle.numbers.specs.Column.{Column, entry}
 use Rattle.numbers.proofs.Each.{length-list, list-at}
 use Rattle.numbers.proofs.Choice.{test-cases}
 use Rattle.panel_file.specs.File.{littleEndian, fieldAt, bitsAt, headed, padsOf, fileLength, numberAt, matrixOf, AllBytes, IsFile}
 use Rattle.panel_file.proofs.Bits.{field-next, field-none}
 
 -- ---- a field and the byte behind it
 pub field-last : (k : ℕ) (s : List ℕ) (at : ℕ) → at + k < length s → fieldAt (suc k) s at ≡ fieldAt k s at + 256 ^ k * getD s (at + k) 0
@@ -71,34 +71,6 @@ front-head s t a b e =
 
 front-pads : (s t : List ℕ) → take 6 s ≡ take 6 t → getD s 5 0 ≡ getD t 5 0
 front-pads s t e = front-byte s t 5 6 (omega arith) e
-
--- ---- bytes and the number that they stand for
-each-take : (w : ℕ) (l : List ℕ) → AllBytes l → AllBytes (take w l)
-each-take zero l e k = omega arith
-each-take (suc w) [] e k = omega arith
-each-take (suc w) (b ∷ l) e zero = e 0
-each-take (suc w) (b ∷ l) e (suc k) = each-take w l (λ i. e (suc i)) k
-
-pub each-part : (w at : ℕ) (l : List ℕ) → AllBytes l → AllBytes (take w (drop at l))
-each-part w at l e = each-take w (drop at l) (λ k. rw (getD-drop at l k 0) (e (at + k)))
-
-pub little-below : (l : List ℕ) → AllBytes l → littleEndian l < 256 ^ length l
-unfolding littleEndian
-little-below [] e = omega arith
-little-below (b ∷ l) e =
-    let p : 256 ^ suc (length l) ≡ 256 * 256 ^ length l = pow-succ' 256 (length l) in
-    omega (arith, e 0, little-below l (λ k. e (suc k)))
-
--- as many bytes that stand for the same number are the same
-pub little-same : (l m : List ℕ) → length l ≡ length m → AllBytes l → AllBytes m → littleEndian l ≡ littleEndian m → l ≡ m
-unfolding littleEndian
-little-same [] [] e a b d = refl
-little-same [] (c ∷ m) e a b d = absurd (omega arith)
-little-same (b ∷ l) [] e a c d = absurd (omega arith)
-little-same (b ∷ l) (c ∷ m) e p q d =
-    let first : b ≡ c = omega (arith, p 0, q 0) in
-    let rest : littleEndian l ≡ littleEndian m = omega (arith, p 0, q 0) in
-    ap₂ (λ (x : ℕ) (y : List ℕ). x ∷ y) first (little-same l m (omega arith) (λ k. p (suc k)) (λ k. q (suc k)) rest)
 
 -- ---- the loop that writes a field: at byte k the field so far, and what is left of the bits by its weight, are the bits
 pub record Putting (at bits : ℕ) (was s : List ℕ) (rest k : ℕ) : Type 0 where
