@@ -35,11 +35,7 @@ use Rattle.crossing.specs.Factors.{factorsIn, tossUpsIn, tossesGiven, stiffness
 use Rattle.crossing.specs.Ordering.{loadsOf, ranksLeft, Ranks, ordering}
 use Rattle.season.specs.Telling.{telling}
 use Rattle.season.specs.Season.{oneMoreAt, counted, handing, countsOf, seasonFrom}
-use Rattle.elimination.specs.Reason.{Place}
-use Rattle.why.specs.Solving.{Spot}
-use Rattle.why.specs.Why.{explainFactoring, refusedSolving, explainSolving}
 use Rattle.ffi.specs.Exports.{valueAfter, resultAfter, padsIn, countIn}
-use Rattle.ffi.specs.Why.{placeOr, placeTold, spotOr, spotTold}
 
 -- a name for all that has to unfold for a call to be refused
 refuses : Type 0
@@ -121,17 +117,17 @@ wejdarox-add-column = (
 
 -- ---- the calls on factors: rows and columns exchanged, which gives 2 for 1; one row and no store is 3
 
-abbrev noSizes : Record
+abbrev pub noSizes : Record
 noSizes = recordOf 0 1 0 0
 
-abbrev oneByOne : Record
+abbrev pub oneByOne : Record
 oneByOne = recordOf 1 1 0 0
 
-abbrev swapped : Record → Record
+abbrev pub swapped : Record → Record
 swapped r = recordOf (r .columns) (r .rows) (r .pairs) (r .dead)
 
 -- the calls that leave one slice: their number, and the slice
-abbrev numbered : Call (Unit {0}) Column → ℕ × Column
+abbrev pub numbered : Call (Unit {0}) Column → ℕ × Column
 numbered o = (numberOf (o .answer), o .left)
 
 abbrev solves : Record × (Column × (List ℕ × (ℕ × (Column × Column)))) → ℕ × Column
@@ -295,29 +291,3 @@ unfolding refuses listOf telling oneMoreAt counted handing countsOf seasonFrom
 wejdarox-with-file =
     two hands filesGoOn ([], full) ([], full) ([], replicate 17 0) (λ d. omega (arith, ap (λ (o : Season). getD (o .counts) 16 0) d))
     (λ d. omega (arith, ap (λ (o : Season). o .number) d))
-
--- ---- why: the number that is told and its place; the sizes exchanged
-
-abbrev whyFactors : ℕ × (ℕ × (Column × (Column × List ℕ))) → ℕ × Place
-whyFactors x = let t = explainFactoring (x .1 .1 .0) (x .0) (x .1 .0) (x .1 .1 .1 .0) (x .1 .1 .1 .1) in (t .number, placeTold t)
-
-abbrev exchangedSizes : ℕ × (ℕ × (Column × (Column × List ℕ))) → ℕ × Place
-exchangedSizes x = whyFactors (x .1 .0, (x .0, x .1 .1))
-
-pub wejdarox-why-factor : TwoShutOut whyFactors exchangedSizes
-unfolding refuses explainFactoring placeOr
-wejdarox-why-factor =
-    two whyFactors exchangedSizes (0, (1, ([], ([], [])))) (0, (1, ([], ([], [])))) (1, (0, ([], ([], []))))
-    (λ d. omega (arith, ap (λ (o : ℕ × Place). o .0) d)) (λ d. omega (arith, ap (λ (o : ℕ × Place). o .0) d))
-
-abbrev whySolves : Record × (Column × (List ℕ × (ℕ × (Column × Column)))) → ℕ × Spot
-whySolves x =
-    let t = explainSolving (x .1 .0) (x .1 .1 .0) (x .0) (x .1 .1 .1 .1 .0) (x .1 .1 .1 .0) (x .1 .1 .1 .1 .1) in
-    (t .number, spotTold t)
-
-pub wejdarox-why-solve : TwoShutOut whySolves (λ x. whySolves (swapped (x .0), x .1))
-unfolding refuses explainSolving refusedSolving spotOr
-wejdarox-why-solve =
-    two whySolves (λ x. whySolves (swapped (x .0), x .1)) (noSizes, ([], ([], (1, ([], []))))) (noSizes, ([], ([], (1, ([], [])))))
-    (oneByOne, ([], ([], (1, ([], [])))))
-    (λ d. omega (arith, ap (λ (o : ℕ × Spot). o .0) d)) (λ d. omega (arith, ap (λ (o : ℕ × Spot). o .0) d))

@@ -1,3 +1,2 @@
 pub mod Exports
-pub mod Why
 pub mod Profiles

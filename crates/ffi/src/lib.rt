@@ -1,7 +1,6 @@
 // The calls for C and Rust, under plain names: a slice is a pointer and a length, a refusal's number is the answer (0 for none), and a further number is
 // written through a pointer. Each hands its arguments on and adds nothing of its own; include/wejdarox.h is the caller's side.
 mod four;
-mod reasons;
 
 ghost use mathlib.Core.Path.{_≡_};
 ghost use Rattle.numbers.specs.Numbers.{zero64};

@@ -6,7 +6,7 @@ use Prim.Native.Nat.{ℕ}
 use native.Mathlib.Omega.{arith}
 use Rattle.numbers.specs.Column.{Column}
 use Rattle.store.specs.Columns.{isMatrix}
-use Rattle.refusals.specs.Outcome.{numberOf, firstOf, tested, Call}
+use Rattle.refusals.specs.Outcome.{numberOf, firstOf, tested}
 use Rattle.refusals.specs.Refusals.{outside}
 use Rattle.refusals.proofs.Strength.{ShutsOut, shut-out, TwoShutOut, two}
 use Rattle.factors.specs.declared.Record.{Record}
@@ -15,6 +15,7 @@ use Rattle.factors.specs.Held.{heldRefusal}
 use Rattle.columns.specs.Removing.{removingRefusal, removing}
 use Rattle.from_factors.specs.Triangles.{lowering, uppering}
 use Rattle.from_factors.specs.Solving.{trSolving}
+use Rattle.ffi.proofs.WrongExports.{noSizes, oneByOne, swapped, numbered}
 
 -- a name for all that has to unfold for a call to be refused
 refuses : Type 0
@@ -56,19 +57,13 @@ wejdarox-remove-column = (
 )
 
 -- ---- the calls that leave one slice: rows and columns exchanged
-abbrev swapped : Record → Record
-swapped r = recordOf (r .columns) (r .rows) (r .pairs) (r .dead)
-
-abbrev numbered : Call (Unit {0}) Column → ℕ × Column
-numbered o = (numberOf (o .answer), o .left)
-
 abbrev lowers : Record × (Column × (List ℕ × Column)) → ℕ × Column
 lowers x = numbered (lowering (x .1 .0) (x .1 .1 .0) (x .0) (x .1 .1 .1))
 
 pub wejdarox-l : TwoShutOut lowers (λ x. lowers (swapped (x .0), x .1))
 unfolding refuses
 wejdarox-l =
-    two lowers (λ x. lowers (swapped (x .0), x .1)) (recordOf 0 1 0 0, ([], ([], []))) (recordOf 0 1 0 0, ([], ([], []))) (recordOf 1 1 0 0, ([], ([], [])))
+    two lowers (λ x. lowers (swapped (x .0), x .1)) (noSizes, ([], ([], []))) (noSizes, ([], ([], []))) (oneByOne, ([], ([], [])))
     (λ d. omega (arith, ap (λ (o : ℕ × Column). o .0) d)) (λ d. omega (arith, ap (λ (o : ℕ × Column). o .0) d))
 
 abbrev uppers : Record × (Column × (List ℕ × Column)) → ℕ × Column
@@ -77,7 +72,7 @@ uppers x = numbered (uppering (x .1 .0) (x .1 .1 .0) (x .0) (x .1 .1 .1))
 pub wejdarox-u : TwoShutOut uppers (λ x. uppers (swapped (x .0), x .1))
 unfolding refuses
 wejdarox-u =
-    two uppers (λ x. uppers (swapped (x .0), x .1)) (recordOf 0 1 0 0, ([], ([], []))) (recordOf 0 1 0 0, ([], ([], []))) (recordOf 1 1 0 0, ([], ([], [])))
+    two uppers (λ x. uppers (swapped (x .0), x .1)) (noSizes, ([], ([], []))) (noSizes, ([], ([], []))) (oneByOne, ([], ([], [])))
     (λ d. omega (arith, ap (λ (o : ℕ × Column). o .0) d)) (λ d. omega (arith, ap (λ (o : ℕ × Column). o .0) d))
 
 abbrev trSolves : Record × (Column × (List ℕ × (ℕ × (Column × Column)))) → ℕ × Column
@@ -86,6 +81,6 @@ trSolves x = numbered (trSolving (x .1 .0) (x .1 .1 .0) (x .0) (x .1 .1 .1 .1 .0
 pub wejdarox-tr-solve : TwoShutOut trSolves (λ x. trSolves (swapped (x .0), x .1))
 unfolding refuses
 wejdarox-tr-solve =
-    two trSolves (λ x. trSolves (swapped (x .0), x .1)) (recordOf 0 1 0 0, ([], ([], (1, ([], []))))) (recordOf 0 1 0 0, ([], ([], (1, ([], [])))))
-    (recordOf 1 1 0 0, ([], ([], (1, ([], [])))))
+    two trSolves (λ x. trSolves (swapped (x .0), x .1)) (noSizes, ([], ([], (1, ([], []))))) (noSizes, ([], ([], (1, ([], [])))))
+    (oneByOne, ([], ([], (1, ([], [])))))
     (λ d. omega (arith, ap (λ (o : ℕ × Column). o .0) d)) (λ d. omega (arith, ap (λ (o : ℕ × Column). o .0) d))

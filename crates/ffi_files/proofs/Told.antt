@@ -4,8 +4,8 @@ use mathlib.Core.List.{List}
 use Prim.Native.Nat.{ℕ}
 use Rattle.numbers.specs.Column.{Column}
 use Rattle.refusals.specs.Outcome.{Outcome, done, refused, numberOf, Call}
-use Rattle.panel_file.specs.declared.Written.{Written}
-use Rattle.panel_file.specs.Writing.{bytesWritten, written, Writing}
+use Rattle.panel_file_writer.specs.declared.Written.{Written}
+use Rattle.panel_file_writer.specs.Writing.{bytesWritten, written, Writing}
 use Rattle.ffi.specs.Exports.{countIn}
 use Rattle.ffi_files.specs.Files.{writingAnswer, leftWith}
 

@@ -4,7 +4,7 @@ use Prim.Native.Nat.{ℕ, _+_, _*_}
 use Rattle.numbers.specs.Column.{Column}
 use Rattle.refusals.specs.Outcome.{Outcome, done, refused, tested, Call}
 use Rattle.panel_file.specs.File.{fileLength}
-use Rattle.panel_file.specs.Writing.{writingRefusal}
+use Rattle.panel_file_writer.specs.Writing.{writingRefusal}
 
 -- document 02, 1/13: the refusal, or how many bytes the file has; `room` is the length of the lent slice
 abbrev pub writingAnswer : ℕ → Column → Column → ℕ → Outcome ℕ

@@ -5,7 +5,7 @@ ghost use lib.ListN.{length};
 ghost use Rattle.refusals.specs.Outcome.{numberOf};
 ghost use Rattle.lu.specs.Factoring.{tossedIn};
 ghost use Rattle.panel_file.specs.Reading.{stores, reading};
-ghost use Rattle.panel_file.specs.Writing.{Writing};
+ghost use Rattle.panel_file_writer.specs.Writing.{Writing};
 ghost use Rattle.crossing.specs.Moving.{moving};
 ghost use Rattle.panel_text.specs.Text.{written};
 ghost use Rattle.panel_text.specs.Printed.{textOf, movesTextOf, stiffnessTextOf};
@@ -14,7 +14,7 @@ ghost use Rattle.ffi.specs.Exports.{padsIn, countIn};
 ghost use Rattle.ffi_files.specs.Files.{writingAnswer, leftWith, versionNumber};
 use crossing::Order;
 use panel_file::Panel;
-use panel_file::Written;
+use panel_file_writer::Written;
 
 // Reads a panel file into two stores, its number of pads through pads. Refused: no pads.
 #[no_mangle]
@@ -55,7 +55,7 @@ pub extern "C" fn wejdarox_write_panel(
         (leftWith (writingAnswer n (now (matrix .entry)) (now (readings .entry)) (length (now (out .entry)))) (now (out .exit))) ⌝ }
     ensures { λ _. ⌜ now (count .exit) ≡ countIn (writingAnswer n (now (matrix .entry)) (now (readings .entry)) (length (now (out .entry)))) ⌝ }
 {
-    match panel_file::write(n, matrix, readings, out) {
+    match panel_file_writer::write(n, matrix, readings, out) {
         Written::Bytes(bytes) => {
             *count = bytes;
             0

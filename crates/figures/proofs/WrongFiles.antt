@@ -22,10 +22,10 @@ use Rattle.refusals.specs.Refusals.{outside}
 use Rattle.refusals.proofs.Strength.{ShutsOut, shut-out, BothShutOut, both, Strong, strong, Keeps, StrongBy, strong-by, done-refused}
 use Rattle.panel_file.specs.File.{littleEndian, fieldAt, headed, padsOf, numberAt}
 use Rattle.panel_file.specs.Reading.{fileTests, fileRefusal, Stores, stores, readingRefusal, filled, reading, sizedRefusal, readingSized}
-use Rattle.panel_file.specs.Writing.{writingRefusal, bytesWritten, written, Writing}
-use Rattle.panel_file.specs.declared.Written.the-variants.{Refused as NotWritten}
-use Rattle.panel_file.proofs.Writing.{Fit, not-refused, write-refused}
-use Rattle.panel_file.proofs.Crossings.{one-writing}
+use Rattle.panel_file_writer.specs.Writing.{writingRefusal, bytesWritten, written, Writing}
+use Rattle.panel_file_writer.specs.declared.Written.the-variants.{Refused as NotWritten}
+use Rattle.panel_file_writer.proofs.Writing.{Fit, not-refused, write-refused}
+use Rattle.panel_file_writer.proofs.Crossings.{one-writing}
 use Rattle.ranking.specs.Ranking.{ahead, insertPad, ranked, padsTo}
 use Rattle.from_factors.proofs.Figures.{transposes, n0, n1, n2}
 use Rattle.scaled_determinant.specs.declared.Scaled.{Scaled}

@@ -13,7 +13,7 @@ use lines::put_shown;
 use lines::put_whole;
 use lines::put_wholes;
 use lines::put_word;
-use panel_file::Written;
+use panel_file_writer::Written;
 use refusals::Answer;
 use scaled_determinant::ScaledDet;
 use season::Handed;
@@ -101,7 +101,7 @@ fn put_written(text: &mut [u8], from: usize, answer: Written) -> usize {
 
 // Op 21 on the bytes that are lent.
 fn write_to(text: &mut [u8], from: usize, n: usize, a: &[f64], b: &[f64], out: &mut [u8]) -> usize {
-    let answer = panel_file::write(n, a, b, out);
+    let answer = panel_file_writer::write(n, a, b, out);
     let at = put_written(text, from, answer);
     let bar = put_bar(text, at);
     put_bytes(text, bar, out)

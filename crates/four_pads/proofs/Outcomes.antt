@@ -24,12 +24,14 @@ use Rattle.factors.proofs.Swaps.{length-store, pairs-store}
 use Rattle.elimination.proofs.Recorded.{Rising, eliminate-rising, rising-few, rising-good}
 use Rattle.lu.specs.Factoring.{factoringRefusal, settled, factoring}
 use Rattle.from_factors.specs.Solving.{solved, solvedAll, solveAsks, solving}
-use Rattle.four_pads.specs.declared.System.{System}
-use Rattle.four_pads.specs.declared.Reduced.{Reduced}
+use Rattle.four_by_four.specs.declared.System.{System}
+use Rattle.four_by_four.specs.declared.Reduced.{Reduced}
+use Rattle.four_by_four.specs.System.{listed, matrixOf, recordedBy, Eliminated}
+use Rattle.four_passes.specs.Passes.{isDead, lowerBy, upperBy}
 use Rattle.four_pads.specs.declared.Pairs.{Pairs}
 use Rattle.four_pads.specs.declared.FourPads.{FourPads}
 use Rattle.four_pads.specs.Profile.{refusedWith, profileOf, generalPath, fourOf}
-use Rattle.four_pads.specs.Inner.{listed, matrixOf, isDead, lowerBy, upperBy, recordedBy, heldAs, Eliminated, loadedBy}
+use Rattle.four_pads.specs.Inner.{heldAs, loadedBy}
 
 -- ---- what finite factors come to, by the diagonal and by the loads
 module _ (e : Reduced) where

@@ -1,17 +1,20 @@
--- The bits at a place by their bytes, and which bits are a finite number's. By one byte after the other; by the exponent's field. Assumes nothing.
-use mathlib.Core.Path.{_≡_, refl, sym, ap, _∙_, subst}
+-- The bits at a place by their bytes, bytes by the number that they stand for, and which bits are a finite number's. By one byte after the other; by the
+-- exponent's field. Assumes nothing.
+use mathlib.Core.Path.{_≡_, refl, sym, ap, ap₂, _∙_, subst}
 use mathlib.Core.Bool.{Bool, true, false, not, cond, _&&_, false≢true}
-use mathlib.Core.List.{List}
+use mathlib.Core.List.{List, [], _∷_}
 use Prim.Native.Nat.{ℕ, zero, suc, _+_, _*_, _/_, _%_, _^_, _≤_, _<_}
+use native.Mathlib.Nat.{pow-succ'}
 use native.Mathlib.Omega.{arith}
 use borrow.Author.Tests.{le-leb}
 use lib.Dec.{T, eqb, leb}
 use lib.ListN.{length, getD, take, drop}
+use lib.Seq.{getD-drop}
 use lib.Ieee.{Float, nan, inf, fin, binary64, odd, isNan, ofFields, ofBits, nanBits}
 use lib.Ieee.Bits.{nanBits-is}
 use lib.Ieee.Scale.{finite}
 use Rattle.numbers.proofs.Walk.{drop-next}
-use Rattle.panel_file.specs.File.{littleEndian, fieldAt, headed}
+use Rattle.panel_file.specs.File.{littleEndian, fieldAt, headed, AllBytes}
 
 -- ---- a field by its first byte and the rest
 pub field-next : (width : ℕ) (s : List ℕ) (at next : ℕ) → at < length s → next ≡ at + 1 → fieldAt (suc width) s at ≡ getD s at 0 + 256 * fieldAt width s next
@@ -53,6 +56,34 @@ field-eight s at b0 b1 b2 b3 b4 b5 b6 b7 h e0 e1 e2 e3 e4 e5 e6 e7 =
       field-next 0 s (at + 7) (at + 8) (omega arith) (omega arith),
       field-none s (at + 8),
     )
+
+-- ---- bytes and the number that they stand for
+each-take : (w : ℕ) (l : List ℕ) → AllBytes l → AllBytes (take w l)
+each-take zero l e k = omega arith
+each-take (suc w) [] e k = omega arith
+each-take (suc w) (b ∷ l) e zero = e 0
+each-take (suc w) (b ∷ l) e (suc k) = each-take w l (λ i. e (suc i)) k
+
+pub each-part : (w at : ℕ) (l : List ℕ) → AllBytes l → AllBytes (take w (drop at l))
+each-part w at l e = each-take w (drop at l) (λ k. rw (getD-drop at l k 0) (e (at + k)))
+
+pub little-below : (l : List ℕ) → AllBytes l → littleEndian l < 256 ^ length l
+unfolding littleEndian
+little-below [] e = omega arith
+little-below (b ∷ l) e =
+    let p : 256 ^ suc (length l) ≡ 256 * 256 ^ length l = pow-succ' 256 (length l) in
+    omega (arith, e 0, little-below l (λ k. e (suc k)))
+
+-- as many bytes that stand for the same number are the same
+pub little-same : (l m : List ℕ) → length l ≡ length m → AllBytes l → AllBytes m → littleEndian l ≡ littleEndian m → l ≡ m
+unfolding littleEndian
+little-same [] [] e a b d = refl
+little-same [] (c ∷ m) e a b d = absurd (omega arith)
+little-same (b ∷ l) [] e a c d = absurd (omega arith)
+little-same (b ∷ l) (c ∷ m) e p q d =
+    let first : b ≡ c = omega (arith, p 0, q 0) in
+    let rest : littleEndian l ≡ littleEndian m = omega (arith, p 0, q 0) in
+    ap₂ (λ (x : ℕ) (y : List ℕ). x ∷ y) first (little-same l m (omega arith) (λ k. p (suc k)) (λ k. q (suc k)) rest)
 
 -- ---- finite by the exponent's field
 odd-finite : (d : ℕ) (s : Bool) (q k l : ℕ) → finite (odd d s q k l) ≡ true

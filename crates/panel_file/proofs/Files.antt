@@ -22,8 +22,7 @@ use Rattle.refusals.specs.Outcome.{done, numberOf, Call, leaving}
 use Rattle.refusals.proofs.Outcomes.{tested-none, none-given}
 use Rattle.panel_file.specs.File.{littleEndian, fieldAt, headed, padsOf, fileLength, numberAt, numbersOf, matrixOf, readingsOf, AllBytes, IsFile}
 use Rattle.panel_file.specs.Reading.{Stores, stores, storesFit, readingRefusal, reading}
-use Rattle.panel_file.proofs.Bits.{field-two, no-nan}
-use Rattle.panel_file.proofs.Fields.{each-part, little-below, little-same}
+use Rattle.panel_file.proofs.Bits.{field-two, each-part, little-below, little-same, no-nan}
 use Rattle.panel_file.proofs.Numbers.{number-finite}
 use Rattle.panel_file.proofs.Reading.{no-refusal, reader-whole}
 

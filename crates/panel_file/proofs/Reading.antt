@@ -48,6 +48,11 @@ module _ (fit : Bool) (bytes : List ℕ) where
   abbrev pub headRefusal : ℕ
   headRefusal = cond (not (headed bytes)) 8 (cond (outside 1 (padsOf bytes)) 1 (cond (not wholeTest) 3 0))
 
+  -- one test within the other, as the code makes them
+  pub head-tested : (n : ℕ) (head size : Bool) (third second first : ℕ) → n ≡ padsOf bytes → head ≡ headed bytes → size ≡ outside 1 n
+      → third ≡ cond (not (fit && eqb (length bytes) (fileLength n))) 3 0 → second ≡ cond size 1 third → first ≡ cond (not head) 8 second → first ≡ headRefusal
+  head-tested n head size third second first n-is h s e3 e2 e1 = rw (e1, e2, e3, s, h, n-is)
+
   pub refused-early : (early : ℕ) → early ≡ headRefusal → (early ≡ 0 → ⊥) → early ≡ firstOf (fileTests fit bytes)
   unfolding fileTests
   refused-early early e n = sym (four _ _ _ _ ∙ rw (← e, ne-eqb early 0 n))

@@ -1,16 +1,11 @@
--- What the writer's loops leave alone, for their own contracts; and reading into stores of any length.
-use mathlib.Core.Path.{_≡_}
+-- Reading into stores of any length, for the contract of the function that fills them.
 use mathlib.Core.Bool.{Bool}
 use mathlib.Core.List.{List}
 use Prim.Native.Nat.{ℕ, _*_, _≤_}
-use lib.ListN.{length, take}
+use lib.ListN.{length}
 use Rattle.refusals.specs.Outcome.{done, firstOf, tested, Call, leaving}
 use Rattle.panel_file.specs.File.{padsOf}
 use Rattle.panel_file.specs.Reading.{fileTests, Stores, filled}
-
--- bytes s that stand where others were: as many, and the same before a place
-abbrev pub KeepsBefore : ℕ → List ℕ → List ℕ → Type 0
-KeepsBefore at was s = (length s ≡ length was) × (take at s ≡ take at was)
 
 -- the stores have room for the numbers of n pads
 abbrev pub Holds : ℕ → Stores → Type 0

@@ -1,4 +1,3 @@
 pub mod File
 pub mod Reading
 pub mod Inner
-pub mod Writing

@@ -11,10 +11,10 @@ use Rattle.refusals.specs.Outcome.{done, Call, leaving}
 use Rattle.refusals.specs.Refusals.{outside}
 use Rattle.refusals.proofs.Cases.{done-same, never-both, tested-done}
 use Rattle.refusals.proofs.Tests.{inside}
-use Rattle.panel_file.specs.declared.Written.the-variants.{Bytes, Refused}
+use Rattle.panel_file_writer.specs.declared.Written.the-variants.{Bytes, Refused}
 use Rattle.panel_file.specs.File.{fileLength}
-use Rattle.panel_file.specs.Writing.{Writing, written, bytesWritten, writingRefusal}
-use Rattle.panel_file.proofs.Writing.{small}
+use Rattle.panel_file_writer.specs.Writing.{Writing, written, bytesWritten, writingRefusal}
+use Rattle.panel_file_writer.proofs.Writing.{small}
 use Rattle.panel_write.specs.Text.{AreLines, numbersIn, LinesWritten, whole, other, headIn, TextWritten, size, lines}
 
 -- a refusal leaves the slice as it was

@@ -10,7 +10,7 @@ use Rattle.numbers.specs.Column.{Column}
 use Rattle.numbers.specs.Each.{listOf}
 use Rattle.refusals.specs.Outcome.{Call, leaving}
 use Rattle.refusals.specs.Refusals.{outside}
-use Rattle.panel_file.specs.Writing.{Writing}
+use Rattle.panel_file_writer.specs.Writing.{Writing}
 
 -- a hex digit's value, 16 for any other byte
 unfoldable pub digitOf : ℕ → ℕ

@@ -1,13 +1,13 @@
 // Prints the panel file of a crossing, or the refusal. Standard input is text: a line with the number of pads, then a line for each number of the matrix,
-// column by column, and of the readings, with the 16 small hex digits of its bits. The bytes are those of `panel_file::write`.
+// column by column, and of the readings, with the 16 small hex digits of its bits. The bytes are those of `panel_file_writer::write`.
 ghost use mathlib.Core.Path.{_≡_};
 ghost use mathlib.Core.Bool.{true};
 ghost use Prim.Native.Nat.{_+_, _*_, _<_, _≤_};
 ghost use lib.ListN.{length};
 ghost use lib.Ieee.{binary64, ofBits};
-ghost use Rattle.panel_file.specs.Writing.{written};
+ghost use Rattle.panel_file_writer.specs.Writing.{written};
 ghost use Rattle.panel_write.specs.Text.{digitOf, fourAt, bitsAt, LineAt, AreLines, numbersIn, LinesWritten, twoDigits, headIn, TextWritten};
-use panel_file::Written;
+use panel_file_writer::Written;
 
 // The bytes of the longest text, of 64 pads: a line of 3 and 64 * 64 + 64 lines of 17. One more is held, so that a longer text is refused for its length.
 const TEXT: usize = 70724;
@@ -150,7 +150,7 @@ fn write_filled(
 {
     if fill(lines, 0, matrix) {
         if fill(lines, n * n, readings) {
-            return panel_file::write(n, matrix, readings, out);
+            return panel_file_writer::write(n, matrix, readings, out);
         }
     }
     Written::Refused(LENGTH)

@@ -1,7 +1,7 @@
 -- Case by case. Assumes nothing.
 use mathlib.Core.Path.{sym, ap, _∙_}
 use borrow.Author.Needs.{needs}
-use Rattle.panel_file.specs.Writing.{bytesWritten}
+use Rattle.panel_file_writer.specs.Writing.{bytesWritten}
 use Rattle.ffi_files.proofs.Told.{count-told, no-count, writing-told}
 use Rattle.ffi_files.proofs.wejdarox_write_panel.Statement.{statement}
 use Rattle.ffi_files.proofs.wejdarox_write_panel.Tie as tie

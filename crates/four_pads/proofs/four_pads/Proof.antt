@@ -6,8 +6,8 @@ use Rattle.numbers.specs.Each.{listOf}
 use Rattle.numbers.specs.Column.{Column}
 use Rattle.store.specs.Columns.{flat}
 use Rattle.store.specs.Steps.{Matrix}
+use Rattle.four_by_four.proofs.Cases.{named}
 use Rattle.four_pads.specs.Profile.{fourOf}
-use Rattle.four_pads.proofs.Cases.{named}
 use Rattle.four_pads.proofs.four_pads.Statement.{statement}
 use Rattle.four_pads.proofs.four_pads.Tie as tie
 

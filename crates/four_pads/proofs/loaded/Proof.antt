@@ -2,7 +2,7 @@
 use borrow.Author.Needs.{needs}
 use borrow.Author.Tests.{not-true, not-false}
 use mathlib.Core.Path.{sym, ap, _∙_}
-use Rattle.four_pads.specs.Inner.{upperBy}
+use Rattle.four_passes.specs.Passes.{upperBy}
 use Rattle.four_pads.proofs.Outcomes.{loaded-six, loaded-seven, loaded-all}
 use Rattle.four_pads.proofs.loaded.Statement.{statement}
 use Rattle.four_pads.proofs.loaded.Tie as tie

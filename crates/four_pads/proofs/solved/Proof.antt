@@ -5,8 +5,8 @@ use mathlib.Core.Path.{_≡_, sym, ap₂, _∙_}
 use mathlib.Core.Bool.{_&&_}
 use Rattle.finite.specs.Finite.{allFinite}
 use Rattle.store.specs.Columns.{flat}
-use Rattle.four_pads.specs.declared.System.{System}
-use Rattle.four_pads.specs.Inner.{listed, matrixOf}
+use Rattle.four_by_four.specs.declared.System.{System}
+use Rattle.four_by_four.specs.System.{listed, matrixOf}
 use Rattle.four_pads.proofs.Outcomes.{refused-five, refused-seven, loaded-is}
 use Rattle.four_pads.proofs.solved.Statement.{statement}
 use Rattle.four_pads.proofs.solved.Tie as tie

@@ -4,7 +4,7 @@ use borrow.Kind.Array.{eFloat, good-length}
 use lib.Ieee.{nan, binary64}
 use Rattle.numbers.specs.Each.{listOf}
 use Rattle.store.specs.Columns.{flat}
-use Rattle.four_pads.proofs.Cases.{named}
+use Rattle.four_by_four.proofs.Cases.{named}
 use Rattle.four_pads_file.proofs.by_columns.Statement.{statement}
 use Rattle.four_pads_file.proofs.by_columns.Tie as tie
 

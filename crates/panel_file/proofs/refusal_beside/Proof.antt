@@ -5,7 +5,7 @@ use native.Mathlib.Omega.{arith}
 use borrow.Author.Needs.{needs}
 use Rattle.finite.specs.Finite.{allFinite}
 use Rattle.panel_file.specs.File.{numbersOf}
-use Rattle.panel_file.proofs.Reading.{square, headRefusal, refused-early, refused-late, places-tested}
+use Rattle.panel_file.proofs.Reading.{square, headRefusal, head-tested, refused-early, refused-late, places-tested}
 use Rattle.panel_file.proofs.refusal_beside.Statement.{statement}
 use Rattle.panel_file.proofs.refusal_beside.Tie as tie
 
@@ -18,16 +18,18 @@ asked c = counted c .before .before
 
 -- the tests that need no number
 early-at : (c : tie.After-first3) → c .first3 .result ≡ headRefusal (asked c .args .fit) (asked c .args .file .now)
-early-at c = cc
+early-at c =
+    head-tested (asked c .args .fit) (asked c .args .file .now) _ _ _ _ _ _ (counted c .pads-of .ensures .0) (c .before .before .before .before .is-headed .ensures)
+    (c .before .before .before .outside .ensures) (c .before .before .first .ensures) (c .before .first2 .ensures) (c .first3 .ensures)
 
 returns : tie.Need-returns
 returns c = refused-early (asked (c .before) .args .fit) (asked (c .before) .args .file .now) _ (early-at (c .before)) (c .if1 .taken)
 
 -- the number of pads, a byte, and its square
-byte : (c : tie.Else1) → let n = counted (c .before) .pads-of .result in (n ≤ 255) × (n * n ≤ 65025)
-byte c =
-    let few : counted (c .before) .pads-of .result ≤ 255 = omega (arith, counted (c .before) .pads-of .ensures .1) in
-    (few, square _ 255 few)
+few : (c : tie.After-pads-of) → let n = c .pads-of .result in (n ≤ 255) × (n * n ≤ 65025)
+few c =
+    let byte : c .pads-of .result ≤ 255 = omega (arith, c .pads-of .ensures .1) in
+    (byte, square _ 255 byte)
 
 numbers-finite-requires : tie.Need-numbers-finite-requires
 numbers-finite-requires c κs =
@@ -47,18 +49,18 @@ refusal-beside-spec =
     tie.close
     (tie.spec
     (λ c κs. search needs)
-    (λ c. omega (arith, square (c .pads-of .result) 255 (omega (arith, (c .pads-of .ensures .1)))))
-    (λ c. omega (arith, square (c .pads-of .result) 255 (omega (arith, (c .pads-of .ensures .1)))))
-    (λ c. omega (arith, square (c .pads-of .result) 255 (omega (arith, (c .pads-of .ensures .1)))))
-    (λ c. omega (arith, square (c .pads-of .result) 255 (omega (arith, (c .pads-of .ensures .1)))))
+    (λ c. omega (arith, few c))
+    (λ c. omega (arith, few c))
+    (λ c. omega (arith, few c))
+    (λ c. omega (arith, few c))
     (λ c κs. search needs)
     (λ c κs. search needs)
     (λ c κs. search needs)
     (λ c κs. search needs)
     (λ c κs. search needs)
     returns
-    (λ c. omega (arith, byte c))
-    (λ c. omega (arith, byte c))
+    (λ c. omega (arith, few (counted (c .before))))
+    (λ c. omega (arith, few (counted (c .before))))
     numbers-finite-requires
     (λ c κs. search needs)
     returns-2)
