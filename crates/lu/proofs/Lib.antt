@@ -4,4 +4,5 @@ pub mod Reason
 pub mod Seven
 pub mod Shape
 pub mod Slices
+pub mod Square
 pub mod Told

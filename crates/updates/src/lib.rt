@@ -120,7 +120,7 @@ pub fn update_columns(s: &mut [f64], m: usize, n: usize, i: usize, to: usize, fr
     update_right(s, m, n, i, to, from);
 }
 
-// Step 5 on the last column of an m by n + 1 matrix, by each column before it that has a row on the diagonal.
+// Step 5 on the last column of an m by n + 1 matrix, by each column before it that has a row on the diagonal: fewer than four of them one by one.
 pub fn update_last(s: &mut [f64], m: usize, n: usize)
     ensures { λ _. ⌜ now (s .exit) ≡ onColumns m (n + 1) (updatedFrom m 0 (min m n) n) (now (s .entry)) ⌝ }
 {
@@ -128,6 +128,11 @@ pub fn update_last(s: &mut [f64], m: usize, n: usize)
         return;
     }
     if !store::is_matrix(s, m, n + 1) {
+        return;
+    }
+    let by = store::min(m, n);
+    if by < 4 {
+        update_each(s, m, n + 1, 0, by, n);
         return;
     }
     update_all(s, m, n);
