@@ -11,12 +11,16 @@ use Rattle.store.specs.Columns.{columns}
 use Rattle.store.specs.Steps.{Matrix, column, stepColumn}
 use Rattle.solve.specs.declared.Pass.{Pass}
 use Rattle.solve.specs.declared.Pass.the-variants.{Upper, CorrectedDiagonal}
-use Rattle.solve.specs.Triangular.{turn}
+use Rattle.solve.specs.Triangular.{turn, solvedInPlace}
 
 -- the solve that is meant: upward by the upper triangle, or downward by the lower one, corrected, with ones for its diagonal (document 02, request 4)
 abbrev pub passOf : Bool → Pass
 passOf true = Upper
 passOf false = CorrectedDiagonal one64
+
+-- both passes over one right-hand column b, by the n by n matrix that the slice t holds: the unit lower, then the upper one
+abbrev pub bothPasses : Column → ℕ → Column → Column
+bothPasses t n b = solvedInPlace (passOf true) t n (solvedInPlace (passOf false) t n b 1) 1
 
 -- the row of turn k of n
 unfoldable pub rowOf : Bool → ℕ → ℕ → ℕ

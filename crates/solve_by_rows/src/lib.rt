@@ -7,7 +7,7 @@ ghost use lib.ListN.{length};
 ghost use Rattle.numbers.specs.Each.{turnsFrom};
 ghost use Rattle.store.specs.Columns.{columns, isMatrix};
 ghost use Rattle.solve.specs.Triangular.{solvedColumn, solvedInPlace};
-ghost use Rattle.solve_by_rows.specs.Rows.{passOf, rowOf, rowSums, solvedWithin, rowDone, allRows, rowsFrom};
+ghost use Rattle.solve_by_rows.specs.Rows.{passOf, rowOf, rowSums, solvedWithin, rowDone, allRows, rowsFrom, bothPasses};
 
 // The row of turn k: upward from the last, or downward from the first.
 fn row_of(upward: bool, n: usize, k: usize) -> usize
@@ -201,4 +201,63 @@ pub fn solve_in_place(upward: bool, t: &[f64], n: usize, b: &mut [f64], k: usize
         solve_column(upward, t, n, &mut b[a..e]);
         j += 1;
     }
+}
+
+// Both passes over a right-hand column of two to eight rows, each as one block. The sizes are written out, so that the compiler knows them where it puts the
+// blocks in place.
+fn solve_small(t: &[f64], n: usize, b: &mut [f64])
+    requires { ⌜ (isMatrix (now t) n n ≡ true) × (length (now b) ≡ n) × (2 ≤ n) × (n ≤ 8) ⌝ }
+    ensures { λ _. ⌜ now (b .exit) ≡ bothPasses (now (t .entry)) n (now (b .entry)) ⌝ }
+{
+    match n {
+        2 => {
+            let mut v = [0.0f64; 2];
+            block_down(t, 2, b, 0, &mut v);
+            block_up(t, 2, b, 0, &mut v);
+        }
+        3 => {
+            let mut v = [0.0f64; 3];
+            block_down(t, 3, b, 0, &mut v);
+            block_up(t, 3, b, 0, &mut v);
+        }
+        4 => {
+            let mut v = [0.0f64; 4];
+            block_down(t, 4, b, 0, &mut v);
+            block_up(t, 4, b, 0, &mut v);
+        }
+        5 => {
+            let mut v = [0.0f64; 5];
+            block_down(t, 5, b, 0, &mut v);
+            block_up(t, 5, b, 0, &mut v);
+        }
+        6 => {
+            let mut v = [0.0f64; 6];
+            block_down(t, 6, b, 0, &mut v);
+            block_up(t, 6, b, 0, &mut v);
+        }
+        7 => {
+            let mut v = [0.0f64; 7];
+            block_down(t, 7, b, 0, &mut v);
+            block_up(t, 7, b, 0, &mut v);
+        }
+        _ => {
+            let mut v = [0.0f64; 8];
+            block_down(t, 8, b, 0, &mut v);
+            block_up(t, 8, b, 0, &mut v);
+        }
+    }
+}
+
+// Solves the right-hand column b in place by the n by n matrix t, whose lower triangle has ones on the diagonal: by the lower triangle, then by the upper one.
+// Where a slice has not its length, b stays as it was.
+pub fn solve_one(t: &[f64], n: usize, b: &mut [f64])
+    ensures { λ _. ⌜ now (b .exit) ≡ bothPasses (now (t .entry)) n (now (b .entry)) ⌝ }
+{
+    let fits = store::is_matrix(t, n, n) & (b.len() == n);
+    if fits & (1 < n) & (n < 9) {
+        solve_small(t, n, b);
+        return;
+    }
+    solve_in_place(false, t, n, b, 1);
+    solve_in_place(true, t, n, b, 1);
 }

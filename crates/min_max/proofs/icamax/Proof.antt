@@ -52,7 +52,7 @@ loop-again c =
     let col = at-loop-test .before .before .before .before .args .col .now in
     let i = at-loop-test .before .loop .i in
     let above : c .next-above .result ≡ aboveFrom (magnitude (entry col i)) (i + 1) (drop (i + 1) col) =
-        rw (← c .before .magnitude .ensures) (c .next-above .ensures)
+    rw (← c .before .magnitude .ensures) (c .next-above .ensures)
     in
     (searched-moved _ _ _ _ _ (searched-next _ _ _ _ _ _ searched here above), λ _. (searched, here, above))
 
