@@ -203,10 +203,10 @@ pub fn solve_in_place(upward: bool, t: &[f64], n: usize, b: &mut [f64], k: usize
     }
 }
 
-// Both passes over a right-hand column of two to eight rows, each as one block. The sizes are written out, so that the compiler knows them where it puts the
-// blocks in place.
+// Both passes over a right-hand column of two, three or four rows, each as one block. The sizes are written out, so that the compiler knows them where it puts
+// the blocks in place.
 fn solve_small(t: &[f64], n: usize, b: &mut [f64])
-    requires { ⌜ (isMatrix (now t) n n ≡ true) × (length (now b) ≡ n) × (2 ≤ n) × (n ≤ 8) ⌝ }
+    requires { ⌜ (isMatrix (now t) n n ≡ true) × (length (now b) ≡ n) × (2 ≤ n) × (n ≤ 4) ⌝ }
     ensures { λ _. ⌜ now (b .exit) ≡ bothPasses (now (t .entry)) n (now (b .entry)) ⌝ }
 {
     match n {
@@ -220,30 +220,10 @@ fn solve_small(t: &[f64], n: usize, b: &mut [f64])
             block_down(t, 3, b, 0, &mut v);
             block_up(t, 3, b, 0, &mut v);
         }
-        4 => {
+        _ => {
             let mut v = [0.0f64; 4];
             block_down(t, 4, b, 0, &mut v);
             block_up(t, 4, b, 0, &mut v);
-        }
-        5 => {
-            let mut v = [0.0f64; 5];
-            block_down(t, 5, b, 0, &mut v);
-            block_up(t, 5, b, 0, &mut v);
-        }
-        6 => {
-            let mut v = [0.0f64; 6];
-            block_down(t, 6, b, 0, &mut v);
-            block_up(t, 6, b, 0, &mut v);
-        }
-        7 => {
-            let mut v = [0.0f64; 7];
-            block_down(t, 7, b, 0, &mut v);
-            block_up(t, 7, b, 0, &mut v);
-        }
-        _ => {
-            let mut v = [0.0f64; 8];
-            block_down(t, 8, b, 0, &mut v);
-            block_up(t, 8, b, 0, &mut v);
         }
     }
 }
@@ -254,7 +234,7 @@ pub fn solve_one(t: &[f64], n: usize, b: &mut [f64])
     ensures { λ _. ⌜ now (b .exit) ≡ bothPasses (now (t .entry)) n (now (b .entry)) ⌝ }
 {
     let fits = store::is_matrix(t, n, n) & (b.len() == n);
-    if fits & (1 < n) & (n < 9) {
+    if fits & (1 < n) & (n < 5) {
         solve_small(t, n, b);
         return;
     }

@@ -15,14 +15,14 @@ use Rattle.solve_by_rows.proofs.solve_one.Statement.{statement}
 use Rattle.solve_by_rows.proofs.solve_one.Tie as tie
 
 -- what the test of a small size says
-small : (r : Bool) (long n : ℕ) → (((r && eqb long n) && ltb 1 n) && ltb n 9) ≡ true → (r ≡ true) × (long ≡ n) × (1 < n) × (n < 9)
+small : (r : Bool) (long n : ℕ) → (((r && eqb long n) && ltb 1 n) && ltb n 5) ≡ true → (r ≡ true) × (long ≡ n) × (1 < n) × (n < 5)
 small r long n e =
-    let sizes = and-first ((r && eqb long n) && ltb 1 n) (ltb n 9) e in
+    let sizes = and-first ((r && eqb long n) && ltb 1 n) (ltb n 5) e in
     let fits = and-first (r && eqb long n) (ltb 1 n) sizes in (
       and-first r (eqb long n) fits,
       eqb-true long n (and-second r (eqb long n) fits),
       ltb-true 1 n (and-second (r && eqb long n) (ltb 1 n) sizes),
-      ltb-true n 9 (and-second ((r && eqb long n) && ltb 1 n) (ltb n 9) e),
+      ltb-true n 5 (and-second ((r && eqb long n) && ltb 1 n) (ltb n 5) e),
     )
 
 solve-small-requires : tie.Need-solve-small-requires

@@ -1,5 +1,5 @@
 -- Each size is two blocks, by the laws over the size (`One`). Assumes nothing.
-use mathlib.Core.Path.{_≡_, refl, _∙_}
+use mathlib.Core.Path.{refl, _∙_}
 use native.Mathlib.Omega.{arith}
 use borrow.Author.Needs.{needs}
 use Rattle.solve_by_rows.proofs.One.{whole-may, both-blocks}
@@ -21,8 +21,8 @@ returns c =
     let at-down = at-up .before .before .before .before .before .before in
     let at-start = at-down .before .before .before .before .before .before in
     both-blocks _ _ (omega (arith, at-start .pre)) _ (at-start .pre .0) _ _ _ _ _ refl (at-down .block-down .kept .1 .1 .1 .1 .0) (at-start .pre .1)
-    (at-down .block-down .kept .1 .1 .0)
-    (at-down .before .before .before .before .slice-known .given) (at-up .before .before .before .before .slice-known2 .given) (at-down .block-down .ensures) (at-up .block-up .ensures)
+    (at-down .block-down .kept .1 .1 .0) (at-down .before .before .before .before .slice-known .given) (at-up .before .before .before .before .slice-known2 .given) (at-down .block-down .ensures)
+    (at-up .block-up .ensures)
 
 block-down-requires-2 : tie.Need-block-down-requires-2
 block-down-requires-2 c κs = let at-start = c .before .before .before .before .before in whole-may _ _ (omega (arith, at-start .pre)) _ (at-start .pre .0) _ _ (at-start .pre .1) refl
@@ -39,8 +39,8 @@ returns-2 c =
     let at-down = at-up .before .before .before .before .before .before in
     let at-start = at-down .before .before .before .before .before .before in
     both-blocks _ _ (omega (arith, at-start .pre)) _ (at-start .pre .0) _ _ _ _ _ refl (at-down .block-down2 .kept .1 .1 .1 .1 .0) (at-start .pre .1)
-    (at-down .block-down2 .kept .1 .1 .0)
-    (at-down .before .before .before .before .slice-known .given) (at-up .before .before .before .before .slice-known4 .given) (at-down .block-down2 .ensures) (at-up .block-up2 .ensures)
+    (at-down .block-down2 .kept .1 .1 .0) (at-down .before .before .before .before .slice-known .given) (at-up .before .before .before .before .slice-known4 .given) (at-down .block-down2 .ensures)
+    (at-up .block-up2 .ensures)
 
 block-down-requires-3 : tie.Need-block-down-requires-3
 block-down-requires-3 c κs = let at-start = c .before .before .before .before .before in whole-may _ _ (omega (arith, at-start .pre)) _ (at-start .pre .0) _ _ (at-start .pre .1) refl
@@ -57,84 +57,8 @@ returns-3 c =
     let at-down = at-up .before .before .before .before .before .before in
     let at-start = at-down .before .before .before .before .before .before in
     both-blocks _ _ (omega (arith, at-start .pre)) _ (at-start .pre .0) _ _ _ _ _ refl (at-down .block-down3 .kept .1 .1 .1 .1 .0) (at-start .pre .1)
-    (at-down .block-down3 .kept .1 .1 .0)
-    (at-down .before .before .before .before .slice-known .given) (at-up .before .before .before .before .slice-known6 .given) (at-down .block-down3 .ensures) (at-up .block-up3 .ensures)
-
-block-down-requires-4 : tie.Need-block-down-requires-4
-block-down-requires-4 c κs = let at-start = c .before .before .before .before .before in whole-may _ _ (omega (arith, at-start .pre)) _ (at-start .pre .0) _ _ (at-start .pre .1) refl
-
-block-up-requires-4 : tie.Need-block-up-requires-4
-block-up-requires-4 c κs =
-    let at-down = c .before .before .before .before .before in
-    let at-start = at-down .before .before .before .before .before .before in
-    whole-may _ _ (omega (arith, at-start .pre)) _ (at-start .pre .0) _ _ (at-down .block-down4 .kept .1 .1 .0 ∙ at-start .pre .1) (at-down .block-down4 .kept .1 .1 .1 .1 .0)
-
-returns-4 : tie.Need-returns-4
-returns-4 c =
-    let at-up = c .before .before .before in
-    let at-down = at-up .before .before .before .before .before .before in
-    let at-start = at-down .before .before .before .before .before .before in
-    both-blocks _ _ (omega (arith, at-start .pre)) _ (at-start .pre .0) _ _ _ _ _ refl (at-down .block-down4 .kept .1 .1 .1 .1 .0) (at-start .pre .1)
-    (at-down .block-down4 .kept .1 .1 .0)
-    (at-down .before .before .before .before .slice-known .given) (at-up .before .before .before .before .slice-known8 .given) (at-down .block-down4 .ensures) (at-up .block-up4 .ensures)
-
-block-down-requires-5 : tie.Need-block-down-requires-5
-block-down-requires-5 c κs = let at-start = c .before .before .before .before .before in whole-may _ _ (omega (arith, at-start .pre)) _ (at-start .pre .0) _ _ (at-start .pre .1) refl
-
-block-up-requires-5 : tie.Need-block-up-requires-5
-block-up-requires-5 c κs =
-    let at-down = c .before .before .before .before .before in
-    let at-start = at-down .before .before .before .before .before .before in
-    whole-may _ _ (omega (arith, at-start .pre)) _ (at-start .pre .0) _ _ (at-down .block-down5 .kept .1 .1 .0 ∙ at-start .pre .1) (at-down .block-down5 .kept .1 .1 .1 .1 .0)
-
-returns-5 : tie.Need-returns-5
-returns-5 c =
-    let at-up = c .before .before .before in
-    let at-down = at-up .before .before .before .before .before .before in
-    let at-start = at-down .before .before .before .before .before .before in
-    both-blocks _ _ (omega (arith, at-start .pre)) _ (at-start .pre .0) _ _ _ _ _ refl (at-down .block-down5 .kept .1 .1 .1 .1 .0) (at-start .pre .1)
-    (at-down .block-down5 .kept .1 .1 .0)
-    (at-down .before .before .before .before .slice-known .given) (at-up .before .before .before .before .slice-known10 .given) (at-down .block-down5 .ensures) (at-up .block-up5 .ensures)
-
-block-down-requires-6 : tie.Need-block-down-requires-6
-block-down-requires-6 c κs = let at-start = c .before .before .before .before .before in whole-may _ _ (omega (arith, at-start .pre)) _ (at-start .pre .0) _ _ (at-start .pre .1) refl
-
-block-up-requires-6 : tie.Need-block-up-requires-6
-block-up-requires-6 c κs =
-    let at-down = c .before .before .before .before .before in
-    let at-start = at-down .before .before .before .before .before .before in
-    whole-may _ _ (omega (arith, at-start .pre)) _ (at-start .pre .0) _ _ (at-down .block-down6 .kept .1 .1 .0 ∙ at-start .pre .1) (at-down .block-down6 .kept .1 .1 .1 .1 .0)
-
-returns-6 : tie.Need-returns-6
-returns-6 c =
-    let at-up = c .before .before .before in
-    let at-down = at-up .before .before .before .before .before .before in
-    let at-start = at-down .before .before .before .before .before .before in
-    both-blocks _ _ (omega (arith, at-start .pre)) _ (at-start .pre .0) _ _ _ _ _ refl (at-down .block-down6 .kept .1 .1 .1 .1 .0) (at-start .pre .1)
-    (at-down .block-down6 .kept .1 .1 .0)
-    (at-down .before .before .before .before .slice-known .given) (at-up .before .before .before .before .slice-known12 .given) (at-down .block-down6 .ensures) (at-up .block-up6 .ensures)
-
--- the last arm has the one size that is left
-eight : (c : tie.After-v25) → c .before .before .before .before .before .args .n ≡ 8
-eight c = let at-start = c .before .before .before .before .before in omega (arith, at-start .pre)
-
-block-down-requires-7 : tie.Need-block-down-requires-7
-block-down-requires-7 c κs = let at-start = c .before .before .before .before .before in whole-may _ _ (eight c) _ (at-start .pre .0) _ _ (at-start .pre .1) refl
-
-block-up-requires-7 : tie.Need-block-up-requires-7
-block-up-requires-7 c κs =
-    let at-down = c .before .before .before .before .before in
-    let at-start = at-down .before .before .before .before .before .before in
-    whole-may _ _ (eight (at-down .before)) _ (at-start .pre .0) _ _ (at-down .block-down7 .kept .1 .1 .0 ∙ at-start .pre .1) (at-down .block-down7 .kept .1 .1 .1 .1 .0)
-
-returns-7 : tie.Need-returns-7
-returns-7 c =
-    let at-up = c .before .before .before in
-    let at-down = at-up .before .before .before .before .before .before in
-    let at-start = at-down .before .before .before .before .before .before in
-    both-blocks _ _ (eight (at-down .before)) _ (at-start .pre .0) _ _ _ _ _ refl (at-down .block-down7 .kept .1 .1 .1 .1 .0) (at-start .pre .1)
-    (at-down .block-down7 .kept .1 .1 .0)
-    (at-down .before .before .before .before .slice-known .given) (at-up .before .before .before .before .slice-known14 .given) (at-down .block-down7 .ensures) (at-up .block-up7 .ensures)
+    (at-down .block-down3 .kept .1 .1 .0) (at-down .before .before .before .before .slice-known .given) (at-up .before .before .before .before .slice-known6 .given) (at-down .block-down3 .ensures)
+    (at-up .block-up3 .ensures)
 
 pub solve-small-spec : {M : Type 1} → statement M
 solve-small-spec =
@@ -153,32 +77,8 @@ solve-small-spec =
     (λ c. search needs)
     block-up-requires-3
     (λ c. search needs)
-    block-down-requires-4
-    (λ c. search needs)
-    block-up-requires-4
-    (λ c. search needs)
-    block-down-requires-5
-    (λ c. search needs)
-    block-up-requires-5
-    (λ c. search needs)
-    block-down-requires-6
-    (λ c. search needs)
-    block-up-requires-6
-    (λ c. search needs)
-    block-down-requires-7
-    (λ c. search needs)
-    block-up-requires-7
-    (λ c. search needs)
     returns
     (λ c. search needs)
     returns-2
     (λ c. search needs)
-    returns-3
-    (λ c. search needs)
-    returns-4
-    (λ c. search needs)
-    returns-5
-    (λ c. search needs)
-    returns-6
-    (λ c. search needs)
-    returns-7)
+    returns-3)
