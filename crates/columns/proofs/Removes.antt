@@ -18,8 +18,8 @@ use Rattle.dead_columns.specs.Dead.{deadAt, deadIn}
 use Rattle.dead_columns.proofs.Dead.{dead-snoc, dead-swapped}
 use Rattle.refusals.specs.Outcome.{done, refused, firstOf, leaving}
 use Rattle.refusals.proofs.Outcomes.{tested-none, tested-some}
-use Rattle.permutation_sequence.specs.SwapList.{Swaps, pairsOf, withPair, goodList}
-use Rattle.permutation_sequence.proofs.SwapList.{length-pairs, good}
+use Rattle.swap_list.specs.SwapList.{Swaps, pairsOf, withPair, goodList}
+use Rattle.swap_list.proofs.SwapList.{length-pairs, good}
 use Rattle.factors.specs.declared.Record.{Record}
 use Rattle.factors.specs.Factors.{recordOf, factorsIn, slices, recordAfter}
 use Rattle.factors.specs.Held.{heldRefusal}

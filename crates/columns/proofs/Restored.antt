@@ -17,7 +17,7 @@ use Rattle.store.proofs.Columns.{sized, is-matrix, columns-rows, columns-flat, 
 use Rattle.dead_columns.specs.Dead.{deadIn}
 use Rattle.refusals.specs.Outcome.{done, numberOf}
 use Rattle.refusals.proofs.Outcomes.{tested-none}
-use Rattle.permutation_sequence.specs.SwapList.{Swaps, pairsOf}
+use Rattle.swap_list.specs.SwapList.{Swaps, pairsOf}
 use Rattle.factors.specs.declared.Record.{Record}
 use Rattle.factors.specs.Factors.{Factors, recordSwap, storeOf, recordFor, factorsIn, slices, Factoring}
 use Rattle.factors.proofs.Held.{passes}

@@ -16,8 +16,8 @@ use Rattle.numbers.proofs.Each.{each-id, each-each}
 use Rattle.blas.proofs.Exchange.{exchanged-twice}
 use Rattle.store.specs.Steps.{Matrix, swapInAll}
 use Rattle.store.proofs.Steps.{length-swapInAll}
-use Rattle.permutation_sequence.specs.SwapList.{Swaps, pairsOf}
-use Rattle.permutation_sequence.proofs.SwapList.{length-pairs, pairs-at}
+use Rattle.swap_list.specs.SwapList.{Swaps, pairsOf}
+use Rattle.swap_list.proofs.SwapList.{length-pairs, pairs-at}
 use Rattle.factors.specs.Factors.{Factors, recordSwap, storeOf}
 use Rattle.elimination.specs.Removing.{lastPair, undoes, pairsBefore, removeColumn}
 use Rattle.columns.specs.Removing.{goodUndoing, erased}

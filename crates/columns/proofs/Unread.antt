@@ -13,8 +13,8 @@ use Rattle.numbers.specs.Column.{Column}
 use Rattle.numbers.proofs.Choice.{cond-cases, cond-both, and-first}
 use Rattle.refusals.specs.Outcome.{tested, leaving}
 use Rattle.refusals.proofs.Outcomes.{tested-cases}
-use Rattle.permutation_sequence.specs.SwapList.{Swaps, pairsOf, withPair}
-use Rattle.permutation_sequence.proofs.SwapList.{length-pairs, length-with}
+use Rattle.swap_list.specs.SwapList.{Swaps, pairsOf, withPair}
+use Rattle.swap_list.proofs.SwapList.{length-pairs, length-with}
 use Rattle.factors.specs.declared.Record.{Record}
 use Rattle.factors.specs.Factors.{Factors, factorsIn, slices, recordAfter}
 use Rattle.factors.proofs.Unread.{SamePairs, swaps-unread, held-unread}

@@ -8,7 +8,7 @@ use Rattle.numbers.specs.Column.{Column}
 use Rattle.finite.specs.Finite.{allFinite}
 use Rattle.store.specs.Columns.{columns, flat, isMatrix}
 use Rattle.dead_columns.specs.Dead.{deadIn}
-use Rattle.permutation_sequence.specs.SwapList.{pairsOf, goodList}
+use Rattle.swap_list.specs.SwapList.{pairsOf, goodList}
 use Rattle.factors.specs.declared.Record.{Record}
 use Rattle.factors.specs.Factors.{storeOf, recordAfter}
 use Rattle.elimination.specs.Elimination.{eliminate}

@@ -7,7 +7,7 @@ use lib.ListN.{length}
 use Rattle.numbers.specs.Column.{Column, zeros}
 use Rattle.store.specs.Columns.{flat}
 use Rattle.refusals.specs.Outcome.{Outcome, done, refused, tested, leaving}
-use Rattle.permutation_sequence.specs.SwapList.{Swaps, pairsOf, withPair}
+use Rattle.swap_list.specs.SwapList.{Swaps, pairsOf, withPair}
 use Rattle.factors.specs.declared.Record.{Record}
 use Rattle.factors.specs.declared.Asks.{Asks}
 use Rattle.factors.specs.Factors.{Factors, recordFor, factorsIn, slices, Factoring}

@@ -5,7 +5,7 @@ ghost use Prim.Native.Nat.{_+_, _-_, _*_, _<_, _≤_, min};
 ghost use lib.ListN.{length, getD, set};
 ghost use Rattle.store.specs.Columns.{onColumns};
 ghost use Rattle.store.specs.Steps.{rowsSwapped};
-ghost use Rattle.permutation_sequence.specs.SwapList.{pairsOf};
+ghost use Rattle.swap_list.specs.SwapList.{pairsOf};
 ghost use Rattle.factors.specs.Factors.{storeOf, recordAfter};
 ghost use Rattle.elimination.specs.Removing.{undoes};
 ghost use Rattle.lu.specs.Factoring.{factoringRefusal, factoring, factored, factoringAnswer};
@@ -61,7 +61,7 @@ fn is_good_to_remove(swaps: &[usize], told: Record) -> bool
     let m = told.rows;
     let n = told.columns;
     let pairs = told.pairs;
-    if permutation_sequence::is_good_list(swaps, pairs, m, store::min(m, n)) {
+    if swap_list::is_good_list(swaps, pairs, m, store::min(m, n)) {
         return is_removable(swaps, pairs, m, last_of(n));
     }
     false

@@ -8,7 +8,7 @@ use lib.IntN.{pos, negsuc}
 use lib.Ieee.{Float, fin}
 use Rattle.numbers.specs.Column.{Column, zeros}
 use Rattle.refusals.specs.Outcome.{Outcome, done, Call, leaving}
-use Rattle.permutation_sequence.specs.SwapList.{Swaps}
+use Rattle.swap_list.specs.SwapList.{Swaps}
 use Rattle.solve.specs.declared.Pass.{Pass}
 use Rattle.solve.specs.declared.Pass.the-variants.{GivenDiagonal, TransposedLower, CorrectedDiagonal}
 use Rattle.solve.specs.Calls.{solving as solvingTriangle}

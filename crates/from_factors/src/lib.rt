@@ -6,7 +6,7 @@ ghost use Prim.Native.Nat.{_+_, _*_, _<_, _≤_, min};
 ghost use lib.ListN.{length};
 ghost use Rattle.store.specs.Columns.{columns, flat, isMatrix};
 ghost use Rattle.refusals.specs.Refusals.{answered};
-ghost use Rattle.permutation_sequence.specs.SwapList.{goodList};
+ghost use Rattle.swap_list.specs.SwapList.{goodList};
 ghost use Rattle.from_factors.specs.Triangles.{lowerOf, upperOf, lowerFactor, upperFactor, lowering, uppering};
 ghost use Rattle.from_factors.specs.Solving.{solved, trSolved, wayOf, solvedBy, solvingBy, solving, trSolving, unitColumn, identity, inverting};
 ghost use Rattle.from_factors.specs.Determinant.{diagonalProduct, determined, producing, numberOr7, determining, testedInverse, inverseTest};
@@ -138,7 +138,7 @@ fn solve_mut(factors: &[f64], swaps: &[usize], told: Record, x: &mut [f64], k: u
     ensures { λ _. ⌜ now (x .exit) ≡ solvedBy solved (now (factors .entry)) (now (swaps .entry)) told (columns (told .rows) k (now (x .entry))) ⌝ }
 {
     let n = told.rows;
-    permutation_sequence::apply_to_rows(x, n, k, swaps, told.pairs, false);
+    exchanges::apply_to_rows(x, n, k, swaps, told.pairs, false);
     solve_by_rows::solve_in_place(false, factors, n, x, k);
     solve_by_rows::solve_in_place(true, factors, n, x, k);
 }
@@ -152,7 +152,7 @@ fn tr_solve_mut(factors: &[f64], swaps: &[usize], told: Record, x: &mut [f64], k
     let n = told.rows;
     solve::solve_in_place(Pass::TransposedUpper, factors, n, x, k);
     solve::solve_in_place(Pass::TransposedUnitLower, factors, n, x, k);
-    permutation_sequence::apply_to_rows(x, n, k, swaps, told.pairs, true);
+    exchanges::apply_to_rows(x, n, k, swaps, told.pairs, true);
 }
 
 // The one that is asked for.

@@ -15,7 +15,7 @@ use Rattle.numbers.proofs.Each.{length-each, each-at}
 use Rattle.store.specs.Columns.{flat, HasRows}
 use Rattle.store.specs.Steps.{Matrix, column}
 use Rattle.store.proofs.Lasting.{column-finite}
-use Rattle.permutation_sequence.specs.SwapList.{Swaps}
+use Rattle.swap_list.specs.SwapList.{Swaps}
 use Rattle.solve.specs.declared.Pass.{Pass}
 use Rattle.solve.specs.declared.Pass.the-variants.{Lower, Upper, GivenDiagonal, TransposedLower, TransposedUpper, CorrectedDiagonal, TransposedUnitLower}
 use Rattle.solve.specs.Triangular.{solvedColumn, solvedFrom, solvedColumns}

@@ -25,7 +25,7 @@ use Rattle.finite.proofs.Finite.{finite-entry}
 use Rattle.store.specs.Columns.{flat, HasRows}
 use Rattle.store.specs.Steps.{Matrix, column}
 use Rattle.store.proofs.Lasting.{column-finite}
-use Rattle.permutation_sequence.specs.SwapList.{Swaps}
+use Rattle.swap_list.specs.SwapList.{Swaps}
 use Rattle.solve.specs.declared.Pass.{Pass}
 use Rattle.solve.specs.declared.Pass.the-variants.{Upper, GivenDiagonal}
 use Rattle.solve.specs.Triangular.{rowAt, turnsOf, solvedRow, turn, solvedColumn}

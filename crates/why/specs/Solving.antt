@@ -6,7 +6,7 @@ use lib.ListN.{take, drop}
 use Rattle.numbers.specs.Numbers.{one64}
 use Rattle.numbers.specs.Column.{Column, entry}
 use Rattle.store.specs.Steps.{Matrix}
-use Rattle.permutation_sequence.specs.SwapList.{Swaps}
+use Rattle.swap_list.specs.SwapList.{Swaps}
 use Rattle.solve.specs.declared.Pass.{Pass}
 use Rattle.solve.specs.declared.Pass.the-variants.{Upper, GivenDiagonal}
 use Rattle.solve.specs.Triangular.{turnsOf, turn}

@@ -11,7 +11,7 @@ ghost use Rattle.finite.specs.Finite.{allFinite};
 ghost use Rattle.store.specs.Columns.{columns, isMatrix};
 ghost use Rattle.solve.specs.Triangular.{rowAt, turnsOf};
 ghost use Rattle.solve.specs.Reason.{lowestZero};
-ghost use Rattle.permutation_sequence.specs.SwapList.{goodList};
+ghost use Rattle.swap_list.specs.SwapList.{goodList};
 ghost use Rattle.lu.specs.Factoring.{factoring};
 ghost use Rattle.from_factors.specs.Solving.{solving};
 ghost use Rattle.why.specs.Results.{firstOverflow};
@@ -195,7 +195,7 @@ fn overflow_in_solve(
         (resultsOf (now (factors .entry)) (now (swaps .entry)) told (columns (told .rows) k (now (x .entry))))) ⌝ }
 {
     let n = told.rows;
-    permutation_sequence::apply_to_rows(x, n, k, swaps, told.pairs, false);
+    exchanges::apply_to_rows(x, n, k, swaps, told.pairs, false);
     let low = overflow_in_pass(false, factors, n, x, k);
     if low.column < k {
         return WhySolve::Overflow {

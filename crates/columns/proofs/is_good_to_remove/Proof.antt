@@ -4,8 +4,8 @@ use mathlib.Core.Bool.{true, false, false≢true}
 use Prim.Native.Nat.{ℕ, _-_, min}
 use native.Mathlib.Omega.{arith}
 use borrow.Author.Needs.{needs}
-use Rattle.permutation_sequence.specs.SwapList.{pairsOf, goodList}
-use Rattle.permutation_sequence.proofs.SwapList.{Good, good}
+use Rattle.swap_list.specs.SwapList.{pairsOf, goodList}
+use Rattle.swap_list.proofs.SwapList.{Good, good}
 use Rattle.columns.specs.Removing.{goodUndoing}
 use Rattle.columns.proofs.is_good_to_remove.Statement.{statement}
 use Rattle.columns.proofs.is_good_to_remove.Tie as tie

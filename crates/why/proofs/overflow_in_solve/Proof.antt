@@ -9,8 +9,8 @@ use Rattle.numbers.specs.Column.{Column}
 use Rattle.finite.specs.Finite.{allFinite}
 use Rattle.store.specs.Columns.{columns, flat, HasRows, isMatrix}
 use Rattle.store.proofs.Columns.{sized, same-matrix, flat-columns, columns-rows}
-use Rattle.permutation_sequence.specs.SwapList.{pairsOf}
-use Rattle.permutation_sequence.specs.Permute.{inOrder}
+use Rattle.swap_list.specs.SwapList.{pairsOf}
+use Rattle.exchanges.specs.Permute.{inOrder}
 use Rattle.solve.specs.declared.Pass.the-variants.{Upper, GivenDiagonal}
 use Rattle.solve.specs.Triangular.{solvedColumns}
 use Rattle.solve.specs.Reason.{firstInPass}
