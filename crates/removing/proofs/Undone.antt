@@ -20,7 +20,7 @@ use Rattle.swap_list.specs.SwapList.{Swaps, pairsOf}
 use Rattle.swap_list.proofs.SwapList.{length-pairs, pairs-at}
 use Rattle.factors.specs.Factors.{Factors, recordSwap, storeOf}
 use Rattle.elimination.specs.Removing.{lastPair, undoes, pairsBefore, removeColumn}
-use Rattle.columns.specs.Removing.{goodUndoing, erased}
+use Rattle.removing.specs.Removing.{goodUndoing, erased}
 use Rattle.elimination.proofs.Own.{joined, swap-none}
 use Rattle.elimination.proofs.Recorded.{Rising, no-steps, none-more, one-more}
 use Rattle.factors.proofs.Swaps.{store-erased}

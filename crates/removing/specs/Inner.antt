@@ -1,22 +1,17 @@
--- What the promises of the inner functions of removing and building up speak of.
+-- What the promises of the inner functions of removing speak of.
 use mathlib.Core.Path.{_≡_}
 use mathlib.Core.Bool.{Bool, true}
 use mathlib.Core.List.{List}
 use Prim.Native.Nat.{ℕ, _+_, _-_, _*_, _≤_, min}
 use lib.ListN.{length}
 use Rattle.numbers.specs.Column.{Column}
-use Rattle.finite.specs.Finite.{allFinite}
-use Rattle.store.specs.Columns.{columns, flat, isMatrix}
+use Rattle.store.specs.Columns.{columns, isMatrix}
 use Rattle.dead_columns.specs.Dead.{deadIn}
 use Rattle.swap_list.specs.SwapList.{pairsOf, goodList}
 use Rattle.factors.specs.declared.Record.{Record}
-use Rattle.factors.specs.Factors.{storeOf, recordAfter}
-use Rattle.elimination.specs.Elimination.{eliminate}
-use Rattle.elimination.specs.TossUps.{tossUps}
-use Rattle.lu.specs.declared.Factored.{Factored}
-use Rattle.lu.specs.Factoring.{settled, factored, withTossUps}
-use Rattle.columns.specs.declared.Removed.{Removed}
-use Rattle.columns.specs.Removing.{goodUndoing, removingRefusal, removing, removed, recordIn}
+use Rattle.factors.specs.Factors.{recordAfter}
+use Rattle.removing.specs.declared.Removed.{Removed}
+use Rattle.removing.specs.Removing.{goodUndoing, removingRefusal, removing, removed, recordIn}
 
 -- the list is good and can have the last column taken off it; what is said of a list that is not good does not matter
 pub record RemovableIf (store : List ℕ) (r : Record) (is : Bool) : Type 0 where
@@ -42,8 +37,3 @@ pub record RemovedFrom (s : Column) (store : List ℕ) (r : Record) (a : Removed
   pub told : recordIn a ≡ recordAfter r (removing s store r .answer)
   pub factors : s' ≡ removing s store r .left .factors
   pub pairs : store' ≡ removing s store r .left .store
-
--- what adding all columns of an m by n matrix leaves: factoring's answer, and where the factors are finite, they and the swaps
-pub record AllAdded (a : Column) (m n : ℕ) (r : Factored) (s : Column) (store : List ℕ) : Type 0 where
-  pub answer : factored r ≡ withTossUps (tossUps m (columns m n a)) (settled m n (eliminate m (columns m n a)) .answer)
-  pub held : let f = eliminate m (columns m n a) in allFinite (flat (f .columns)) ≡ true → (s ≡ flat (f .columns)) × (store ≡ storeOf (f .swaps))

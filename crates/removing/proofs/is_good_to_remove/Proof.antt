@@ -6,9 +6,9 @@ use native.Mathlib.Omega.{arith}
 use borrow.Author.Needs.{needs}
 use Rattle.swap_list.specs.SwapList.{pairsOf, goodList}
 use Rattle.swap_list.proofs.SwapList.{Good, good}
-use Rattle.columns.specs.Removing.{goodUndoing}
-use Rattle.columns.proofs.is_good_to_remove.Statement.{statement}
-use Rattle.columns.proofs.is_good_to_remove.Tie as tie
+use Rattle.removing.specs.Removing.{goodUndoing}
+use Rattle.removing.proofs.is_good_to_remove.Statement.{statement}
+use Rattle.removing.proofs.is_good_to_remove.Tie as tie
 
 -- what was found of the list
 listed : (c : tie.After-is-good-list) → let r = c .before .before .before .args .told in

@@ -35,7 +35,7 @@ use Rattle.adding.specs.Adding.{adding, added, addingAnswer}
 use Rattle.adding.proofs.Afresh.{accepted-given, adding-afresh}
 use Rattle.adding.proofs.Front.{finite-front}
 use Rattle.adding.proofs.Tossed.{toss-added}
-use Rattle.columns.specs.Inner.{AllAdded}
+use Rattle.building_up.specs.Inner.{AllAdded}
 
 -- the outcome of factoring the first k columns of the m by n matrix in the slice a, from stores of zeros
 abbrev pub outcomeAt : ℕ → ℕ → Column → Factoring

@@ -2,8 +2,8 @@
 use native.Mathlib.Omega.{arith}
 use borrow.Author.Needs.{needs}
 use lib.ListN.{length-set}
-use Rattle.columns.proofs.undo.Statement.{statement}
-use Rattle.columns.proofs.undo.Tie as tie
+use Rattle.removing.proofs.undo.Statement.{statement}
+use Rattle.removing.proofs.undo.Tie as tie
 
 slice-write-swaps-2 : tie.Need-slice-write-swaps-2
 slice-write-swaps-2 c = simp length-set (omega arith)

@@ -13,8 +13,8 @@ use Rattle.factors.specs.declared.Asks.{Asks}
 use Rattle.factors.specs.Factors.{Factors, recordFor, factorsIn, slices, Factoring}
 use Rattle.factors.specs.Held.{heldRefusal}
 use Rattle.elimination.specs.Removing.{lastPair, undoes, pairsBefore, removeColumn}
-use Rattle.columns.specs.declared.Removed.{Removed}
-use Rattle.columns.specs.declared.Removed.the-variants.{Accepted, Refused}
+use Rattle.removing.specs.declared.Removed.{Removed}
+use Rattle.removing.specs.declared.Removed.the-variants.{Accepted, Refused}
 
 -- What 4 asks besides a good list, n being the number of the last column: no "more than min(m, n - 1) pairs would remain", nor has the pair to be undone "its
 -- second number below its first".

@@ -1,8 +1,8 @@
 -- The tests of held factors, with what was found of the list. Assumes nothing.
 use borrow.Author.Needs.{needs}
-use Rattle.columns.proofs.Removes.{refusal-found}
-use Rattle.columns.proofs.removing_refusal.Statement.{statement}
-use Rattle.columns.proofs.removing_refusal.Tie as tie
+use Rattle.removing.proofs.Removes.{refusal-found}
+use Rattle.removing.proofs.removing_refusal.Statement.{statement}
+use Rattle.removing.proofs.removing_refusal.Tie as tie
 
 returns : tie.Need-returns
 returns c = refusal-found _ _ _ _ _ (c .before .is-good-to-remove .ensures) (c .held-refusal .ensures)

@@ -2,9 +2,9 @@
 use mathlib.Core.Path.{sym}
 use native.Mathlib.Omega.{arith}
 use borrow.Author.Needs.{needs}
-use Rattle.columns.proofs.Undone.{undoes-empty, undoes-at}
-use Rattle.columns.proofs.undoes_swap.Statement.{statement}
-use Rattle.columns.proofs.undoes_swap.Tie as tie
+use Rattle.removing.proofs.Undone.{undoes-empty, undoes-at}
+use Rattle.removing.proofs.undoes_swap.Statement.{statement}
+use Rattle.removing.proofs.undoes_swap.Tie as tie
 
 returns : tie.Need-returns
 returns c = sym (undoes-empty _ _ _ (c .if1 .taken))

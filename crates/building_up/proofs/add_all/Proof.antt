@@ -8,9 +8,9 @@ use lib.ListN.{length, take, drop, length-drop}
 use lib.Seq.{length-take-le, length-front}
 use Rattle.store.proofs.Columns.{sized, column-within}
 use Rattle.lu.proofs.Shape.{ok}
-use Rattle.columns.proofs.Build.{Building, building-none, Grown, went-on, gave-up, all-added, not-added}
-use Rattle.columns.proofs.add_all.Statement.{statement}
-use Rattle.columns.proofs.add_all.Tie as tie
+use Rattle.building_up.proofs.Build.{Building, building-none, Grown, went-on, gave-up, all-added, not-added}
+use Rattle.building_up.proofs.add_all.Statement.{statement}
+use Rattle.building_up.proofs.add_all.Tie as tie
 
 abbrev Inv-loop : tie.InvT-loop
 Inv-loop a m n out₀ swaps₀ told₀ tossed₀ k₀ out swaps told tossed k = Building m n a out₀ swaps₀ out swaps told tossed k

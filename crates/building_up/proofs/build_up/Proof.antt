@@ -4,10 +4,10 @@ use borrow.Author.Needs.{needs}
 use lib.ListN.{replicate}
 use Rattle.factors.specs.Factors.{numbersOf, storeOf}
 use Rattle.store.proofs.Columns.{sized}
-use Rattle.columns.proofs.Build.{cleared-refusal, built-seven, built-all}
+use Rattle.building_up.proofs.Build.{cleared-refusal, built-seven, built-all}
 use Rattle.lu.proofs.Told.{Passed, passed, promise-refused}
-use Rattle.columns.proofs.build_up.Statement.{statement}
-use Rattle.columns.proofs.build_up.Tie as tie
+use Rattle.building_up.proofs.build_up.Statement.{statement}
+use Rattle.building_up.proofs.build_up.Tie as tie
 
 -- past the tests
 past : (c : tie.Else1) → let at-test = c .before in

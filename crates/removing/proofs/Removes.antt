@@ -25,11 +25,11 @@ use Rattle.factors.specs.Factors.{recordOf, factorsIn, slices, recordAfter}
 use Rattle.factors.specs.Held.{heldRefusal}
 use Rattle.factors.proofs.Held.{passed}
 use Rattle.elimination.specs.Removing.{lastPair, undoes, pairsBefore, removeColumn}
-use Rattle.columns.specs.declared.Removed.the-variants.{Accepted, Refused}
-use Rattle.columns.specs.Removing.{goodUndoing, removingAsks, removingRefusal, erased, removingMade, removing, removed, recordIn}
-use Rattle.columns.specs.Inner.{RemovableIf, Ready, RemovedFrom}
+use Rattle.removing.specs.declared.Removed.the-variants.{Accepted, Refused}
+use Rattle.removing.specs.Removing.{goodUndoing, removingAsks, removingRefusal, erased, removingMade, removing, removed, recordIn}
+use Rattle.removing.specs.Inner.{RemovableIf, Ready, RemovedFrom}
 use Rattle.adding.proofs.Slot.{slot-columns, slot-lent, slot-part, older-exchanged}
-use Rattle.columns.proofs.Undone.{second-at}
+use Rattle.removing.proofs.Undone.{second-at}
 
 -- ---- what is asked of the list does not matter where the list is not good
 list-unread : (s : Column) (store : List ℕ) (r : Record) (b c : Bool) → goodList store (r .pairs) (r .rows) (min (r .rows) (r .columns)) ≡ false

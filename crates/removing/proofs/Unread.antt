@@ -20,7 +20,7 @@ use Rattle.factors.specs.Factors.{Factors, factorsIn, slices, recordAfter}
 use Rattle.factors.proofs.Unread.{SamePairs, swaps-unread, held-unread}
 use Rattle.elimination.specs.Removing.{lastPair, undoes, pairsBefore, removeColumn}
 use Rattle.adding.proofs.Unread.{Unread}
-use Rattle.columns.specs.Removing.{goodUndoing, removingAsks, removingRefusal, erased, removingMade, removing}
+use Rattle.removing.specs.Removing.{goodUndoing, removingAsks, removingRefusal, erased, removingMade, removing}
 
 -- a pair written over another changes nothing elsewhere
 with-other : (pairs i j : ℕ) (store : List ℕ) (k : ℕ) → (k ≡ 2 * pairs → ⊥) → (k ≡ 2 * pairs + 1 → ⊥) → getD (withPair pairs i j store) k 0 ≡ getD store k 0

@@ -4,10 +4,10 @@ use Prim.Native.Nat.{ℕ, _<_}
 use native.Mathlib.Omega.{arith}
 use borrow.Author.Needs.{needs}
 use lib.Dec.{leb}
-use Rattle.columns.proofs.Undone.{undoes-some}
-use Rattle.columns.proofs.Removes.{undoing-test, kept-test}
-use Rattle.columns.proofs.is_removable.Statement.{statement}
-use Rattle.columns.proofs.is_removable.Tie as tie
+use Rattle.removing.proofs.Undone.{undoes-some}
+use Rattle.removing.proofs.Removes.{undoing-test, kept-test}
+use Rattle.removing.proofs.is_removable.Statement.{statement}
+use Rattle.removing.proofs.is_removable.Tie as tie
 
 -- where the last pair goes there is one
 some : (c : tie.Then1) → 0 < c .before .before .before .args .pairs

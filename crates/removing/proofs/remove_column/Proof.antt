@@ -1,9 +1,9 @@
 -- Refused by its tests, or taken off past them. Assumes nothing.
 use mathlib.Core.Path.{sym, _∙_}
 use borrow.Author.Needs.{needs}
-use Rattle.columns.proofs.Removes.{ready, refused-by}
-use Rattle.columns.proofs.remove_column.Statement.{statement}
-use Rattle.columns.proofs.remove_column.Tie as tie
+use Rattle.removing.proofs.Removes.{ready, refused-by}
+use Rattle.removing.proofs.remove_column.Statement.{statement}
+use Rattle.removing.proofs.remove_column.Tie as tie
 
 returns : tie.Need-returns
 returns c = let p = refused-by _ _ _ _ (c .before .removing-refusal .ensures) (c .if1 .taken) in (p .answer, (p .told, (p .factors, p .pairs)))

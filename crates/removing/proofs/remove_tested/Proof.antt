@@ -5,10 +5,10 @@ use native.Mathlib.Omega.{arith}
 use borrow.Author.Needs.{needs}
 use Rattle.store.specs.Columns.{columns}
 use Rattle.dead_columns.specs.Dead.{deadIn}
-use Rattle.columns.proofs.Undone.{undoes-some}
-use Rattle.columns.proofs.Removes.{dead-split, promise-kept, promise-undone}
-use Rattle.columns.proofs.remove_tested.Statement.{statement}
-use Rattle.columns.proofs.remove_tested.Tie as tie
+use Rattle.removing.proofs.Undone.{undoes-some}
+use Rattle.removing.proofs.Removes.{dead-split, promise-kept, promise-undone}
+use Rattle.removing.proofs.remove_tested.Statement.{statement}
+use Rattle.removing.proofs.remove_tested.Tie as tie
 
 -- the number without the last column is that of the older ones
 older-dead : (c : tie.After-struct-known2) → let at-dead = c .before in let at-known = at-dead .before .before .before in
