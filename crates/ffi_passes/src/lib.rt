@@ -6,8 +6,8 @@ ghost use Rattle.refusals.specs.Outcome.{numberOf};
 ghost use Rattle.permutation_sequence.specs.Calls.{signOf};
 ghost use Rattle.permutation_sequence.specs.Calls.{permutingRows, permutingColumns};
 ghost use Rattle.swap_list.specs.Appending.{appending};
-ghost use Rattle.solve.specs.declared.Pass.{Pass};
-ghost use Rattle.solve.specs.declared.Pass.the-variants.{Lower, Upper, GivenDiagonal, CorrectedDiagonal, TransposedLower, TransposedUpper};
+ghost use Rattle.triangular_passes.specs.declared.Pass.{Pass};
+ghost use Rattle.triangular_passes.specs.declared.Pass.the-variants.{Lower, Upper, GivenDiagonal, CorrectedDiagonal, TransposedLower, TransposedUpper};
 ghost use Rattle.solve.specs.Calls.{solving};
 use swap_list::Appended;
 

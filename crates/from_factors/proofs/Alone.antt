@@ -20,8 +20,8 @@ use Rattle.refusals.proofs.Outcomes.{tested-none, none-given, seventh-number, s
 use Rattle.swap_list.specs.SwapList.{Swaps, pairsOf}
 use Rattle.exchanges.specs.Permute.{permute}
 use Rattle.exchanges.proofs.Permute.{length-permute}
-use Rattle.solve.specs.declared.Pass.the-variants.{Upper, GivenDiagonal, TransposedUpper, TransposedUnitLower}
-use Rattle.solve.proofs.Lengths.{length-solved}
+use Rattle.triangular_passes.specs.declared.Pass.the-variants.{Upper, GivenDiagonal, TransposedUpper, TransposedUnitLower}
+use Rattle.triangular_passes.proofs.Lengths.{length-solved}
 use Rattle.factors.specs.declared.Record.{Record}
 use Rattle.factors.specs.Held.{heldRefusal}
 use Rattle.factors.proofs.Held.{passed}

@@ -22,7 +22,7 @@ use Rattle.swap_list.specs.SwapList.{pairsOf, holds, goodPair, goodPairs, goodL
 use Rattle.exchanges.specs.Permute.{permutedBy}
 use Rattle.permutation_sequence.specs.Calls.{signOf}
 use Rattle.blas.specs.Dot.{addProduct, addBlock, eightSums, pairSums, dotOf}
-use Rattle.solve.specs.Triangular.{upperRow, keptRow, transposedUpperRow, transposedUnitLowerRow, solvedRow, turn, solvedColumn}
+use Rattle.triangular_passes.specs.Triangular.{upperRow, keptRow, transposedUpperRow, transposedUnitLowerRow, solvedRow, turn, solvedColumn}
 use Rattle.factors.specs.declared.Record.{Record}
 use Rattle.factors.specs.Factors.{recordSwap, numbersOf, storeOf, recordOf, written, Factoring, recordAfter}
 use Rattle.factors.specs.Held.{heldRefusal}

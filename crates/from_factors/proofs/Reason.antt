@@ -24,10 +24,10 @@ use Rattle.swap_list.specs.SwapList.{Swaps, pairsOf}
 use Rattle.exchanges.specs.Permute.{permute}
 use Rattle.exchanges.proofs.Permute.{length-permute}
 use Rattle.exchanges.proofs.Finite.{finite-permute}
-use Rattle.solve.specs.declared.Pass.the-variants.{Upper, GivenDiagonal}
-use Rattle.solve.specs.Triangular.{solvedFrom, solvedColumns}
+use Rattle.triangular_passes.specs.declared.Pass.the-variants.{Upper, GivenDiagonal}
+use Rattle.triangular_passes.specs.Triangular.{solvedFrom, solvedColumns}
 use Rattle.solve.specs.Reason.{Stored, firstInPass}
-use Rattle.solve.proofs.Lengths.{solved-rows}
+use Rattle.triangular_passes.proofs.Lengths.{solved-rows}
 use Rattle.solve.proofs.Lasting.{solved-finite}
 use Rattle.solve.proofs.Reason.{FirstInPass, pass-cases}
 use Rattle.factors.specs.declared.Record.{Record}

@@ -14,7 +14,7 @@ use factors::Asks;
 use factors::Record;
 use factors::held_refusal;
 use refusals::Answer;
-use solve::Pass;
+use triangular_passes::Pass;
 
 // The determinant, or a refusal's number.
 pub enum Det {
@@ -150,8 +150,8 @@ fn tr_solve_mut(factors: &[f64], swaps: &[usize], told: Record, x: &mut [f64], k
     ensures { λ _. ⌜ now (x .exit) ≡ solvedBy trSolved (now (factors .entry)) (now (swaps .entry)) told (columns (told .rows) k (now (x .entry))) ⌝ }
 {
     let n = told.rows;
-    solve::solve_in_place(Pass::TransposedUpper, factors, n, x, k);
-    solve::solve_in_place(Pass::TransposedUnitLower, factors, n, x, k);
+    triangular_passes::solve_in_place(Pass::TransposedUpper, factors, n, x, k);
+    triangular_passes::solve_in_place(Pass::TransposedUnitLower, factors, n, x, k);
     exchanges::apply_to_rows(x, n, k, swaps, told.pairs, true);
 }
 

@@ -26,8 +26,8 @@ use Rattle.refusals.proofs.Outcomes.{tested-none, tested-cases, tested-map, the
 use Rattle.swap_list.specs.SwapList.{pairsOf}
 use Rattle.exchanges.specs.Permute.{permute}
 use Rattle.exchanges.proofs.Permute.{length-permute}
-use Rattle.solve.specs.declared.Pass.the-variants.{Upper, GivenDiagonal}
-use Rattle.solve.proofs.Lengths.{length-solved}
+use Rattle.triangular_passes.specs.declared.Pass.the-variants.{Upper, GivenDiagonal}
+use Rattle.triangular_passes.proofs.Lengths.{length-solved}
 use Rattle.factors.specs.declared.Record.{Record}
 use Rattle.factors.specs.Factors.{recordFor, Factoring}
 use Rattle.factors.specs.Held.{heldRefusal}

@@ -29,8 +29,8 @@ use Rattle.refusals.proofs.Outcomes.{tested-none, tested-some}
 use Rattle.refusals.proofs.Cases.{first-among}
 use Rattle.swap_list.specs.SwapList.{Swaps, pairsOf, goodList}
 use Rattle.solve.specs.Calls.{zeroOnDiagonal}
-use Rattle.solve.specs.declared.Pass.the-variants.{GivenDiagonal}
-use Rattle.solve.specs.Triangular.{solvedColumns, solvedFrom}
+use Rattle.triangular_passes.specs.declared.Pass.the-variants.{GivenDiagonal}
+use Rattle.triangular_passes.specs.Triangular.{solvedColumns, solvedFrom}
 use Rattle.solve.specs.Reason.{Stored, lowestZero}
 use Rattle.solve.proofs.Reason.{zero-cases}
 use Rattle.factors.specs.declared.Record.{Record}
