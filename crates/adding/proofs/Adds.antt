@@ -22,8 +22,8 @@ use Rattle.dead_columns.proofs.Dead.{dead-most, dead-snoc, dead-swapped}
 use Rattle.refusals.specs.Outcome.{done, refused, numberOf, firstOf, andThen, leaving}
 use Rattle.refusals.specs.Refusals.{outside}
 use Rattle.refusals.proofs.Outcomes.{tested-none, tested-some, none-given}
-use Rattle.permutation_sequence.specs.SwapList.{pairsOf, withPair, goodList}
-use Rattle.permutation_sequence.proofs.SwapList.{good}
+use Rattle.swap_list.specs.SwapList.{pairsOf, withPair, goodList}
+use Rattle.swap_list.proofs.SwapList.{good}
 use Rattle.factors.specs.declared.Record.{Record}
 use Rattle.factors.specs.Factors.{Factors, recordSwap, written, recordOf, slices, recordAfter}
 use Rattle.factors.specs.Held.{heldRefusal}

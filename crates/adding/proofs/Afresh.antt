@@ -26,8 +26,8 @@ use Rattle.refusals.specs.Outcome.{done, refused, numberOf, firstOf, leaving}
 use Rattle.refusals.specs.Refusals.{outside}
 use Rattle.refusals.proofs.Outcomes.{tested-none, tested-some}
 use Rattle.refusals.proofs.Tests.{not-outside}
-use Rattle.permutation_sequence.specs.SwapList.{goodList}
-use Rattle.permutation_sequence.proofs.Finite.{exchange-finite}
+use Rattle.swap_list.specs.SwapList.{goodList}
+use Rattle.exchanges.proofs.Finite.{exchange-finite}
 use Rattle.factors.specs.declared.Record.{Record}
 use Rattle.factors.specs.Factors.{Factors, storeOf, written, recordFor, factorsIn, slices, Factoring}
 use Rattle.factors.specs.Held.{heldRefusal}

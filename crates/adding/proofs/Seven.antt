@@ -16,7 +16,7 @@ use Rattle.store.specs.Steps.{column}
 use Rattle.store.proofs.Columns.{length-columns}
 use Rattle.refusals.specs.Outcome.{refused, leaving}
 use Rattle.refusals.proofs.Outcomes.{tested-none}
-use Rattle.permutation_sequence.specs.Permute.{permute}
+use Rattle.exchanges.specs.Permute.{permute}
 use Rattle.factors.specs.declared.Record.{Record}
 use Rattle.factors.specs.Factors.{Factors, slices, Factoring}
 use Rattle.elimination.specs.Adding.{update, reduced, addColumn}

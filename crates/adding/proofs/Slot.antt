@@ -22,10 +22,10 @@ use Rattle.store.specs.Steps.{Matrix, column, swapInAll, rowsSwapped}
 use Rattle.store.proofs.Columns.{sized, length-columns, columns-rows, flat-columns, columns-front, columns-snoc, part-column, column-length, column-lent}
 use Rattle.store.proofs.Columns.{on-columns}
 use Rattle.store.proofs.Steps.{length-rowsSwapped, rows-rowsSwapped}
-use Rattle.permutation_sequence.specs.SwapList.{Swaps, pairsOf, held, goodList}
-use Rattle.permutation_sequence.specs.Permute.{permute, rowsPermuted, inOrder}
-use Rattle.permutation_sequence.proofs.OnColumns.{one-column}
-use Rattle.permutation_sequence.proofs.SwapList.{held-good}
+use Rattle.swap_list.specs.SwapList.{Swaps, pairsOf, held, goodList}
+use Rattle.exchanges.specs.Permute.{permute, rowsPermuted, inOrder}
+use Rattle.exchanges.proofs.OnColumns.{one-column}
+use Rattle.swap_list.proofs.SwapList.{held-good}
 use Rattle.elimination.specs.Adding.{update, reduced}
 use Rattle.factors.specs.Factors.{factorsIn}
 use Rattle.updates.specs.Updates.{updatedAt}

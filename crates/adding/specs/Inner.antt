@@ -8,7 +8,7 @@ use Rattle.numbers.specs.Column.{Column}
 use Rattle.store.specs.Columns.{columns, isMatrix, onColumns}
 use Rattle.store.specs.Steps.{Matrix, rowsSwapped}
 use Rattle.dead_columns.specs.Dead.{deadIn}
-use Rattle.permutation_sequence.specs.SwapList.{goodList}
+use Rattle.swap_list.specs.SwapList.{goodList}
 use Rattle.factors.specs.declared.Record.{Record}
 use Rattle.factors.specs.Factors.{pairsWith, storeWith, recordOf, factorsIn, recordAfter}
 use Rattle.elimination.specs.Adding.{reduced}

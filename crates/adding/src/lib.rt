@@ -5,7 +5,7 @@ ghost use Prim.Native.Nat.{_+_, _*_, _≤_, min};
 ghost use lib.ListN.{length};
 ghost use Rattle.min_max.specs.TossUp.{tossUp};
 ghost use Rattle.store.specs.Columns.{columns, isMatrix};
-ghost use Rattle.permutation_sequence.specs.SwapList.{goodList};
+ghost use Rattle.swap_list.specs.SwapList.{goodList};
 ghost use Rattle.factors.specs.Factors.{recordAfter};
 ghost use Rattle.elimination.specs.Own.{ownRow, ownColumn};
 ghost use Rattle.adding.specs.Adding.{addingRefusal, adding, added, recordIn, addingAnswer};
@@ -50,7 +50,7 @@ fn adding_refusal(s: &[f64], c: &[f64], swaps: &[usize], told: Record) -> usize
     let sizes = refusals::outside(1, m) | (63 < n);
     let room = has_room(s, m, n);
     let lengths = room & (swaps.len() == 128) & (c.len() == m);
-    let list = permutation_sequence::is_good_list(swaps, told.pairs, m, store::min(m, n));
+    let list = swap_list::is_good_list(swaps, told.pairs, m, store::min(m, n));
     let a = older(s, m, n, room);
     let front = &s[..a];
     let numbers = finite::all_finite_long(front) & finite::all_finite(c);
@@ -69,7 +69,7 @@ fn reduce_column(s: &mut [f64], m: usize, n: usize, c: &[f64], swaps: &[usize], 
     let a = n * m;
     let e = a + m;
     blas::copy(&mut s[a..e], c);
-    permutation_sequence::apply_to_rows(&mut s[a..e], m, 1, swaps, pairs, false);
+    exchanges::apply_to_rows(&mut s[a..e], m, 1, swaps, pairs, false);
     updates::update_last(s, m, n);
 }
 

@@ -25,9 +25,9 @@ use Rattle.elimination.proofs.Own.{joined, length-own, length-reduced}
 use Rattle.adding.specs.Adding.{olderFactors, addingSettled, adding}
 use Rattle.adding.proofs.Slot.{older-rows}
 use Rattle.adding.proofs.Adds.{ready as ready-to-add, no-refusal, worked as worked-adding, adding-changes}
-use Rattle.columns.specs.Removing.{removingRefusal, removingMade, removing}
-use Rattle.columns.specs.Inner.{Ready}
-use Rattle.columns.proofs.Removes.{ready, worked, size, older}
+use Rattle.removing.specs.Removing.{removingRefusal, removingMade, removing}
+use Rattle.removing.specs.Inner.{Ready}
+use Rattle.removing.proofs.Removes.{ready, worked, size, older}
 
 -- ---- one column more
 module _ (r : Record) (s c : Column) (store : List ℕ) (next : Record) (e : adding s c store r .answer ≡ done next) where

@@ -12,7 +12,7 @@ use Rattle.lu.specs.Factoring.{factoring}
 use Rattle.adding.specs.Adding.{adding}
 use Rattle.adding.proofs.Afresh.{adding-afresh}
 use Rattle.adding.proofs.Front.{same-outcome}
-use Rattle.columns.specs.Removing.{removing}
+use Rattle.removing.specs.Removing.{removing}
 use Rattle.columns.proofs.Restored.{slotOff, removing-reaches}
 
 -- What was reached, with its record, the matrix in the slice a having n columns of m entries: by an accepted factoring, by adding one more column to what

@@ -17,7 +17,7 @@ use Rattle.store.proofs.Columns.{sized, is-matrix, columns-rows, columns-flat, 
 use Rattle.dead_columns.specs.Dead.{deadIn}
 use Rattle.refusals.specs.Outcome.{done, numberOf}
 use Rattle.refusals.proofs.Outcomes.{tested-none}
-use Rattle.permutation_sequence.specs.SwapList.{Swaps, pairsOf}
+use Rattle.swap_list.specs.SwapList.{Swaps, pairsOf}
 use Rattle.factors.specs.declared.Record.{Record}
 use Rattle.factors.specs.Factors.{Factors, recordSwap, storeOf, recordFor, factorsIn, slices, Factoring}
 use Rattle.factors.proofs.Held.{passes}
@@ -27,16 +27,16 @@ use Rattle.elimination.specs.Adding.{reduced}
 use Rattle.adding.specs.Adding.{adding}
 use Rattle.elimination.specs.Own.{ownRow, ownColumn}
 use Rattle.elimination.specs.Removing.{undoes, removeColumn}
-use Rattle.columns.specs.Removing.{goodUndoing, removingAsks, removingRefusal, erased, removingMade, removing}
+use Rattle.removing.specs.Removing.{goodUndoing, removingAsks, removingRefusal, erased, removingMade, removing}
 use Rattle.adding.proofs.Afresh.{Given, accepted-given, adding-afresh}
-use Rattle.columns.proofs.Build.{outcomeAt, front-long, front-none, front-accepted}
+use Rattle.building_up.proofs.Build.{outcomeAt, front-long, front-none, front-accepted}
 use Rattle.adding.proofs.Front.{same-outcome}
 use Rattle.elimination.proofs.Own.{joined, own-from, adding-joins}
 use Rattle.elimination.proofs.Recorded.{rising-few, rising-good}
 use Rattle.lu.proofs.Shape.{factorsOf, no-refusal, ok, size, wide, shape-f, size-f, rising, few, accepted-is}
 use Rattle.factors.proofs.Swaps.{length-store, pairs-store}
 use Rattle.lu.proofs.Told.{Passed}
-use Rattle.columns.proofs.Undone.{rising-kept, erased-recorded, undoing-recorded, removed-joined}
+use Rattle.removing.proofs.Undone.{rising-kept, erased-recorded, undoing-recorded, removed-joined}
 use Rattle.elimination.proofs.Widen.{widened}
 
 -- an outcome with a zero slot behind its factors, and with the slot left aside

@@ -20,8 +20,8 @@ use Rattle.numbers.proofs.First.{passed-before, passed-then}
 use Rattle.store.specs.Columns.{flat}
 use Rattle.store.specs.Steps.{Matrix, column}
 use Rattle.store.proofs.Lasting.{column-finite, columns-finite, swapInAll-finite, stepColumn-finite, eliminated-finite}
-use Rattle.permutation_sequence.specs.Permute.{permute}
-use Rattle.permutation_sequence.proofs.Finite.{finite-permute}
+use Rattle.exchanges.specs.Permute.{permute}
+use Rattle.exchanges.proofs.Finite.{finite-permute}
 use Rattle.factors.specs.Factors.{Factors}
 use Rattle.elimination.specs.Elimination.{multipliers, scaled, pivotStep, step, unfactored, eliminate}
 use Rattle.elimination.specs.Reason.{finiteIn}

@@ -22,8 +22,8 @@ use Rattle.numbers.proofs.Each.{each-id, each-stop}
 use Rattle.blas.proofs.Exchange.{exchanged-self, length-exchanged}
 use Rattle.store.specs.Steps.{Matrix, column, swapInAll, stepColumns, eliminated}
 use Rattle.store.proofs.Steps.{length-swapInAll, length-stepColumn}
-use Rattle.permutation_sequence.specs.SwapList.{Swaps}
-use Rattle.permutation_sequence.proofs.Permute.{length-permute}
+use Rattle.swap_list.specs.SwapList.{Swaps}
+use Rattle.exchanges.proofs.Permute.{length-permute}
 use Rattle.factors.specs.Factors.{Factors, recordSwap}
 use Rattle.elimination.specs.Elimination.{multipliers, scaled, pivotStep, step}
 use Rattle.elimination.specs.Adding.{widen, update, reduced, addColumn}

@@ -13,8 +13,8 @@ use Rattle.numbers.proofs.Choice.{cond-cases}
 use Rattle.min_max.proofs.Pivot.{pivot-from, pivot-to}
 use Rattle.store.specs.Columns.{HasRows}
 use Rattle.store.specs.Steps.{Matrix, column}
-use Rattle.permutation_sequence.specs.SwapList.{Swaps, goodPair, goodPairs, goodList}
-use Rattle.permutation_sequence.proofs.SwapList.{goods-snoc, is-good}
+use Rattle.swap_list.specs.SwapList.{Swaps, goodPair, goodPairs, goodList}
+use Rattle.swap_list.proofs.SwapList.{goods-snoc, is-good}
 use Rattle.factors.specs.Factors.{Factors, recordSwap, storeOf}
 use Rattle.elimination.specs.Elimination.{pivotStep, step, unfactored, eliminate}
 use Rattle.elimination.proofs.Step.{pivotAt, step-cases, steps, steps-next, length-steps, rows-steps}

@@ -22,9 +22,9 @@ use Rattle.min_max.proofs.Pivot.{pivot-from, pivot-to, pivot-zero}
 use Rattle.blas.proofs.Rows.{axpy-swap}
 use Rattle.store.specs.Columns.{HasRows}
 use Rattle.store.specs.Steps.{Matrix, column, stepColumn}
-use Rattle.permutation_sequence.specs.SwapList.{Swaps}
-use Rattle.permutation_sequence.specs.Permute.{permutedBy, permute}
-use Rattle.permutation_sequence.proofs.Permute.{permute-append}
+use Rattle.swap_list.specs.SwapList.{Swaps}
+use Rattle.exchanges.specs.Permute.{permutedBy, permute}
+use Rattle.exchanges.proofs.Permute.{permute-append}
 use Rattle.factors.specs.Factors.{Factors, recordSwap}
 use Rattle.elimination.specs.Elimination.{pivotStep, step, unfactored, eliminate}
 use Rattle.elimination.specs.Adding.{widen, update, reduced, addColumn}

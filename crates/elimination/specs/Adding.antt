@@ -8,7 +8,7 @@ use Rattle.numbers.specs.Each.{turnsFrom}
 use Rattle.numbers.specs.Numbers.{isZero}
 use Rattle.numbers.specs.Column.{Column, entry}
 use Rattle.store.specs.Steps.{Matrix, column, stepColumn}
-use Rattle.permutation_sequence.specs.Permute.{permute}
+use Rattle.exchanges.specs.Permute.{permute}
 use Rattle.factors.specs.Factors.{Factors}
 use Rattle.elimination.specs.Elimination.{step}
 

@@ -4,7 +4,7 @@ use Prim.Native.Nat.{ℕ, _-_}
 use lib.Dec.{ltb, eqb}
 use lib.ListN.{length, getD, take}
 use Rattle.store.specs.Steps.{swapInAll}
-use Rattle.permutation_sequence.specs.SwapList.{Swaps}
+use Rattle.swap_list.specs.SwapList.{Swaps}
 use Rattle.factors.specs.Factors.{Factors}
 
 -- the last pair, where there is one

@@ -2,7 +2,6 @@
 // read; x and swaps are written. The ops that need no factors are handed on.
 use adding::Added;
 use cases::Case;
-use columns::Removed;
 use factors::Record;
 use from_factors::Det;
 use from_factors::Invertible;
@@ -13,6 +12,7 @@ use lu::Factored;
 use matrix_ops::result_line;
 use matrix_ops::whole_of;
 use refusals::Answer;
+use removing::Removed;
 use scaled_determinant::ScaledDet;
 use why::WhyFactor;
 use why::WhySolve;
@@ -67,7 +67,7 @@ fn removed_line(number: usize, told: Record) -> Line {
 
 // Op 22.
 fn remove_column(case: Case, x: &mut [f64], swaps: &mut [usize]) -> Line {
-    match columns::remove_column(x, swaps, record_of(case)) {
+    match removing::remove_column(x, swaps, record_of(case)) {
         Removed::Accepted(told) => removed_line(0, told),
         Removed::Refused { number, told } => removed_line(number, told),
     }
@@ -150,7 +150,7 @@ pub fn run(case: Case, a: &[f64], b: &[f64], x: &mut [f64], swaps: &mut [usize])
         27 => why_factor_line(why::why_factor(a, case.m, case.n, x, swaps)),
         28 => why_solve(case, a, swaps, b, x),
         30 => scaled_determinant(case, a, swaps),
-        35 => factored_line(columns::build_up(a, case.m, case.n, x, swaps)),
+        35 => factored_line(building_up::build_up(a, case.m, case.n, x, swaps)),
         _ => matrix_ops::run(case, a, b, x, swaps),
     }
 }

@@ -17,7 +17,7 @@ use Rattle.refusals.specs.Outcome.{firstOf}
 use Rattle.refusals.specs.Refusals.{outside}
 use Rattle.refusals.proofs.Outcomes.{Numbered, first-none, none-first}
 use Rattle.refusals.proofs.Tests.{neither, Inside, inside, not-outside}
-use Rattle.permutation_sequence.specs.SwapList.{goodList}
+use Rattle.swap_list.specs.SwapList.{goodList}
 use Rattle.factors.specs.declared.Record.{Record}
 use Rattle.factors.specs.declared.Asks.{Asks}
 use Rattle.factors.specs.Held.{heldTests, heldRefusal}

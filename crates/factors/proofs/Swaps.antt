@@ -11,8 +11,8 @@ use lib.ListN.{length, replicate, getD, set, take, drop, length-append, length-r
 use lib.Seq.{set-at, drop-append-add, length-take-le}
 use Rattle.numbers.proofs.Choice.{cond-cases, cond-both, test-cases}
 use Rattle.numbers.proofs.Walk.{drop-next}
-use Rattle.permutation_sequence.specs.SwapList.{Swaps, pairsOf, withPair}
-use Rattle.permutation_sequence.proofs.SwapList.{length-pairs}
+use Rattle.swap_list.specs.SwapList.{Swaps, pairsOf, withPair}
+use Rattle.swap_list.proofs.SwapList.{length-pairs}
 use Rattle.factors.specs.Factors.{recordSwap, numbersOf, storeOf, written, takesPair, pairsWith, storeWith}
 
 pub length-numbers : (swaps : Swaps) → length (numbersOf swaps) ≡ 2 * length swaps

@@ -7,8 +7,8 @@ use native.Mathlib.Omega.{arith}
 use lib.ListN.{length, getD, drop, length-append, length-drop, List·getD-append}
 use lib.Seq.{getD-append-add, getD-drop}
 use Rattle.numbers.specs.Column.{Column}
-use Rattle.permutation_sequence.specs.SwapList.{Swaps, pairsOf}
-use Rattle.permutation_sequence.proofs.SwapList.{pairs-same, good-unread}
+use Rattle.swap_list.specs.SwapList.{Swaps, pairsOf}
+use Rattle.swap_list.proofs.SwapList.{pairs-same, good-unread}
 use Rattle.factors.specs.declared.Record.{Record}
 use Rattle.factors.specs.declared.Asks.{Asks}
 use Rattle.factors.specs.Factors.{numbersOf, written}

@@ -8,7 +8,7 @@ use Rattle.numbers.specs.Column.{Column}
 use Rattle.store.specs.Columns.{columns}
 use Rattle.store.specs.Steps.{Matrix}
 use Rattle.dead_columns.specs.Dead.{deadIn}
-use Rattle.permutation_sequence.specs.SwapList.{Swaps, pairsOf, withPair}
+use Rattle.swap_list.specs.SwapList.{Swaps, pairsOf, withPair}
 use Rattle.refusals.specs.Outcome.{Outcome, done, refused, Call}
 use Rattle.factors.specs.declared.Record.{Record}
 

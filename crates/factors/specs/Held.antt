@@ -10,7 +10,7 @@ use Rattle.store.specs.Columns.{isMatrix}
 use Rattle.dead_columns.specs.Dead.{deadOf}
 use Rattle.refusals.specs.Outcome.{firstOf}
 use Rattle.refusals.specs.Refusals.{outside}
-use Rattle.permutation_sequence.specs.SwapList.{goodList}
+use Rattle.swap_list.specs.SwapList.{goodList}
 use Rattle.factors.specs.declared.Record.{Record}
 use Rattle.factors.specs.declared.Asks.{Asks}
 

@@ -44,7 +44,7 @@ pub fn held_refusal(factors: &[f64], swaps: &[usize], told: Record, asks: Asks) 
     let sizes = refusals::outside(1, m) | refusals::outside(0, n) | !asks.sizes;
     let shape = asks.square & (m != n);
     let lengths = store::is_matrix(factors, m, n) & (swaps.len() == 128) & asks.lengths;
-    let good = permutation_sequence::is_good_list(swaps, told.pairs, m, store::min(m, n));
+    let good = swap_list::is_good_list(swaps, told.pairs, m, store::min(m, n));
     let list = good & asks.list;
     let numbers = finite::all_finite_long(factors) & asks.numbers;
     let from9 = dead_refusal(factors, told, asks.solves);

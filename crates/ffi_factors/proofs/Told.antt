@@ -4,9 +4,9 @@ use Prim.Native.Nat.{ℕ}
 use Rattle.refusals.specs.Outcome.{Outcome, numberOf}
 use Rattle.factors.specs.declared.Record.{Record}
 use Rattle.factors.specs.Factors.{recordAfter}
-use Rattle.columns.specs.declared.Removed.{Removed}
-use Rattle.columns.specs.declared.Removed.the-variants.{Accepted, Refused}
-use Rattle.columns.specs.Removing.{removed, recordIn}
+use Rattle.removing.specs.declared.Removed.{Removed}
+use Rattle.removing.specs.declared.Removed.the-variants.{Accepted, Refused}
+use Rattle.removing.specs.Removing.{removed, recordIn}
 
 -- removing from factors of the record r: o is its outcome
 module _ (r : Record) (made : Removed) (o : Outcome Record) (e : removed made ≡ o) (k : recordIn made ≡ recordAfter r o) where

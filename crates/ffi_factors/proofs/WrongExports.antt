@@ -12,7 +12,7 @@ use Rattle.refusals.proofs.Strength.{ShutsOut, shut-out, TwoShutOut, two}
 use Rattle.factors.specs.declared.Record.{Record}
 use Rattle.factors.specs.Factors.{recordOf, recordAfter}
 use Rattle.factors.specs.Held.{heldRefusal}
-use Rattle.columns.specs.Removing.{removingRefusal, removing}
+use Rattle.removing.specs.Removing.{removingRefusal, removing}
 use Rattle.from_factors.specs.Triangles.{lowering, uppering}
 use Rattle.from_factors.specs.Solving.{trSolving}
 use Rattle.ffi.proofs.WrongExports.{noSizes, oneByOne, swapped, numbered}

@@ -4,12 +4,12 @@ ghost use mathlib.Core.Path.{_≡_};
 ghost use Rattle.refusals.specs.Outcome.{numberOf};
 ghost use Rattle.factors.specs.Factors.{recordOf, recordAfter};
 ghost use Rattle.lu.specs.Factoring.{factoring, factoringAnswer, pairsIn, deadColumnsIn, tossedIn};
-ghost use Rattle.columns.specs.Removing.{removing};
+ghost use Rattle.removing.specs.Removing.{removing};
 ghost use Rattle.from_factors.specs.Triangles.{lowering, uppering};
 ghost use Rattle.from_factors.specs.Solving.{trSolving};
-use columns::Removed;
 use factors::Record;
 use lu::Factored;
+use removing::Removed;
 
 // Takes the last column off m by n factors with *pairs swaps and *dead dead columns. Refused: both as they were.
 #[no_mangle]
@@ -41,7 +41,7 @@ pub extern "C" fn wejdarox_remove_column(
         pairs: was,
         dead: died,
     };
-    match columns::remove_column(factors, swaps, held) {
+    match removing::remove_column(factors, swaps, held) {
         Removed::Accepted(told) => {
             *pairs = told.pairs;
             *dead = told.dead;
@@ -70,7 +70,7 @@ pub extern "C" fn wejdarox_build_up(
     ensures { λ _. ⌜ now (dead .exit) ≡ deadColumnsIn (factoringAnswer (now (a .entry)) m n (now (factors .entry)) (now (swaps .entry))) ⌝ }
     ensures { λ _. ⌜ now («toss_ups» .exit) ≡ tossedIn (factoringAnswer (now (a .entry)) m n (now (factors .entry)) (now (swaps .entry))) ⌝ }
 {
-    match columns::build_up(a, m, n, factors, swaps) {
+    match building_up::build_up(a, m, n, factors, swaps) {
         Factored::Accepted {
             told,
             toss_ups: tossed,

@@ -3,12 +3,13 @@
 ghost use mathlib.Core.Path.{_≡_};
 ghost use mathlib.Core.Bool.{true, false};
 ghost use Rattle.refusals.specs.Outcome.{numberOf};
-ghost use Rattle.permutation_sequence.specs.Permute.{signOf};
-ghost use Rattle.permutation_sequence.specs.Calls.{permutingRows, permutingColumns, appending};
-ghost use Rattle.solve.specs.declared.Pass.{Pass};
-ghost use Rattle.solve.specs.declared.Pass.the-variants.{Lower, Upper, GivenDiagonal, CorrectedDiagonal, TransposedLower, TransposedUpper};
+ghost use Rattle.permutation_sequence.specs.Calls.{signOf};
+ghost use Rattle.permutation_sequence.specs.Calls.{permutingRows, permutingColumns};
+ghost use Rattle.swap_list.specs.Appending.{appending};
+ghost use Rattle.triangular_passes.specs.declared.Pass.{Pass};
+ghost use Rattle.triangular_passes.specs.declared.Pass.the-variants.{Lower, Upper, GivenDiagonal, CorrectedDiagonal, TransposedLower, TransposedUpper};
 ghost use Rattle.solve.specs.Calls.{solving};
-use permutation_sequence::Appended;
+use swap_list::Appended;
 
 // Solves by the lower triangle of the n by n matrix t for the k right-hand columns b, into x.
 #[no_mangle]
@@ -116,7 +117,7 @@ pub extern "C" fn wejdarox_append_permutation(
     ensures { λ _. ⌜ now (pairs .exit) ≡ appending (now (swaps .entry)) (now (pairs .entry)) d i i2 .left .pairs ⌝ }
 {
     let was = *pairs;
-    match permutation_sequence::append_permutation(swaps, was, d, i, i2) {
+    match swap_list::append_permutation(swaps, was, d, i, i2) {
         Appended::Pairs(count) => {
             *pairs = count;
             0

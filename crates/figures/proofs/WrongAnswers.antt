@@ -19,10 +19,10 @@ use Rattle.refusals.specs.Outcome.{Outcome, done, firstOf, tested, Call}
 use Rattle.refusals.specs.Refusals.{outside, seventh}
 use Rattle.refusals.proofs.Strength.{OneOutcome, one-outcome, ShutsOut, shut-out, BothShutOut, both, Strong, strong, done-refused}
 use Rattle.solve_by_rows.specs.Rows.{passOf}
-use Rattle.solve.specs.declared.Pass.{Pass}
-use Rattle.solve.specs.declared.Pass.the-variants.{Lower, Upper, GivenDiagonal, TransposedLower, TransposedUpper, CorrectedDiagonal}
-use Rattle.solve.specs.Triangular.{lowerRow, upperRow, keptRow, transposedLowerRow, transposedUpperRow, solvedRow, turn, solvedColumn, solvedFrom}
-use Rattle.solve.specs.Triangular.{solvedInPlace}
+use Rattle.triangular_passes.specs.declared.Pass.{Pass}
+use Rattle.triangular_passes.specs.declared.Pass.the-variants.{Lower, Upper, GivenDiagonal, TransposedLower, TransposedUpper, CorrectedDiagonal}
+use Rattle.triangular_passes.specs.Triangular.{lowerRow, upperRow, keptRow, transposedLowerRow, transposedUpperRow, solvedRow, turn, solvedColumn, solvedFrom}
+use Rattle.triangular_passes.specs.Triangular.{solvedInPlace}
 use Rattle.solve.specs.Calls.{sizesOutside, lengthsFit, numbersFinite, zeroOnDiagonal, refusalOf, solving}
 use Rattle.factors.specs.declared.Asks.{Asks}
 use Rattle.factors.specs.declared.Record.{Record}

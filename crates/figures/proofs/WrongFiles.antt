@@ -44,7 +44,7 @@ use Rattle.why.specs.Results.{firstOverflow, rowsFrom, inTurn}
 use Rattle.why.specs.Solving.{turnsResults, solvingResults}
 use Rattle.why.specs.Why.{Told, toldNumber, overflowed, explainSolving}
 use Rattle.why_file.specs.Explaining.{Stage, explainLoads, explainedBy, explainFile}
-use Rattle.solve.specs.Triangular.{solvedFrom}
+use Rattle.triangular_passes.specs.Triangular.{solvedFrom}
 
 -- a name for all that has to unfold for a file to be read, factored and solved
 answers : Type 0

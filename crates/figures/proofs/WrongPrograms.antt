@@ -23,8 +23,8 @@ use Rattle.lu.specs.Factoring.{factoring}
 use Rattle.adding.specs.Adding.{adding}
 use Rattle.elimination.specs.TossUps.{tossAt, tossFrom, tossUps}
 use Rattle.elimination.specs.Removing.{lastPair, undoes, pairsBefore, removeColumn}
-use Rattle.columns.specs.Removing.{goodUndoing, removingRefusal, erased, removingMade, removing}
-use Rattle.permutation_sequence.specs.SwapList.{Swaps, withPair}
+use Rattle.removing.specs.Removing.{goodUndoing, removingRefusal, erased, removingMade, removing}
+use Rattle.swap_list.specs.SwapList.{Swaps, withPair}
 use Rattle.from_factors.specs.Solving.{unitColumn, identity}
 use Rattle.from_factors.proofs.Accepted.{accepted-is}
 use Rattle.figures.specs.Table.{determinant}

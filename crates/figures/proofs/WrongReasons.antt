@@ -20,9 +20,9 @@ use Rattle.store.specs.Columns.{columns}
 use Rattle.store.specs.Steps.{Matrix, column}
 use Rattle.refusals.specs.Outcome.{tested}
 use Rattle.refusals.proofs.Strength.{ShutsOut, shut-out, Strong, strong}
-use Rattle.permutation_sequence.specs.SwapList.{Swaps, pairsOf}
-use Rattle.solve.specs.declared.Pass.the-variants.{Upper, GivenDiagonal}
-use Rattle.solve.specs.Triangular.{solvedFrom}
+use Rattle.swap_list.specs.SwapList.{Swaps, pairsOf}
+use Rattle.triangular_passes.specs.declared.Pass.the-variants.{Upper, GivenDiagonal}
+use Rattle.triangular_passes.specs.Triangular.{solvedFrom}
 use Rattle.solve.specs.Reason.{lowestZero}
 use Rattle.factors.specs.Factors.{Factors, storeOf, recordOf}
 use Rattle.factors.specs.Held.{heldRefusal}

@@ -1,4 +1,4 @@
--- Two wrong programs for each call of `permutation_sequence`, as in `WrongAnswers`. Assumes nothing.
+-- Two wrong programs for each call of `swap_list` and `permutation_sequence`, and for the pass of `exchanges`, as in `WrongAnswers`. Assumes nothing.
 use mathlib.Core.Path.{_≡_, refl, ap}
 use mathlib.Core.Bool.{Bool, true, false}
 use mathlib.Core.List.{List, [], _∷_}
@@ -15,9 +15,11 @@ use Rattle.store.specs.Steps.{swapInAll}
 use Rattle.refusals.specs.Outcome.{Outcome, refused, firstOf, tested, Call}
 use Rattle.refusals.specs.Refusals.{outside}
 use Rattle.refusals.proofs.Strength.{ShutsOut, shut-out, BothShutOut, both, Strong, strong, done-refused}
-use Rattle.permutation_sequence.specs.SwapList.{pairsOf, holds, held, withPair, goodPair, goodPairs, goodList}
-use Rattle.permutation_sequence.specs.Permute.{permutedBy, rowsPermuted, inOrder, signOf}
-use Rattle.permutation_sequence.specs.Calls.{permutingRefusal, permuting, permutingRows, permutingColumns, appendingRefusal, Listed, listed, appending}
+use Rattle.swap_list.specs.SwapList.{pairsOf, holds, held, withPair, goodPair, goodPairs, goodList}
+use Rattle.exchanges.specs.Permute.{permutedBy, rowsPermuted, inOrder}
+use Rattle.permutation_sequence.specs.Calls.{signOf}
+use Rattle.permutation_sequence.specs.Calls.{permutingRefusal, permuting, permutingRows, permutingColumns}
+use Rattle.swap_list.specs.Appending.{appendingRefusal, Listed, listed, appending}
 use Rattle.from_factors.proofs.Figures.{n1, n2}
 
 -- a name for all that has to unfold for a list to be tested and applied

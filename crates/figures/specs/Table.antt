@@ -8,9 +8,9 @@ use lib.IntN.{pos, negsuc}
 use lib.Ieee.{Float, fin}
 use Rattle.numbers.specs.Column.{Column, zeros}
 use Rattle.refusals.specs.Outcome.{Outcome, done, Call, leaving}
-use Rattle.permutation_sequence.specs.SwapList.{Swaps}
-use Rattle.solve.specs.declared.Pass.{Pass}
-use Rattle.solve.specs.declared.Pass.the-variants.{GivenDiagonal, TransposedLower, CorrectedDiagonal}
+use Rattle.swap_list.specs.SwapList.{Swaps}
+use Rattle.triangular_passes.specs.declared.Pass.{Pass}
+use Rattle.triangular_passes.specs.declared.Pass.the-variants.{GivenDiagonal, TransposedLower, CorrectedDiagonal}
 use Rattle.solve.specs.Calls.{solving as solvingTriangle}
 use Rattle.factors.specs.Factors.{storeOf, recordOf, slices, Factoring}
 use Rattle.adding.specs.Adding.{adding}

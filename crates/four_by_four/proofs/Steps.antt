@@ -18,9 +18,9 @@ use Rattle.min_max.proofs.Pivot.{pivot-from, pivot-to}
 use Rattle.blas.specs.Blas.{exchanged, swapRows, scaleFrom}
 use Rattle.blas.proofs.Exchange.{other-first, getD-exchanged, exchanged-self}
 use Rattle.store.specs.Steps.{Matrix, column, swapInAll, stepColumns, eliminated}
-use Rattle.permutation_sequence.specs.SwapList.{Swaps}
-use Rattle.permutation_sequence.specs.Permute.{permute, permutedBy}
-use Rattle.permutation_sequence.proofs.Permute.{permute-append}
+use Rattle.swap_list.specs.SwapList.{Swaps}
+use Rattle.exchanges.specs.Permute.{permute, permutedBy}
+use Rattle.exchanges.proofs.Permute.{permute-append}
 use Rattle.factors.specs.Factors.{Factors, recordSwap}
 use Rattle.elimination.specs.Elimination.{multipliers, scaled, pivotStep, step, eliminate}
 use Rattle.four_by_four.specs.declared.Rows.{Rows}

@@ -9,7 +9,7 @@ use Rattle.numbers.specs.Numbers.{magnitude}
 use Rattle.numbers.specs.Column.{Column}
 use Rattle.blas.specs.Blas.{swapRows}
 use Rattle.store.specs.Steps.{Matrix, stepColumn}
-use Rattle.permutation_sequence.specs.SwapList.{Swaps}
+use Rattle.swap_list.specs.SwapList.{Swaps}
 use Rattle.factors.specs.Factors.{Factors, recordSwap}
 use Rattle.elimination.specs.Elimination.{step}
 use Rattle.four_by_four.specs.declared.System.{System}

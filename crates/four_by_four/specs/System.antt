@@ -4,8 +4,8 @@ use mathlib.Core.List.{[], _∷_}
 use Prim.Native.Nat.{ℕ}
 use Rattle.numbers.specs.Column.{Column}
 use Rattle.store.specs.Steps.{Matrix}
-use Rattle.permutation_sequence.specs.SwapList.{Swaps}
-use Rattle.permutation_sequence.specs.Permute.{permute}
+use Rattle.swap_list.specs.SwapList.{Swaps}
+use Rattle.exchanges.specs.Permute.{permute}
 use Rattle.factors.specs.Factors.{recordSwap}
 use Rattle.elimination.specs.Elimination.{eliminate}
 use Rattle.four_by_four.specs.declared.Rows.{Rows}

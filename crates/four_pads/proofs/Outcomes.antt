@@ -16,8 +16,8 @@ use Rattle.store.proofs.Columns.{columns-rows}
 use Rattle.dead_columns.specs.Dead.{deadOf, deadIn}
 use Rattle.refusals.specs.Outcome.{firstOf, tested, andThen}
 use Rattle.refusals.specs.Refusals.{outside, seventh}
-use Rattle.permutation_sequence.specs.SwapList.{Swaps, pairsOf}
-use Rattle.permutation_sequence.specs.Permute.{permute}
+use Rattle.swap_list.specs.SwapList.{Swaps, pairsOf}
+use Rattle.exchanges.specs.Permute.{permute}
 use Rattle.factors.specs.Factors.{Factors, storeOf, recordFor}
 use Rattle.factors.specs.Held.{heldRefusal}
 use Rattle.factors.proofs.Swaps.{length-store, pairs-store}

@@ -3,7 +3,7 @@ use mathlib.Core.Bool.{cond}
 use lib.ListN.{length, take}
 use Rattle.finite.specs.Finite.{allFinite}
 use Rattle.store.specs.Columns.{flat}
-use Rattle.permutation_sequence.specs.SwapList.{Swaps}
+use Rattle.swap_list.specs.SwapList.{Swaps}
 use Rattle.factors.specs.Factors.{storeOf}
 use Rattle.four_by_four.specs.declared.Reduced.{Reduced}
 use Rattle.four_by_four.specs.System.{listed, matrixOf, recordedBy}

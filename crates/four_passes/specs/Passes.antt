@@ -4,8 +4,8 @@ use lib.Dec.{eqb}
 use Rattle.numbers.specs.Numbers.{one64}
 use Rattle.numbers.specs.Column.{Column}
 use Rattle.dead_columns.specs.Dead.{deadIn}
-use Rattle.solve.specs.declared.Pass.the-variants.{Upper, GivenDiagonal}
-use Rattle.solve.specs.Triangular.{solvedColumn}
+use Rattle.triangular_passes.specs.declared.Pass.the-variants.{Upper, GivenDiagonal}
+use Rattle.triangular_passes.specs.Triangular.{solvedColumn}
 use Rattle.four_by_four.specs.declared.System.{System}
 use Rattle.four_by_four.specs.System.{matrixOf}
 

@@ -15,7 +15,7 @@ use Rattle.store.specs.Columns.{columns, flat}
 use Rattle.store.proofs.Columns.{is-matrix, columns-flat}
 use Rattle.dead_columns.specs.Dead.{deadIn}
 use Rattle.refusals.specs.Outcome.{done}
-use Rattle.permutation_sequence.specs.SwapList.{pairsOf}
+use Rattle.swap_list.specs.SwapList.{pairsOf}
 use Rattle.factors.specs.declared.Record.{Record}
 use Rattle.factors.specs.declared.Asks.{Asks}
 use Rattle.factors.specs.Factors.{Factors, storeOf, recordFor, Factoring}

@@ -17,11 +17,11 @@ use Rattle.store.proofs.Columns.{sized, length-columns, columns-rows, columns-f
 use Rattle.refusals.specs.Outcome.{numberOf, Call, leaving}
 use Rattle.refusals.specs.Refusals.{seventh}
 use Rattle.refusals.proofs.Outcomes.{tested-none, none-given, seventh-number, seventh-stands}
-use Rattle.permutation_sequence.specs.SwapList.{Swaps, pairsOf}
-use Rattle.permutation_sequence.specs.Permute.{permute}
-use Rattle.permutation_sequence.proofs.Permute.{length-permute}
-use Rattle.solve.specs.declared.Pass.the-variants.{Upper, GivenDiagonal, TransposedUpper, TransposedUnitLower}
-use Rattle.solve.proofs.Lengths.{length-solved}
+use Rattle.swap_list.specs.SwapList.{Swaps, pairsOf}
+use Rattle.exchanges.specs.Permute.{permute}
+use Rattle.exchanges.proofs.Permute.{length-permute}
+use Rattle.triangular_passes.specs.declared.Pass.the-variants.{Upper, GivenDiagonal, TransposedUpper, TransposedUnitLower}
+use Rattle.triangular_passes.proofs.Lengths.{length-solved}
 use Rattle.factors.specs.declared.Record.{Record}
 use Rattle.factors.specs.Held.{heldRefusal}
 use Rattle.factors.proofs.Held.{passed}

@@ -19,7 +19,7 @@ use Rattle.refusals.specs.Outcome.{done, refused, firstOf, tested}
 use Rattle.refusals.specs.Refusals.{outside}
 use Rattle.refusals.proofs.Outcomes.{Numbered, none-first, tested-none, tested-some}
 use Rattle.refusals.proofs.Cases.{Each, first-among, first-behind}
-use Rattle.permutation_sequence.specs.SwapList.{goodList}
+use Rattle.swap_list.specs.SwapList.{goodList}
 use Rattle.solve.specs.Calls.{zeroOnDiagonal}
 use Rattle.factors.specs.declared.Record.{Record}
 use Rattle.factors.specs.declared.Asks.{Asks}

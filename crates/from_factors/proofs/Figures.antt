@@ -18,10 +18,11 @@ use Rattle.store.specs.Steps.{swapInAll, stepColumn, stepColumns, eliminated}
 use Rattle.dead_columns.specs.Dead.{zeroCount, deadFrom, deadIn, deadOf}
 use Rattle.refusals.specs.Outcome.{done, firstOf, tested, andThen, Call}
 use Rattle.refusals.specs.Refusals.{outside, seventh}
-use Rattle.permutation_sequence.specs.SwapList.{pairsOf, holds, goodPair, goodPairs, goodList}
-use Rattle.permutation_sequence.specs.Permute.{permutedBy, signOf}
+use Rattle.swap_list.specs.SwapList.{pairsOf, holds, goodPair, goodPairs, goodList}
+use Rattle.exchanges.specs.Permute.{permutedBy}
+use Rattle.permutation_sequence.specs.Calls.{signOf}
 use Rattle.blas.specs.Dot.{addProduct, addBlock, eightSums, pairSums, dotOf}
-use Rattle.solve.specs.Triangular.{upperRow, keptRow, transposedUpperRow, transposedUnitLowerRow, solvedRow, turn, solvedColumn}
+use Rattle.triangular_passes.specs.Triangular.{upperRow, keptRow, transposedUpperRow, transposedUnitLowerRow, solvedRow, turn, solvedColumn}
 use Rattle.factors.specs.declared.Record.{Record}
 use Rattle.factors.specs.Factors.{recordSwap, numbersOf, storeOf, recordOf, written, Factoring, recordAfter}
 use Rattle.factors.specs.Held.{heldRefusal}

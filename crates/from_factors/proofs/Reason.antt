@@ -20,14 +20,14 @@ use Rattle.store.proofs.Columns.{sized, flat-columns, columns-rows, each-rows}
 use Rattle.store.proofs.Lasting.{column-finite, columns-finite, each-columns-finite}
 use Rattle.refusals.specs.Outcome.{numberOf, Call, leaving}
 use Rattle.refusals.proofs.Outcomes.{tested-none, seventh-number}
-use Rattle.permutation_sequence.specs.SwapList.{Swaps, pairsOf}
-use Rattle.permutation_sequence.specs.Permute.{permute}
-use Rattle.permutation_sequence.proofs.Permute.{length-permute}
-use Rattle.permutation_sequence.proofs.Finite.{finite-permute}
-use Rattle.solve.specs.declared.Pass.the-variants.{Upper, GivenDiagonal}
-use Rattle.solve.specs.Triangular.{solvedFrom, solvedColumns}
+use Rattle.swap_list.specs.SwapList.{Swaps, pairsOf}
+use Rattle.exchanges.specs.Permute.{permute}
+use Rattle.exchanges.proofs.Permute.{length-permute}
+use Rattle.exchanges.proofs.Finite.{finite-permute}
+use Rattle.triangular_passes.specs.declared.Pass.the-variants.{Upper, GivenDiagonal}
+use Rattle.triangular_passes.specs.Triangular.{solvedFrom, solvedColumns}
 use Rattle.solve.specs.Reason.{Stored, firstInPass}
-use Rattle.solve.proofs.Lengths.{solved-rows}
+use Rattle.triangular_passes.proofs.Lengths.{solved-rows}
 use Rattle.solve.proofs.Lasting.{solved-finite}
 use Rattle.solve.proofs.Reason.{FirstInPass, pass-cases}
 use Rattle.factors.specs.declared.Record.{Record}

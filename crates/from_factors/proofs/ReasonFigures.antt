@@ -6,8 +6,8 @@ use mathlib.Core.Option.{none, some, orElse}
 use lib.IntN.{pos, negsuc}
 use lib.Ieee.{fin}
 use Rattle.numbers.specs.First.{firstFailing, firstTurn, firstSome}
-use Rattle.solve.specs.declared.Pass.the-variants.{Upper}
-use Rattle.solve.specs.Triangular.{solvedFrom}
+use Rattle.triangular_passes.specs.declared.Pass.the-variants.{Upper}
+use Rattle.triangular_passes.specs.Triangular.{solvedFrom}
 use Rattle.solve.specs.Reason.{firstRow, firstInColumn, firstInPass}
 use Rattle.elimination.specs.Reason.{firstReason}
 use Rattle.from_factors.specs.Reason.{solveReason}

@@ -31,14 +31,15 @@ use Rattle.store.proofs.First.{each-spoilt}
 use Rattle.refusals.specs.Outcome.{Outcome, done, refused, andThen, leaving}
 use Rattle.refusals.specs.Refusals.{seventh}
 use Rattle.refusals.proofs.Outcomes.{tested-none, seventh-refused}
-use Rattle.permutation_sequence.specs.SwapList.{Swaps, pairsOf}
-use Rattle.permutation_sequence.specs.Permute.{permute, signOf}
-use Rattle.permutation_sequence.proofs.Permute.{length-permute}
-use Rattle.permutation_sequence.proofs.Finite.{finite-permute}
-use Rattle.solve.specs.declared.Pass.{Pass}
-use Rattle.solve.specs.declared.Pass.the-variants.{Upper, GivenDiagonal, TransposedUpper, TransposedUnitLower}
-use Rattle.solve.specs.Triangular.{solvedColumn}
-use Rattle.solve.proofs.Lengths.{length-solved}
+use Rattle.swap_list.specs.SwapList.{Swaps, pairsOf}
+use Rattle.exchanges.specs.Permute.{permute}
+use Rattle.permutation_sequence.specs.Calls.{signOf}
+use Rattle.exchanges.proofs.Permute.{length-permute}
+use Rattle.exchanges.proofs.Finite.{finite-permute}
+use Rattle.triangular_passes.specs.declared.Pass.{Pass}
+use Rattle.triangular_passes.specs.declared.Pass.the-variants.{Upper, GivenDiagonal, TransposedUpper, TransposedUnitLower}
+use Rattle.triangular_passes.specs.Triangular.{solvedColumn}
+use Rattle.triangular_passes.proofs.Lengths.{length-solved}
 use Rattle.solve.proofs.Lasting.{solved-lasting}
 use Rattle.solve.proofs.Seven.{StoredBad, stored-bad, bad-stored}
 use Rattle.factors.specs.declared.Record.{Record}

@@ -12,13 +12,13 @@ use Rattle.numbers.proofs.Each.{length-each, each-each}
 use Rattle.store.specs.Columns.{columns, flat, isMatrix, onColumns}
 use Rattle.store.specs.Steps.{Matrix}
 use Rattle.store.proofs.Columns.{sized, same-matrix, length-columns, flat-columns, columns-rows, each-rows, on-same, on-columns}
-use Rattle.permutation_sequence.specs.SwapList.{Swaps, pairsOf, held, goodList}
-use Rattle.permutation_sequence.specs.Permute.{permute, rowsPermuted, inOrder}
-use Rattle.permutation_sequence.proofs.SwapList.{held-good}
-use Rattle.permutation_sequence.proofs.Permute.{length-permute, rows-each}
-use Rattle.solve.specs.declared.Pass.{Pass}
-use Rattle.solve.specs.declared.Pass.the-variants.{Upper, GivenDiagonal, TransposedUpper, TransposedUnitLower}
-use Rattle.solve.specs.Triangular.{solvedColumn, solvedFrom, solvedInPlace}
+use Rattle.swap_list.specs.SwapList.{Swaps, pairsOf, held, goodList}
+use Rattle.exchanges.specs.Permute.{permute, rowsPermuted, inOrder}
+use Rattle.swap_list.proofs.SwapList.{held-good}
+use Rattle.exchanges.proofs.Permute.{length-permute, rows-each}
+use Rattle.triangular_passes.specs.declared.Pass.{Pass}
+use Rattle.triangular_passes.specs.declared.Pass.the-variants.{Upper, GivenDiagonal, TransposedUpper, TransposedUnitLower}
+use Rattle.triangular_passes.specs.Triangular.{solvedColumn, solvedFrom, solvedInPlace}
 use Rattle.solve.proofs.Alone.{in-place-columns}
 use Rattle.from_factors.specs.Solving.{solved, trSolved, solvedAll}
 

@@ -11,7 +11,7 @@ use Rattle.numbers.specs.Column.{Column, entry}
 use Rattle.store.specs.Columns.{columns}
 use Rattle.store.specs.Steps.{Matrix, column}
 use Rattle.refusals.specs.Outcome.{Outcome, done, refused, tested, andThen}
-use Rattle.permutation_sequence.specs.Permute.{signOf}
+use Rattle.permutation_sequence.specs.Calls.{signOf}
 use Rattle.factors.specs.declared.Record.{Record}
 use Rattle.factors.specs.declared.Asks.{Asks}
 use Rattle.factors.specs.Held.{heldRefusal}

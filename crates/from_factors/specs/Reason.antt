@@ -5,10 +5,10 @@ use Prim.Native.Nat.{ℕ}
 use Rattle.numbers.specs.Each.{eachFrom}
 use Rattle.numbers.specs.Numbers.{one64}
 use Rattle.store.specs.Steps.{Matrix}
-use Rattle.permutation_sequence.specs.SwapList.{Swaps}
-use Rattle.permutation_sequence.specs.Permute.{permute}
-use Rattle.solve.specs.declared.Pass.the-variants.{Upper, GivenDiagonal}
-use Rattle.solve.specs.Triangular.{solvedColumns}
+use Rattle.swap_list.specs.SwapList.{Swaps}
+use Rattle.exchanges.specs.Permute.{permute}
+use Rattle.triangular_passes.specs.declared.Pass.the-variants.{Upper, GivenDiagonal}
+use Rattle.triangular_passes.specs.Triangular.{solvedColumns}
 use Rattle.solve.specs.Reason.{Stored, firstInPass}
 
 -- the right-hand columns as the unit lower pass takes them, and as it leaves them

@@ -12,10 +12,10 @@ use Rattle.store.specs.Columns.{columns, flat, isMatrix}
 use Rattle.store.specs.Steps.{Matrix}
 use Rattle.refusals.specs.Outcome.{tested, Call, leaving}
 use Rattle.refusals.specs.Refusals.{outside, seventh}
-use Rattle.permutation_sequence.specs.SwapList.{Swaps, pairsOf}
-use Rattle.permutation_sequence.specs.Permute.{permute}
-use Rattle.solve.specs.declared.Pass.the-variants.{Upper, GivenDiagonal, TransposedUpper, TransposedUnitLower}
-use Rattle.solve.specs.Triangular.{solvedColumn}
+use Rattle.swap_list.specs.SwapList.{Swaps, pairsOf}
+use Rattle.exchanges.specs.Permute.{permute}
+use Rattle.triangular_passes.specs.declared.Pass.the-variants.{Upper, GivenDiagonal, TransposedUpper, TransposedUnitLower}
+use Rattle.triangular_passes.specs.Triangular.{solvedColumn}
 use Rattle.factors.specs.declared.Record.{Record}
 use Rattle.factors.specs.declared.Asks.{Asks}
 use Rattle.factors.specs.Held.{heldRefusal}

@@ -6,7 +6,7 @@ ghost use Prim.Native.Nat.{_+_, _*_, _<_, _≤_, min};
 ghost use lib.ListN.{length};
 ghost use Rattle.store.specs.Columns.{columns, flat, isMatrix};
 ghost use Rattle.refusals.specs.Refusals.{answered};
-ghost use Rattle.permutation_sequence.specs.SwapList.{goodList};
+ghost use Rattle.swap_list.specs.SwapList.{goodList};
 ghost use Rattle.from_factors.specs.Triangles.{lowerOf, upperOf, lowerFactor, upperFactor, lowering, uppering};
 ghost use Rattle.from_factors.specs.Solving.{solved, trSolved, wayOf, solvedBy, solvingBy, solving, trSolving, unitColumn, identity, inverting};
 ghost use Rattle.from_factors.specs.Determinant.{diagonalProduct, determined, producing, numberOr7, determining, testedInverse, inverseTest};
@@ -14,7 +14,7 @@ use factors::Asks;
 use factors::Record;
 use factors::held_refusal;
 use refusals::Answer;
-use solve::Pass;
+use triangular_passes::Pass;
 
 // The determinant, or a refusal's number.
 pub enum Det {
@@ -138,7 +138,7 @@ fn solve_mut(factors: &[f64], swaps: &[usize], told: Record, x: &mut [f64], k: u
     ensures { λ _. ⌜ now (x .exit) ≡ solvedBy solved (now (factors .entry)) (now (swaps .entry)) told (columns (told .rows) k (now (x .entry))) ⌝ }
 {
     let n = told.rows;
-    permutation_sequence::apply_to_rows(x, n, k, swaps, told.pairs, false);
+    exchanges::apply_to_rows(x, n, k, swaps, told.pairs, false);
     solve_by_rows::solve_in_place(false, factors, n, x, k);
     solve_by_rows::solve_in_place(true, factors, n, x, k);
 }
@@ -150,9 +150,9 @@ fn tr_solve_mut(factors: &[f64], swaps: &[usize], told: Record, x: &mut [f64], k
     ensures { λ _. ⌜ now (x .exit) ≡ solvedBy trSolved (now (factors .entry)) (now (swaps .entry)) told (columns (told .rows) k (now (x .entry))) ⌝ }
 {
     let n = told.rows;
-    solve::solve_in_place(Pass::TransposedUpper, factors, n, x, k);
-    solve::solve_in_place(Pass::TransposedUnitLower, factors, n, x, k);
-    permutation_sequence::apply_to_rows(x, n, k, swaps, told.pairs, true);
+    triangular_passes::solve_in_place(Pass::TransposedUpper, factors, n, x, k);
+    triangular_passes::solve_in_place(Pass::TransposedUnitLower, factors, n, x, k);
+    exchanges::apply_to_rows(x, n, k, swaps, told.pairs, true);
 }
 
 // The one that is asked for.

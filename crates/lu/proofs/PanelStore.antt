@@ -15,10 +15,10 @@ use Rattle.numbers.proofs.Each.{length-each, each-each, each-same}
 use Rattle.store.specs.Columns.{columns, HasRows, isMatrix, onColumns}
 use Rattle.store.specs.Steps.{Matrix}
 use Rattle.store.proofs.Columns.{sized, is-matrix, length-columns, columns-rows, columns-split, on-columns, each-rows}
-use Rattle.permutation_sequence.specs.SwapList.{Swaps, pairsOf, held}
-use Rattle.permutation_sequence.specs.Permute.{permute, rowsPermuted, inOrder}
-use Rattle.permutation_sequence.proofs.Permute.{rows-each, length-permute}
-use Rattle.permutation_sequence.proofs.SwapList.{held-all}
+use Rattle.swap_list.specs.SwapList.{Swaps, pairsOf, held}
+use Rattle.exchanges.specs.Permute.{permute, rowsPermuted, inOrder}
+use Rattle.exchanges.proofs.Permute.{rows-each, length-permute}
+use Rattle.swap_list.proofs.SwapList.{held-all}
 use Rattle.lu.specs.declared.Counts.{Counts}
 use Rattle.factors.specs.Factors.{Factors, storeOf}
 use Rattle.elimination.specs.Elimination.{step}

@@ -14,7 +14,7 @@ use Rattle.numbers.proofs.Choice.{test-cases}
 use Rattle.numbers.proofs.Each.{each-same}
 use Rattle.store.specs.Columns.{HasRows}
 use Rattle.store.specs.Steps.{Matrix}
-use Rattle.permutation_sequence.specs.Permute.{permute}
+use Rattle.exchanges.specs.Permute.{permute}
 use Rattle.factors.specs.Factors.{Factors}
 use Rattle.elimination.specs.Elimination.{step}
 use Rattle.elimination.specs.Adding.{widen}

@@ -26,7 +26,7 @@ use Rattle.store.proofs.Columns.{length-columns, flat-columns}
 use Rattle.store.proofs.Steps.{length-swapInAll, rows-swapInAll}
 use Rattle.store.proofs.Lasting.{column-finite}
 use Rattle.store.proofs.First.{FirstIn, first-in, first-one}
-use Rattle.permutation_sequence.proofs.Finite.{exchange-finite}
+use Rattle.exchanges.proofs.Finite.{exchange-finite}
 use Rattle.factors.specs.Factors.{Factors}
 use Rattle.elimination.specs.Elimination.{multipliers, scaled, pivotStep, step, unfactored, eliminate}
 use Rattle.elimination.specs.Reason.{Place, finiteIn, placeOf, firstReason}

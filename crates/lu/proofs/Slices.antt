@@ -21,7 +21,7 @@ use Rattle.store.specs.Steps.{Matrix, column, swapInAll, rowsSwapped, eliminate
 use Rattle.store.proofs.Columns.{sized, same-matrix, length-columns, columns-rows, part-column, column-length, entry-at, column-lent, on-columns}
 use Rattle.store.proofs.Columns.{on-none, on-done}
 use Rattle.store.proofs.Steps.{range-all, length-rowsSwapped, rows-rowsSwapped, length-eliminated, rows-eliminated}
-use Rattle.permutation_sequence.specs.SwapList.{withPair}
+use Rattle.swap_list.specs.SwapList.{withPair}
 use Rattle.factors.specs.Factors.{Factors, storeOf}
 use Rattle.elimination.specs.Elimination.{multipliers, scaled, pivotStep, step, unfactored, eliminate}
 use Rattle.lu.specs.PlainStep.{stepOn, plainStep}

@@ -156,7 +156,7 @@ fn factor_panel(
     let now = factor_steps(&mut s[..z], m, e, i, e, swaps, counts);
     let first = 2 * pairs;
     let more = now.pairs - pairs;
-    permutation_sequence::apply_to_rows(&mut s[z..], m, right, &swaps[first..], more, false);
+    exchanges::apply_to_rows(&mut s[z..], m, right, &swaps[first..], more, false);
     updates::update_columns(s, m, n, i, e, e);
     now
 }

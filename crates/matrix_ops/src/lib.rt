@@ -4,9 +4,9 @@ use cases::Case;
 use lines::Line;
 use lines::NO;
 use lines::Parts;
-use permutation_sequence::Appended;
 use ranking::Listed;
 use refusals::Answer;
+use swap_list::Appended;
 
 // The line of a call whose result is x.
 pub fn result_line(answer: Answer) -> Line {
@@ -56,7 +56,7 @@ fn list_line(number: usize, pairs: usize) -> Line {
 // Op 18.
 fn append(case: Case, swaps: &mut [usize]) -> Line {
     let pairs = case.pairs;
-    match permutation_sequence::append_permutation(swaps, pairs, case.m, case.first, case.second) {
+    match swap_list::append_permutation(swaps, pairs, case.m, case.first, case.second) {
         Appended::Pairs(now) => list_line(0, now),
         Appended::Refused { number, pairs } => list_line(number, pairs),
     }

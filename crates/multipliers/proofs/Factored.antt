@@ -32,7 +32,7 @@ use Rattle.lu.proofs.Told.{told-accepted, Promise}
 use Rattle.lu.proofs.Shape.{shape}
 use Rattle.adding.specs.Adding.{adding}
 use Rattle.adding.proofs.Afresh.{accepted-given}
-use Rattle.columns.proofs.Build.{outcomeAt}
+use Rattle.building_up.proofs.Build.{outcomeAt}
 use Rattle.columns.proofs.Reach.{Reached, fresh, added, reached}
 use Rattle.from_factors.proofs.Accepted.{accepted-columns}
 use Rattle.units.specs.Units.{AtMost, oneUnits, mostUnits}

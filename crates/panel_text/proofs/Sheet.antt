@@ -23,11 +23,11 @@ use Rattle.store.proofs.Columns.{is-matrix, same-matrix, length-columns, column
 use Rattle.refusals.specs.Outcome.{Outcome, done, refused, numberOf, firstOf, andThen, Call, leaving}
 use Rattle.refusals.specs.Refusals.{seventh}
 use Rattle.refusals.proofs.Outcomes.{tested-none, tested-cases, tested-map, then-then}
-use Rattle.permutation_sequence.specs.SwapList.{pairsOf}
-use Rattle.permutation_sequence.specs.Permute.{permute}
-use Rattle.permutation_sequence.proofs.Permute.{length-permute}
-use Rattle.solve.specs.declared.Pass.the-variants.{Upper, GivenDiagonal}
-use Rattle.solve.proofs.Lengths.{length-solved}
+use Rattle.swap_list.specs.SwapList.{pairsOf}
+use Rattle.exchanges.specs.Permute.{permute}
+use Rattle.exchanges.proofs.Permute.{length-permute}
+use Rattle.triangular_passes.specs.declared.Pass.the-variants.{Upper, GivenDiagonal}
+use Rattle.triangular_passes.proofs.Lengths.{length-solved}
 use Rattle.factors.specs.declared.Record.{Record}
 use Rattle.factors.specs.Factors.{recordFor, Factoring}
 use Rattle.factors.specs.Held.{heldRefusal}

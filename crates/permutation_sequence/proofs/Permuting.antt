@@ -18,14 +18,14 @@ use Rattle.refusals.specs.declared.Answer.the-variants.{Done, Refused}
 use Rattle.store.specs.Columns.{flat, onColumns}
 use Rattle.store.specs.Steps.{Matrix, swapInAll}
 use Rattle.store.proofs.Columns.{same-matrix}
-use Rattle.permutation_sequence.specs.SwapList.{Swaps, pairsOf, goodList}
-use Rattle.permutation_sequence.specs.Permute.{permutedBy, exchangeOf, inOrder, exchangesOn}
+use Rattle.swap_list.specs.SwapList.{Swaps, pairsOf, goodList}
+use Rattle.exchanges.specs.Permute.{permutedBy, exchangeOf, inOrder, exchangesOn}
 use Rattle.permutation_sequence.specs.Calls.{permutingRefusal, permuting, permutingRows, permutingColumns}
 use Rattle.refusals.proofs.Outcomes.{first-none, tested-none, tested-some, none-given, Promise, promise-refused}
-use Rattle.permutation_sequence.proofs.SwapList.{pairs-same, held-good, good-unread}
-use Rattle.permutation_sequence.proofs.Permute.{permuted-keeps, permuted-back}
-use Rattle.permutation_sequence.proofs.OnColumns.{Shape, exchange-keeps, length-on, on-nothing, on-on}
-use Rattle.permutation_sequence.proofs.Finite.{exchange-finite, finite-on}
+use Rattle.swap_list.proofs.SwapList.{pairs-same, held-good, good-unread}
+use Rattle.exchanges.proofs.Permute.{permuted-keeps, permuted-back}
+use Rattle.exchanges.proofs.OnColumns.{Shape, exchange-keeps, length-on, on-nothing, on-on}
+use Rattle.exchanges.proofs.Finite.{exchange-finite, finite-on}
 
 -- ---- the call, by its refusal
 module _ (exchange : ℕ → ℕ → Matrix → Matrix) (bound : ℕ) (backwards : Bool) (m n pairs : ℕ) (store : List ℕ) (s : Column) where

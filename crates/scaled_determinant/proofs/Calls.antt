@@ -21,7 +21,7 @@ use Rattle.store.specs.Steps.{Matrix}
 use Rattle.refusals.specs.Outcome.{Outcome, done, refused, firstOf, tested, andThen}
 use Rattle.refusals.proofs.Outcomes.{tested-none, tested-some, tested-cases, tested-map}
 use Rattle.refusals.proofs.Cases.{first-among, done-same, never-both, tested-done, tested-refused}
-use Rattle.permutation_sequence.specs.Permute.{signOf}
+use Rattle.permutation_sequence.specs.Calls.{signOf}
 use Rattle.solve.specs.Calls.{zeroOnDiagonal}
 use Rattle.solve.proofs.Corrected.{Doubles}
 use Rattle.factors.specs.declared.Record.{Record}

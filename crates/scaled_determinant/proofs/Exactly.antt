@@ -23,7 +23,7 @@ use Rattle.numbers.proofs.Each.{turns-last}
 use Rattle.numbers.proofs.Lasting.{product-finite}
 use Rattle.numbers.proofs.Smaller.{bare, smaller-bare}
 use Rattle.store.specs.Steps.{Matrix, column}
-use Rattle.permutation_sequence.specs.Permute.{signOf}
+use Rattle.permutation_sequence.specs.Calls.{signOf}
 use Rattle.from_factors.specs.Determinant.{timesDiagonal, diagonalProduct, determinantOf}
 use Rattle.scaled_determinant.specs.declared.Scaled.{Scaled}
 use Rattle.scaled_determinant.specs.Scaled.{scaled, significandOf, exponentOf, scaledTimes}

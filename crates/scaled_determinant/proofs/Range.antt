@@ -24,7 +24,7 @@ use Rattle.numbers.proofs.Each.{turns-last}
 use Rattle.numbers.proofs.One.{mul-one64, mul-minus-one64, one64-mul}
 use Rattle.numbers.proofs.Smaller.{bare, smaller-bare}
 use Rattle.store.specs.Steps.{Matrix, column}
-use Rattle.permutation_sequence.specs.Permute.{signOf}
+use Rattle.permutation_sequence.specs.Calls.{signOf}
 use Rattle.scaled_determinant.specs.declared.Scaled.{Scaled}
 use Rattle.scaled_determinant.specs.Scaled.{scaled, two64, significandOf, exponentOf, halvedAtTwo, scaledTimes}
 use Rattle.scaled_determinant.specs.Determinant.{start, scaledTurn, scaledProduct, signedBy}

@@ -10,7 +10,7 @@ use Rattle.numbers.specs.Column.{Column, entry}
 use Rattle.store.specs.Columns.{columns}
 use Rattle.store.specs.Steps.{Matrix, column}
 use Rattle.refusals.specs.Outcome.{Outcome, done, refused, tested}
-use Rattle.permutation_sequence.specs.Permute.{signOf}
+use Rattle.permutation_sequence.specs.Calls.{signOf}
 use Rattle.solve.specs.Calls.{zeroOnDiagonal}
 use Rattle.factors.specs.declared.Record.{Record}
 use Rattle.factors.specs.Held.{heldRefusal}

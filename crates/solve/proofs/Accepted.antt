@@ -16,8 +16,8 @@ use Rattle.refusals.specs.declared.Answer.{Answer}
 use Rattle.refusals.specs.Outcome.{done, refused, numberOf, tested, leaving}
 use Rattle.refusals.specs.Refusals.{answered, seventh}
 use Rattle.refusals.proofs.Outcomes.{first-none, tested-none, Promise, promise-refused, seventh-answer}
-use Rattle.solve.specs.declared.Pass.{Pass}
-use Rattle.solve.specs.Triangular.{solvedInPlace}
+use Rattle.triangular_passes.specs.declared.Pass.{Pass}
+use Rattle.triangular_passes.specs.Triangular.{solvedInPlace}
 use Rattle.solve.specs.Calls.{lengthsFit, refusalOf, solving}
 
 module _ (pass : Pass) (n k : ℕ) (t b x : Column) where

@@ -14,12 +14,12 @@ use Rattle.store.specs.Columns.{columns, flat, isMatrix}
 use Rattle.store.specs.Steps.{Matrix, column}
 use Rattle.store.proofs.Columns.{length-columns, columns-rows, on-flat, on-columns, sized}
 use Rattle.refusals.specs.Outcome.{numberOf, Call}
-use Rattle.solve.specs.declared.Pass.{Pass}
-use Rattle.solve.specs.Triangular.{solvedColumn, solvedFrom, solvedColumns, solvedInPlace}
+use Rattle.triangular_passes.specs.declared.Pass.{Pass}
+use Rattle.triangular_passes.specs.Triangular.{solvedColumn, solvedFrom, solvedColumns, solvedInPlace}
 use Rattle.solve.specs.Calls.{refusalOf, solving}
 use Rattle.refusals.proofs.Outcomes.{none-given, seventh-number, seventh-stands}
 use Rattle.solve.proofs.Accepted.{fit, accepted}
-use Rattle.solve.proofs.Lengths.{solved-rows}
+use Rattle.triangular_passes.proofs.Lengths.{solved-rows}
 
 -- while the columns from column j on are solved, those before it stay as they were
 pub solved-stay : (pass : Pass) (n : ℕ) (cs : Matrix) (j : ℕ) (bs : Matrix) (i : ℕ) → i < j → column (solvedFrom pass n cs j bs) i ≡ column bs i

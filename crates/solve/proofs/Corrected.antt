@@ -25,10 +25,10 @@ use Rattle.store.specs.Steps.{Matrix, column}
 use Rattle.store.proofs.Columns.{sized, columns-rows}
 use Rattle.refusals.specs.Outcome.{tested, leaving}
 use Rattle.refusals.specs.Refusals.{seventh}
-use Rattle.solve.specs.declared.Pass.the-variants.{GivenDiagonal, CorrectedDiagonal}
-use Rattle.solve.specs.Triangular.{lowerRow, keptRow, solvedRow, turn, solvedColumn, solvedFrom, solvedColumns, solvedInPlace}
+use Rattle.triangular_passes.specs.declared.Pass.the-variants.{GivenDiagonal, CorrectedDiagonal}
+use Rattle.triangular_passes.specs.Triangular.{lowerRow, keptRow, solvedRow, turn, solvedColumn, solvedFrom, solvedColumns, solvedInPlace}
 use Rattle.solve.specs.Calls.{numbersFinite, refusalOf, solving}
-use Rattle.solve.proofs.Lengths.{length-turns}
+use Rattle.triangular_passes.proofs.Lengths.{length-turns}
 
 -- THEOREM. "Refusals as before, in the same order": what the tests refuse is the same.
 pub same-refusal : (d : Float) (n k : ℕ) (t b x : Column) → refusalOf (CorrectedDiagonal d) t n b k x ≡ refusalOf (GivenDiagonal d) t n b k x

@@ -13,8 +13,8 @@ use Rattle.store.specs.Columns.{columns, flat, isMatrix, onColumns}
 use Rattle.dead_columns.specs.Dead.{zeroCount, deadFrom, deadIn, deadOf}
 use Rattle.refusals.specs.Outcome.{done, refused, firstOf, tested}
 use Rattle.refusals.specs.Refusals.{outside, seventh}
-use Rattle.solve.specs.declared.Pass.the-variants.{Lower, GivenDiagonal, CorrectedDiagonal}
-use Rattle.solve.specs.Triangular.{lowerRow, keptRow, solvedRow, turn, solvedColumn, solvedFrom, solvedInPlace}
+use Rattle.triangular_passes.specs.declared.Pass.the-variants.{Lower, GivenDiagonal, CorrectedDiagonal}
+use Rattle.triangular_passes.specs.Triangular.{lowerRow, keptRow, solvedRow, turn, solvedColumn, solvedFrom, solvedInPlace}
 use Rattle.solve.specs.Calls.{sizesOutside, lengthsFit, numbersFinite, zeroOnDiagonal, refusalOf, solving}
 
 -- names for all that has to unfold: for sums, for matrices, for a solved column, and for the call

@@ -17,10 +17,10 @@ use Rattle.numbers.proofs.Lasting.{lasting, difference-finite, quotient-finite}
 use Rattle.finite.proofs.Lasting.{axpy-finite, set-finite}
 use Rattle.numbers.proofs.First.{passed-then}
 use Rattle.store.specs.Steps.{Matrix, column}
-use Rattle.solve.specs.declared.Pass.{Pass}
-use Rattle.solve.specs.declared.Pass.the-variants.{Lower, Upper, GivenDiagonal, TransposedLower, TransposedUpper, CorrectedDiagonal, TransposedUnitLower}
-use Rattle.solve.specs.Triangular.{lowerRow, upperRow, keptRow, lessBelow, transposedLowerRow, transposedUpperRow, transposedUnitLowerRow}
-use Rattle.solve.specs.Triangular.{divisor, rowBy, rowAt, turnsOf, solvedRow, turn, solvedColumn}
+use Rattle.triangular_passes.specs.declared.Pass.{Pass}
+use Rattle.triangular_passes.specs.declared.Pass.the-variants.{Lower, Upper, GivenDiagonal, TransposedLower, TransposedUpper, CorrectedDiagonal, TransposedUnitLower}
+use Rattle.triangular_passes.specs.Triangular.{lowerRow, upperRow, keptRow, lessBelow, transposedLowerRow, transposedUpperRow, transposedUnitLowerRow}
+use Rattle.triangular_passes.specs.Triangular.{divisor, rowBy, rowAt, turnsOf, solvedRow, turn, solvedColumn}
 
 -- ---- one row
 module _ (d : Float) (l : Column) (i : ℕ) (b : Column) where

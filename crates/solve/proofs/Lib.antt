@@ -1,8 +1,4 @@
-pub mod Given
-pub mod Turns
 pub mod Accepted
-pub mod Lengths
-pub mod InPlace
 pub mod Alone
 pub mod Corrected
 pub mod Figures

@@ -27,14 +27,14 @@ use Rattle.numbers.proofs.Lasting.{lasting}
 use Rattle.store.specs.Columns.{flat, HasRows}
 use Rattle.store.specs.Steps.{Matrix, column}
 use Rattle.store.proofs.Lasting.{column-finite, columns-finite}
-use Rattle.solve.specs.declared.Pass.{Pass}
-use Rattle.solve.specs.declared.Pass.the-variants.{Lower, Upper, GivenDiagonal, TransposedLower, TransposedUpper, CorrectedDiagonal, TransposedUnitLower}
+use Rattle.triangular_passes.specs.declared.Pass.{Pass}
+use Rattle.triangular_passes.specs.declared.Pass.the-variants.{Lower, Upper, GivenDiagonal, TransposedLower, TransposedUpper, CorrectedDiagonal, TransposedUnitLower}
 use Rattle.dead_columns.specs.Dead.{zeroCount, deadFrom}
-use Rattle.solve.specs.Triangular.{lowerRow, upperRow, keptRow, transposedLowerRow, transposedUpperRow, transposedUnitLowerRow, divisor, rowBy}
-use Rattle.solve.specs.Triangular.{rowAt, turnsOf, solvedRow, turn, solvedColumn, solvedFrom, solvedColumns}
+use Rattle.triangular_passes.specs.Triangular.{lowerRow, upperRow, keptRow, transposedLowerRow, transposedUpperRow, transposedUnitLowerRow, divisor, rowBy}
+use Rattle.triangular_passes.specs.Triangular.{rowAt, turnsOf, solvedRow, turn, solvedColumn, solvedFrom, solvedColumns}
 use Rattle.solve.specs.Reason.{Stored, stores, firstRow, firstInColumn, firstInPass, lowestZero}
-use Rattle.solve.proofs.Lengths.{length-row, length-turns}
-use Rattle.solve.proofs.Turns.{turns-most, row-below}
+use Rattle.triangular_passes.proofs.Lengths.{length-row, length-turns}
+use Rattle.triangular_passes.proofs.Turns.{turns-most, row-below}
 use Rattle.solve.proofs.Lasting.{turn-finite}
 
 -- ---- a turn leaves the rows that it does not store in

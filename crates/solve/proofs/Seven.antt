@@ -22,12 +22,12 @@ use Rattle.store.proofs.Lasting.{column-finite}
 use Rattle.store.proofs.First.{each-spoilt}
 use Rattle.refusals.specs.Outcome.{refused, Call}
 use Rattle.refusals.proofs.Outcomes.{first-none, seventh-refused}
-use Rattle.solve.specs.declared.Pass.{Pass}
-use Rattle.solve.specs.Triangular.{rowAt, turnsOf, turn, solvedRow, solvedColumn, solvedFrom, solvedInPlace}
+use Rattle.triangular_passes.specs.declared.Pass.{Pass}
+use Rattle.triangular_passes.specs.Triangular.{rowAt, turnsOf, turn, solvedRow, solvedColumn, solvedFrom, solvedInPlace}
 use Rattle.solve.specs.Calls.{givenFinite, numbersFinite, refusalOf, solving}
 use Rattle.solve.specs.Reason.{stores}
 use Rattle.solve.proofs.Accepted.{fit, accepted}
-use Rattle.solve.proofs.Lengths.{length-row, length-turns}
+use Rattle.triangular_passes.proofs.Lengths.{length-row, length-turns}
 use Rattle.solve.proofs.Alone.{in-place-flat}
 use Rattle.solve.proofs.Lasting.{turns-finite}
 use Rattle.solve.proofs.Reason.{after, column-cases}

@@ -11,8 +11,8 @@ use Rattle.store.specs.Columns.{isMatrix}
 use Rattle.dead_columns.specs.Dead.{deadOf}
 use Rattle.refusals.specs.Outcome.{firstOf, tested, Call, leaving}
 use Rattle.refusals.specs.Refusals.{outside, seventh}
-use Rattle.solve.specs.declared.Pass.{Pass}
-use Rattle.solve.specs.Triangular.{given, solvedInPlace}
+use Rattle.triangular_passes.specs.declared.Pass.{Pass}
+use Rattle.triangular_passes.specs.Triangular.{given, solvedInPlace}
 
 -- ---- the tests
 

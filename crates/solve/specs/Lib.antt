@@ -1,3 +1,2 @@
-pub mod Triangular
 pub mod Calls
 pub mod Reason

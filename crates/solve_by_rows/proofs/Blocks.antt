@@ -23,8 +23,8 @@ use Rattle.blas.proofs.Rows.{length-axpy, entry-axpy-at, copied-whole}
 use Rattle.store.specs.Columns.{columns}
 use Rattle.store.specs.Steps.{Matrix, column, stepColumn}
 use Rattle.store.proofs.Columns.{column-within, length-columns, columns-rows, entry-at}
-use Rattle.solve.specs.Triangular.{upperRow, solvedRow, turn}
-use Rattle.solve.proofs.Lengths.{length-turns}
+use Rattle.triangular_passes.specs.Triangular.{upperRow, solvedRow, turn}
+use Rattle.triangular_passes.proofs.Lengths.{length-turns}
 use Rattle.solve_by_rows.specs.Rows.{rowOf, withTurn, rowSum, finished, rowDone, rowSums, blockOf, columnTurn, solvedWithin}
 use Rattle.solve_by_rows.proofs.Rows.{row-below, row-apart, row-row, sum-next, turns-snoc, turns-last}
 use Rattle.solve_by_rows.proofs.Same.{Turns, up-turns, down-turns}

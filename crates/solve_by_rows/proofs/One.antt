@@ -12,8 +12,8 @@ use Rattle.numbers.specs.Each.{eachFrom, turnsFrom}
 use Rattle.numbers.specs.Column.{Column}
 use Rattle.store.specs.Columns.{columns, flat, isMatrix}
 use Rattle.store.proofs.Columns.{sized, is-matrix}
-use Rattle.solve.specs.declared.Pass.{Pass}
-use Rattle.solve.specs.Triangular.{solvedColumn, solvedFrom, solvedInPlace}
+use Rattle.triangular_passes.specs.declared.Pass.{Pass}
+use Rattle.triangular_passes.specs.Triangular.{solvedColumn, solvedFrom, solvedInPlace}
 use Rattle.solve.proofs.Alone.{in-place-flat}
 use Rattle.solve.proofs.Corrected.{Doubles}
 use Rattle.solve_by_rows.specs.Rows.{passOf, bothPasses, rowDone}

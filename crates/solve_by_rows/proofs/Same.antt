@@ -21,9 +21,9 @@ use Rattle.numbers.proofs.One.{div-one64}
 use Rattle.blas.proofs.Rows.{length-axpy, entry-axpy-at, entry-axpy-before}
 use Rattle.store.specs.Steps.{Matrix, column, stepColumn}
 use Rattle.store.proofs.Steps.{length-stepColumn}
-use Rattle.solve.specs.declared.Pass.the-variants.{Upper, GivenDiagonal}
-use Rattle.solve.specs.Triangular.{upperRow, keptRow, solvedRow, turn, solvedColumn}
-use Rattle.solve.proofs.Lengths.{length-turns, length-row}
+use Rattle.triangular_passes.specs.declared.Pass.the-variants.{Upper, GivenDiagonal}
+use Rattle.triangular_passes.specs.Triangular.{upperRow, keptRow, solvedRow, turn, solvedColumn}
+use Rattle.triangular_passes.proofs.Lengths.{length-turns, length-row}
 use Rattle.solve.proofs.Corrected.{Doubles, kept, kept-doubles, last-turn, same-column}
 use Rattle.solve_by_rows.specs.Rows.{passOf, rowOf, withTurn, rowSum, finished, rowDone}
 use Rattle.solve_by_rows.proofs.Rows.{row-below, row-apart, row-row, sum-same, turns-last}

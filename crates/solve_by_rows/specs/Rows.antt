@@ -9,9 +9,9 @@ use Rattle.numbers.specs.Numbers.{one64, plusProduct}
 use Rattle.numbers.specs.Column.{Column, entry}
 use Rattle.store.specs.Columns.{columns}
 use Rattle.store.specs.Steps.{Matrix, column, stepColumn}
-use Rattle.solve.specs.declared.Pass.{Pass}
-use Rattle.solve.specs.declared.Pass.the-variants.{Upper, CorrectedDiagonal}
-use Rattle.solve.specs.Triangular.{turn, solvedInPlace}
+use Rattle.triangular_passes.specs.declared.Pass.{Pass}
+use Rattle.triangular_passes.specs.declared.Pass.the-variants.{Upper, CorrectedDiagonal}
+use Rattle.triangular_passes.specs.Triangular.{turn, solvedInPlace}
 
 -- the solve that is meant: upward by the upper triangle, or downward by the lower one, corrected, with ones for its diagonal (document 02, request 4)
 abbrev pub passOf : Bool → Pass

@@ -6,7 +6,7 @@ ghost use Prim.Native.Nat.{_+_, _-_, _%_, _≤_, _<_};
 ghost use lib.ListN.{length};
 ghost use Rattle.numbers.specs.Each.{turnsFrom};
 ghost use Rattle.store.specs.Columns.{columns, isMatrix};
-ghost use Rattle.solve.specs.Triangular.{solvedColumn, solvedInPlace};
+ghost use Rattle.triangular_passes.specs.Triangular.{solvedColumn, solvedInPlace};
 ghost use Rattle.solve_by_rows.specs.Rows.{passOf, rowOf, rowSums, solvedWithin, rowDone, allRows, rowsFrom, bothPasses};
 
 // The row of turn k: upward from the last, or downward from the first.

@@ -16,8 +16,8 @@ use Rattle.finite.specs.Finite.{allFinite}
 use Rattle.finite.proofs.Finite.{finite-entry}
 use Rattle.store.specs.Columns.{columns, isMatrix}
 use Rattle.store.specs.Steps.{Matrix}
-use Rattle.solve.specs.declared.Pass.{Pass}
-use Rattle.solve.specs.Triangular.{rowAt, turnsOf, turn, turnedBy, solvedColumn}
+use Rattle.triangular_passes.specs.declared.Pass.{Pass}
+use Rattle.triangular_passes.specs.Triangular.{rowAt, turnsOf, turn, turnedBy, solvedColumn}
 use Rattle.solve.specs.Reason.{Stored, firstRow, firstInColumn}
 use Rattle.why.specs.Inner.{storedAt}
 use Rattle.why.proofs.Results.{failing-all, failing-some}

@@ -19,8 +19,8 @@ use Rattle.numbers.proofs.Walk.{drop-next}
 use Rattle.store.specs.Columns.{columns}
 use Rattle.store.specs.Steps.{Matrix, column}
 use Rattle.store.proofs.Columns.{length-columns}
-use Rattle.solve.specs.declared.Pass.{Pass}
-use Rattle.solve.specs.Triangular.{turnsOf, turn, solvedColumn, solvedFrom}
+use Rattle.triangular_passes.specs.declared.Pass.{Pass}
+use Rattle.triangular_passes.specs.Triangular.{turnsOf, turn, solvedColumn, solvedFrom}
 use Rattle.solve.specs.Reason.{Stored, firstInColumn, firstInPass}
 use Rattle.why.specs.Inner.{passOf, storedAt, Turned}
 

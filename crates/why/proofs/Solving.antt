@@ -15,12 +15,12 @@ use Rattle.numbers.proofs.Each.{length-each, each-at}
 use Rattle.store.specs.Columns.{flat, HasRows}
 use Rattle.store.specs.Steps.{Matrix, column}
 use Rattle.store.proofs.Lasting.{column-finite}
-use Rattle.permutation_sequence.specs.SwapList.{Swaps}
-use Rattle.solve.specs.declared.Pass.{Pass}
-use Rattle.solve.specs.declared.Pass.the-variants.{Lower, Upper, GivenDiagonal, TransposedLower, TransposedUpper, CorrectedDiagonal, TransposedUnitLower}
-use Rattle.solve.specs.Triangular.{solvedColumn, solvedFrom, solvedColumns}
+use Rattle.swap_list.specs.SwapList.{Swaps}
+use Rattle.triangular_passes.specs.declared.Pass.{Pass}
+use Rattle.triangular_passes.specs.declared.Pass.the-variants.{Lower, Upper, GivenDiagonal, TransposedLower, TransposedUpper, CorrectedDiagonal, TransposedUnitLower}
+use Rattle.triangular_passes.specs.Triangular.{solvedColumn, solvedFrom, solvedColumns}
 use Rattle.solve.specs.Reason.{Stored, firstInPass}
-use Rattle.solve.proofs.Lengths.{solved-rows}
+use Rattle.triangular_passes.proofs.Lengths.{solved-rows}
 use Rattle.solve.proofs.Reason.{FirstInPass}
 use Rattle.from_factors.specs.Reason.{swappedSides, lowerSides, solveReason}
 use Rattle.from_factors.proofs.Reason.{passes-are, lower-finite, start-rows, start-finite, solve-cases}

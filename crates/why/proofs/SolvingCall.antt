@@ -27,10 +27,10 @@ use Rattle.refusals.specs.Outcome.{Outcome, done, refused, numberOf, firstOf, t
 use Rattle.refusals.specs.Refusals.{seventh}
 use Rattle.refusals.proofs.Outcomes.{tested-none, tested-some}
 use Rattle.refusals.proofs.Cases.{first-among}
-use Rattle.permutation_sequence.specs.SwapList.{Swaps, pairsOf, goodList}
+use Rattle.swap_list.specs.SwapList.{Swaps, pairsOf, goodList}
 use Rattle.solve.specs.Calls.{zeroOnDiagonal}
-use Rattle.solve.specs.declared.Pass.the-variants.{GivenDiagonal}
-use Rattle.solve.specs.Triangular.{solvedColumns, solvedFrom}
+use Rattle.triangular_passes.specs.declared.Pass.the-variants.{GivenDiagonal}
+use Rattle.triangular_passes.specs.Triangular.{solvedColumns, solvedFrom}
 use Rattle.solve.specs.Reason.{Stored, lowestZero}
 use Rattle.solve.proofs.Reason.{zero-cases}
 use Rattle.factors.specs.declared.Record.{Record}

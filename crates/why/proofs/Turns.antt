@@ -25,13 +25,13 @@ use Rattle.finite.proofs.Finite.{finite-entry}
 use Rattle.store.specs.Columns.{flat, HasRows}
 use Rattle.store.specs.Steps.{Matrix, column}
 use Rattle.store.proofs.Lasting.{column-finite}
-use Rattle.permutation_sequence.specs.SwapList.{Swaps}
-use Rattle.solve.specs.declared.Pass.{Pass}
-use Rattle.solve.specs.declared.Pass.the-variants.{Upper, GivenDiagonal}
-use Rattle.solve.specs.Triangular.{rowAt, turnsOf, solvedRow, turn, solvedColumn}
-use Rattle.solve.proofs.Lengths.{length-row, length-turns}
+use Rattle.swap_list.specs.SwapList.{Swaps}
+use Rattle.triangular_passes.specs.declared.Pass.{Pass}
+use Rattle.triangular_passes.specs.declared.Pass.the-variants.{Upper, GivenDiagonal}
+use Rattle.triangular_passes.specs.Triangular.{rowAt, turnsOf, solvedRow, turn, solvedColumn}
+use Rattle.triangular_passes.proofs.Lengths.{length-row, length-turns}
 use Rattle.solve.specs.Reason.{Stored, stores}
-use Rattle.solve.proofs.Turns.{turns-most, turn-row}
+use Rattle.triangular_passes.proofs.Turns.{turns-most, turn-row}
 use Rattle.solve.proofs.Lasting.{turn-finite}
 use Rattle.solve.proofs.Reason.{FirstStored, FirstInPass}
 use Rattle.why.specs.Results.{Result, firstOverflow}

@@ -6,9 +6,9 @@ use Prim.Native.Nat.{ℕ, _≤_, _<_}
 use Rattle.numbers.specs.Numbers.{one64}
 use Rattle.numbers.specs.Column.{Column}
 use Rattle.store.specs.Steps.{Matrix}
-use Rattle.solve.specs.declared.Pass.{Pass}
-use Rattle.solve.specs.declared.Pass.the-variants.{Upper, GivenDiagonal}
-use Rattle.solve.specs.Triangular.{solvedColumn, solvedColumns}
+use Rattle.triangular_passes.specs.declared.Pass.{Pass}
+use Rattle.triangular_passes.specs.declared.Pass.the-variants.{Upper, GivenDiagonal}
+use Rattle.triangular_passes.specs.Triangular.{solvedColumn, solvedColumns}
 use Rattle.solve.specs.Reason.{Stored, firstInColumn, firstInPass}
 use Rattle.why.specs.declared.Found.{Found}
 

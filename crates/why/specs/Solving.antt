@@ -6,10 +6,10 @@ use lib.ListN.{take, drop}
 use Rattle.numbers.specs.Numbers.{one64}
 use Rattle.numbers.specs.Column.{Column, entry}
 use Rattle.store.specs.Steps.{Matrix}
-use Rattle.permutation_sequence.specs.SwapList.{Swaps}
-use Rattle.solve.specs.declared.Pass.{Pass}
-use Rattle.solve.specs.declared.Pass.the-variants.{Upper, GivenDiagonal}
-use Rattle.solve.specs.Triangular.{turnsOf, turn}
+use Rattle.swap_list.specs.SwapList.{Swaps}
+use Rattle.triangular_passes.specs.declared.Pass.{Pass}
+use Rattle.triangular_passes.specs.declared.Pass.the-variants.{Upper, GivenDiagonal}
+use Rattle.triangular_passes.specs.Triangular.{turnsOf, turn}
 use Rattle.from_factors.specs.Reason.{swappedSides, lowerSides}
 use Rattle.why.specs.Results.{Result, rowsFrom, inTurn}
 

@@ -8,7 +8,7 @@ use Rattle.numbers.specs.Column.{Column}
 use Rattle.store.specs.Columns.{columns}
 use Rattle.store.specs.Steps.{Matrix}
 use Rattle.refusals.specs.Outcome.{tested}
-use Rattle.permutation_sequence.specs.SwapList.{pairsOf}
+use Rattle.swap_list.specs.SwapList.{pairsOf}
 use Rattle.solve.specs.Reason.{lowestZero}
 use Rattle.factors.specs.declared.Record.{Record}
 use Rattle.factors.specs.Held.{heldRefusal}

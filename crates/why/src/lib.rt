@@ -9,9 +9,9 @@ ghost use Rattle.numbers.specs.First.{firstFailing};
 ghost use Rattle.numbers.specs.Column.{entry};
 ghost use Rattle.finite.specs.Finite.{allFinite};
 ghost use Rattle.store.specs.Columns.{columns, isMatrix};
-ghost use Rattle.solve.specs.Triangular.{rowAt, turnsOf};
+ghost use Rattle.triangular_passes.specs.Triangular.{rowAt, turnsOf};
 ghost use Rattle.solve.specs.Reason.{lowestZero};
-ghost use Rattle.permutation_sequence.specs.SwapList.{goodList};
+ghost use Rattle.swap_list.specs.SwapList.{goodList};
 ghost use Rattle.lu.specs.Factoring.{factoring};
 ghost use Rattle.from_factors.specs.Solving.{solving};
 ghost use Rattle.why.specs.Results.{firstOverflow};
@@ -20,7 +20,7 @@ ghost use Rattle.why.specs.Inner.{passOf, Turned, Passed, columnOr};
 ghost use Rattle.why.specs.Why.{overflowed, toldFactor, explainFactoring, toldSolve, resultsOf, explainSolving};
 use factors::Record;
 use lu::Factored;
-use solve::Pass;
+use triangular_passes::Pass;
 
 // Why a factoring is refused: the number of a refusal before the work, or where the first result stands that is not finite.
 pub enum WhyFactor {
@@ -147,7 +147,7 @@ fn overflow_in_column(upper: bool, t: &[f64], n: usize, b: &mut [f64]) -> usize
     let turns = turns_of(upper, n);
     let mut k = 0;
     while k < turns {
-        solve::solve_turn(pass_of(upper), t, n, b, k);
+        triangular_passes::solve_turn(pass_of(upper), t, n, b, k);
         let row = stored_row(b, row_of(upper, n, k));
         if row < n {
             return row;
@@ -195,7 +195,7 @@ fn overflow_in_solve(
         (resultsOf (now (factors .entry)) (now (swaps .entry)) told (columns (told .rows) k (now (x .entry))))) ⌝ }
 {
     let n = told.rows;
-    permutation_sequence::apply_to_rows(x, n, k, swaps, told.pairs, false);
+    exchanges::apply_to_rows(x, n, k, swaps, told.pairs, false);
     let low = overflow_in_pass(false, factors, n, x, k);
     if low.column < k {
         return WhySolve::Overflow {

@@ -4,7 +4,7 @@ use native.Mathlib.Omega.{arith}
 use borrow.Author.Needs.{needs}
 use borrow.Author.Tests.{eq-eqb, ne-eqb, lt-ltb, le-ltb}
 use lib.ListN.{length-set}
-use Rattle.permutation_sequence.specs.SwapList.{withPair}
+use Rattle.swap_list.specs.SwapList.{withPair}
 use Rattle.factors.specs.Factors.{takesPair, pairsWith, storeWith}
 use Rattle.factors.proofs.record_swap.Statement.{statement}
 use Rattle.factors.proofs.record_swap.Tie as tie

@@ -2,7 +2,7 @@
 use mathlib.Core.Path.{sym, ap, _∙_}
 use borrow.Author.Needs.{needs}
 use Rattle.refusals.specs.Outcome.{numberOf}
-use Rattle.permutation_sequence.specs.Calls.{appended, countOf}
+use Rattle.swap_list.specs.Appending.{appended, countOf}
 use Rattle.ffi_passes.proofs.wejdarox_append_permutation.Statement.{statement}
 use Rattle.ffi_passes.proofs.wejdarox_append_permutation.Tie as tie
 

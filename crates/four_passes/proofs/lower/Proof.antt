@@ -3,7 +3,7 @@ use borrow.Author.Needs.{needs}
 use mathlib.Core.Path.{ap, _∙_}
 use Rattle.numbers.specs.Each.{turnsFrom}
 use Rattle.numbers.specs.Numbers.{one64}
-use Rattle.solve.specs.Triangular.{keptRow, solvedRow, turn, solvedColumn}
+use Rattle.triangular_passes.specs.Triangular.{keptRow, solvedRow, turn, solvedColumn}
 use Rattle.four_by_four.specs.System.{listed}
 use Rattle.four_passes.proofs.lower.Statement.{statement}
 use Rattle.four_passes.proofs.lower.Tie as tie

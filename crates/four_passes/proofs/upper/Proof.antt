@@ -2,7 +2,7 @@
 use mathlib.Core.Path.{refl}
 use Rattle.numbers.specs.Each.{eachFrom, turnsFrom}
 use Rattle.blas.specs.Blas.{axpyFrom}
-use Rattle.solve.specs.Triangular.{upperRow, solvedRow, turn, solvedColumn}
+use Rattle.triangular_passes.specs.Triangular.{upperRow, solvedRow, turn, solvedColumn}
 use Rattle.four_passes.proofs.upper.Statement.{statement}
 use Rattle.four_passes.proofs.upper.Tie as tie
 

@@ -1,7 +1,7 @@
 -- By the rest on division by 2. Assumes nothing.
 use Prim.Native.Nat.{_%_}
 use borrow.Author.Tests.{eq-eqb, ne-eqb}
-use Rattle.permutation_sequence.specs.Permute.{signOf}
+use Rattle.permutation_sequence.specs.Calls.{signOf}
 use Rattle.permutation_sequence.proofs.determinant.Statement.{statement}
 use Rattle.permutation_sequence.proofs.determinant.Tie as tie
 

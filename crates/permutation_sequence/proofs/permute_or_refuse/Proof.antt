@@ -1,7 +1,7 @@
 -- By the refusal. Assumes nothing.
 use mathlib.Core.Path.{sym, _∙_}
 use borrow.Author.Needs.{needs}
-use Rattle.permutation_sequence.specs.Permute.{exchangeOf}
+use Rattle.exchanges.specs.Permute.{exchangeOf}
 use Rattle.permutation_sequence.proofs.Permuting.{permuting-refused, permuting-done}
 use Rattle.permutation_sequence.proofs.permute_or_refuse.Statement.{statement}
 use Rattle.permutation_sequence.proofs.permute_or_refuse.Tie as tie

@@ -1,6 +1,6 @@
 -- The given diagonal's test where there is one. Assumes nothing.
 use borrow.Author.Needs.{needs}
-use Rattle.solve.proofs.Given.{own-stands}
+use Rattle.triangular_passes.proofs.Given.{own-stands}
 use Rattle.solve.proofs.given_finite.Statement.{statement}
 use Rattle.solve.proofs.given_finite.Tie as tie
 

@@ -1,7 +1,7 @@
 -- The given diagonal where there is one, else the matrix's own. Assumes nothing.
 use mathlib.Core.Path.{_∙_}
 use borrow.Author.Needs.{needs}
-use Rattle.solve.proofs.Given.{own-stands}
+use Rattle.triangular_passes.proofs.Given.{own-stands}
 use Rattle.solve.proofs.zero_divisor.Statement.{statement}
 use Rattle.solve.proofs.zero_divisor.Tie as tie
 

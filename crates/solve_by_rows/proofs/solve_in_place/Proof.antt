@@ -7,7 +7,7 @@ use borrow.Author.Needs.{needs}
 use borrow.Author.Tests.{not-true, not-false}
 use lib.ListN.{length}
 use Rattle.store.specs.Columns.{isMatrix}
-use Rattle.solve.proofs.InPlace.{Left, left-all, left-within, left-rows, left-turn, left-none, no-matrix, no-sides}
+use Rattle.triangular_passes.proofs.InPlace.{Left, left-all, left-within, left-rows, left-turn, left-none, no-matrix, no-sides}
 use Rattle.solve_by_rows.specs.Rows.{passOf}
 use Rattle.solve_by_rows.proofs.solve_in_place.Statement.{statement}
 use Rattle.solve_by_rows.proofs.solve_in_place.Tie as tie

@@ -9,7 +9,7 @@ use lib.Dec.{eqb, ltb}
 use lib.ListN.{length}
 use Rattle.numbers.specs.Column.{Column}
 use Rattle.numbers.proofs.Choice.{and-first, and-second}
-use Rattle.solve.specs.Triangular.{solvedInPlace}
+use Rattle.triangular_passes.specs.Triangular.{solvedInPlace}
 use Rattle.solve_by_rows.specs.Rows.{passOf}
 use Rattle.solve_by_rows.proofs.solve_one.Statement.{statement}
 use Rattle.solve_by_rows.proofs.solve_one.Tie as tie

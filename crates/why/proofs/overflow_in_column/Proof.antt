@@ -9,10 +9,10 @@ use lib.Ieee.Scale.{finite}
 use Rattle.numbers.specs.First.{firstFailing}
 use Rattle.numbers.specs.Column.{entry}
 use Rattle.store.specs.Columns.{columns}
-use Rattle.solve.specs.declared.Pass.{Pass}
-use Rattle.solve.specs.Triangular.{rowAt, turnsOf, turn, turnedBy}
+use Rattle.triangular_passes.specs.declared.Pass.{Pass}
+use Rattle.triangular_passes.specs.Triangular.{rowAt, turnsOf, turn, turnedBy}
 use Rattle.solve.specs.Reason.{firstRow}
-use Rattle.solve.proofs.Turns.{turns-most, turn-row}
+use Rattle.triangular_passes.proofs.Turns.{turns-most, turn-row}
 use Rattle.why.specs.Inner.{passOf}
 use Rattle.why.proofs.Column.{row-fine, row-spoilt, Turning, turning-begin, turning-on, turning-found, turning-end, turn-taken}
 use Rattle.why.proofs.overflow_in_column.Statement.{statement}

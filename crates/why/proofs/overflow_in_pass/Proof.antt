@@ -8,7 +8,7 @@ use lib.ListN.{length}
 use Rattle.store.specs.Columns.{columns}
 use Rattle.store.proofs.Columns.{sized, length-columns, column-within, column-length, part-column, column-lent}
 use Rattle.store.specs.Steps.{column}
-use Rattle.solve.specs.Triangular.{solvedColumn}
+use Rattle.triangular_passes.specs.Triangular.{solvedColumn}
 use Rattle.solve.specs.Reason.{firstInColumn}
 use Rattle.why.specs.Inner.{passOf}
 use Rattle.why.proofs.Pass.{Passing, passing-begin, passing-on, passing-found, passing-end, same-column}

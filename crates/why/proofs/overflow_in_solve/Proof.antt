@@ -9,10 +9,10 @@ use Rattle.numbers.specs.Column.{Column}
 use Rattle.finite.specs.Finite.{allFinite}
 use Rattle.store.specs.Columns.{columns, flat, HasRows, isMatrix}
 use Rattle.store.proofs.Columns.{sized, same-matrix, flat-columns, columns-rows}
-use Rattle.permutation_sequence.specs.SwapList.{pairsOf}
-use Rattle.permutation_sequence.specs.Permute.{inOrder}
-use Rattle.solve.specs.declared.Pass.the-variants.{Upper, GivenDiagonal}
-use Rattle.solve.specs.Triangular.{solvedColumns}
+use Rattle.swap_list.specs.SwapList.{pairsOf}
+use Rattle.exchanges.specs.Permute.{inOrder}
+use Rattle.triangular_passes.specs.declared.Pass.the-variants.{Upper, GivenDiagonal}
+use Rattle.triangular_passes.specs.Triangular.{solvedColumns}
 use Rattle.solve.specs.Reason.{firstInPass}
 use Rattle.from_factors.specs.Reason.{swappedSides, lowerSides}
 use Rattle.from_factors.proofs.Solved.{Each, by-swaps}

@@ -1,0 +1,3 @@
+pub mod Permute
+pub mod OnColumns
+pub mod Finite

@@ -1,0 +1,3 @@
+pub mod Removes
+pub mod Undone
+pub mod Unread

@@ -1,0 +1,2 @@
+pub mod SwapList
+pub mod Appending

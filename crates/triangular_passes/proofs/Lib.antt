@@ -1,0 +1,4 @@
+pub mod Given
+pub mod Turns
+pub mod Lengths
+pub mod InPlace

@@ -1,0 +1,19 @@
+-- The difference, divided, is stored. Assumes nothing.
+use borrow.Author.Needs.{needs}
+use Rattle.triangular_passes.specs.Triangular.{transposedLowerRow}
+use Rattle.triangular_passes.proofs.transposed_lower_row.Statement.{statement}
+use Rattle.triangular_passes.proofs.transposed_lower_row.Tie as tie
+
+returns : tie.Need-returns
+unfolding transposedLowerRow
+returns c = rw (c .less-below .ensures)
+
+pub transposed-lower-row-spec : {M : Type 1} → statement M
+transposed-lower-row-spec =
+    tie.close
+    (tie.spec
+    (λ c κs. search needs)
+    (λ c. search needs)
+    (λ c. search needs)
+    (λ c. search needs)
+    returns)
