@@ -1,4 +1,4 @@
--- What the calls of the layers below ensure, in the words of a crossing's outcomes: factoring in place, the solve, the ranking. By the cases of their outcomes.
+-- What the calls of the layers below ensure, in the words of a crossing's outcomes: factoring in place, and the solve. By the cases of their outcomes.
 -- Assumes nothing.
 use mathlib.Core.Path.{_≡_, refl, sym, ap, _∙_}
 use mathlib.Core.Bool.{Bool, true, false}
@@ -29,8 +29,6 @@ use Rattle.lu.specs.Factoring.{settled, factoring, factored, withTossUps, facto
 use Rattle.lu.proofs.Told.{passes, worked}
 use Rattle.from_factors.specs.Solving.{Way, solved, trSolved, solveAsks, solvedBy, solvingBy, solving, trSolving}
 use Rattle.refusals.proofs.Cases.{done-same, refused-same, never-both}
-use Rattle.ranking.specs.Ranking.{everyPad, ranked, padsTo, ranking}
-use Rattle.ranking.proofs.Calls.{not-refused, listing-all, ranking-all}
 use Rattle.crossing.specs.declared.Held.{Held}
 use Rattle.crossing.specs.declared.Held.the-variants.{Factors, Refused as NotHeld}
 use Rattle.crossing.specs.Below.{Packed, factorsOf, tossUpsOf, systemOf, solutionBy}
@@ -205,18 +203,3 @@ module _ (t : Bool) (p : Packed) (b : Column) where
       solution-cases b (zeros (p .told .rows)) (λ o f. o ≡ refused k → k ≤ 9) (λ y _ e. never-both y k e)
       (λ j _ h e. let s : j ≡ k = refused-same j k e in omega (arith, h .1)) (λ m e. let s : 7 ≡ k = refused-same 7 k e in omega arith)
       t p (length-replicate (p .told .rows) zero64)
-
--- ---- the ranking of finite loads, all pads listed
-
--- what the call leaves of the ranks
-abbrev pub ranksBy : ℕ → Column → List ℕ → List ℕ
-ranksBy n x was = ranking everyPad x n was .left
-
-pub ranks-made : (n : ℕ) (x : Column) (was : List ℕ) → 1 ≤ n → n ≤ 64 → length x ≡ n → length was ≡ n → allFinite x ≡ true
-    → ranksBy n x was ≡ ranked x (padsTo n)
-ranks-made n x was lo hi lx lr finite =
-    ap (λ (o : Call ℕ (List ℕ)). o .left)
-    (ranking-all n x was
-    (not-refused n x was
-    (record { size = record { at-least = lo; at-most = hi }; loads-length = lx; ranks-length = lr; finite = finite })))
-    ∙ listing-all n x

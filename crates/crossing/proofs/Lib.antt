@@ -1,5 +1,4 @@
 pub mod Below
 pub mod Factors
-pub mod Ordering
-pub mod Moving
+pub mod Loads
 pub mod Answered

@@ -1,6 +1,6 @@
--- A panel file's matrix, factored: the one meaning that the order of its pads, their moves and the crossing's stiffness go by. Document 01, "Ranking and
--- program": "8, then 1, then 3, then 5 for matrix and readings, all four by the reader; then factoring's 7".
-use mathlib.Core.Bool.{cond}
+-- A panel file's matrix, factored: the one meaning that the order of its pads, their moves and the crossing's stiffness go by; and the loads by it. Document
+-- 01, "Ranking and program": "8, then 1, then 3, then 5 for matrix and readings, all four by the reader; then factoring's 7".
+use mathlib.Core.Bool.{false, cond}
 use mathlib.Core.List.{List, _++_}
 use Prim.Native.Nat.{ℕ, _*_}
 use lib.Dec.{eqb}
@@ -13,7 +13,7 @@ use Rattle.panel_file.specs.File.{padsOf, matrixOf, readingsOf}
 use Rattle.panel_file.specs.Reading.{fileRefusal}
 use Rattle.crossing.specs.declared.Held.{Held}
 use Rattle.crossing.specs.declared.Held.the-variants.{Factors, Refused}
-use Rattle.crossing.specs.Below.{Packed, factorsOf, tossUpsOf, scaledBy}
+use Rattle.crossing.specs.Below.{Packed, factorsOf, tossUpsOf, solutionBy, scaledBy}
 
 -- refused by the file's tests, else by factoring
 unfoldable pub factorsIn : List ℕ → Outcome Packed
@@ -26,6 +26,10 @@ tossUpsIn bytes = tossUpsOf (matrixOf (padsOf bytes) bytes) (padsOf bytes)
 unfoldable pub tossesGiven : Outcome Packed → ℕ → ℕ
 tossesGiven (done f) tossed = tossed
 tossesGiven (refused number) tossed = 0
+
+-- the loads of a file's pads for its readings
+unfoldable pub loadsOf : List ℕ → Outcome Column
+loadsOf bytes = andThen (factorsIn bytes) (λ f. solutionBy false f (readingsOf (padsOf bytes) bytes))
 
 -- "our quick check of a crossing's stiffness": the scaled determinant of the file's matrix
 unfoldable pub stiffness : List ℕ → Outcome Scaled

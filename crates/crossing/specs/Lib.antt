@@ -1,4 +1,2 @@
 pub mod Below
 pub mod Factors
-pub mod Ordering
-pub mod Moving

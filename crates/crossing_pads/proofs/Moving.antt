@@ -23,14 +23,14 @@ use Rattle.panel_file.specs.File.{padsOf}
 use Rattle.panel_file.specs.Reading.{fileTests, fileRefusal}
 use Rattle.refusals.proofs.Cases.{first-among, first-behind, tested-done, tested-refused, then-done, then-refused}
 use Rattle.panel_file.proofs.Reading.{file-numbered}
-use Rattle.crossing.specs.declared.Order.{Order}
-use Rattle.crossing.specs.declared.Order.the-variants.{Refused}
+use Rattle.crossing_pads.specs.declared.Order.{Order}
+use Rattle.crossing_pads.specs.declared.Order.the-variants.{Refused}
 use Rattle.crossing.specs.Below.{Packed, packedIn, solutionBy}
 use Rattle.crossing.specs.Factors.{factorsIn, tossUpsIn, fronted}
-use Rattle.crossing.specs.Ordering.{padsOrdered}
-use Rattle.crossing.specs.Moving.{noPad, movesRefusal, movesOf, moving}
+use Rattle.crossing_pads.specs.Ordering.{padsOrdered}
+use Rattle.crossing_pads.specs.Moving.{noPad, movesRefusal, movesOf, moving}
 use Rattle.crossing.proofs.Below.{solution-finite, solution-few}
 use Rattle.crossing.proofs.Factors.{factors-few, factors-size}
 
 -- ---- the pad's number and its unit column
 

@@ -1,26 +1,41 @@
--- The whole answer as the code puts it together: the factors, then the loads and their ranks; and what is known of the loads. By the case of the outcome.
+-- The whole answer as the code puts it together: the factors, then the loads and their ranks. By the case of the outcome.
 -- Assumes nothing.
 use mathlib.Core.Path.{_≡_, sym, ap, _∙_}
 use mathlib.Core.Bool.{true, false}
 use mathlib.Core.List.{List, _++_}
-use Prim.Native.Nat.{ℕ, _+_, _≤_}
+use Prim.Native.Nat.{ℕ, _≤_}
 use native.Mathlib.Omega.{arith}
-use lib.ListN.{length, take, drop, length-append, length-drop}
-use lib.Seq.{length-take-le, take-at}
+use lib.ListN.{length, take, drop}
+use lib.Seq.{length-take-le}
 use Rattle.numbers.specs.Column.{Column}
 use Rattle.finite.specs.Finite.{allFinite}
-use Rattle.refusals.specs.Outcome.{Outcome, done, refused, andThen}
-use Rattle.ranking.specs.Ranking.{ranked, padsTo}
+use Rattle.refusals.specs.Outcome.{Outcome, done, refused, andThen, Call}
+use Rattle.ranking.specs.Ranking.{everyPad, ranked, padsTo, ranking}
+use Rattle.ranking.proofs.Calls.{not-refused, listing-all, ranking-all}
 use Rattle.factors.specs.declared.Record.{Record}
 use Rattle.panel_file.specs.File.{padsOf, readingsOf}
 use Rattle.refusals.proofs.Cases.{done-same, never-both, then-done, then-refused}
-use Rattle.crossing.specs.declared.Order.{Order}
-use Rattle.crossing.specs.declared.Order.the-variants.{Pads, Refused}
 use Rattle.crossing.specs.Below.{Packed, packedIn, solutionBy, solutionIn}
-use Rattle.crossing.specs.Factors.{factorsIn, tossUpsIn, settledIn, fronted}
-use Rattle.crossing.specs.Ordering.{loadsOf, ranksLeft, ordering, padsOrdered}
-use Rattle.crossing.proofs.Below.{solution-finite, solution-few, ranksBy, ranks-made}
-use Rattle.crossing.proofs.Factors.{factors-few, factors-size}
+use Rattle.crossing.specs.Factors.{factorsIn, tossUpsIn, loadsOf, fronted}
+use Rattle.crossing.proofs.Loads.{front-done}
+use Rattle.crossing_pads.specs.declared.Order.{Order}
+use Rattle.crossing_pads.specs.declared.Order.the-variants.{Pads, Refused}
+use Rattle.crossing_pads.specs.Ordering.{ranksLeft, ordering, padsOrdered}
+
+-- ---- the ranking of finite loads, all pads listed
+
+-- what the call leaves of the ranks
+abbrev pub ranksBy : ℕ → Column → List ℕ → List ℕ
+ranksBy n x was = ranking everyPad x n was .left
+
+pub ranks-made : (n : ℕ) (x : Column) (was : List ℕ) → 1 ≤ n → n ≤ 64 → length x ≡ n → length was ≡ n → allFinite x ≡ true
+    → ranksBy n x was ≡ ranked x (padsTo n)
+ranks-made n x was lo hi lx lr finite =
+    ap (λ (o : Call ℕ (List ℕ)). o .left)
+    (ranking-all n x was
+    (not-refused n x was
+    (record { size = record { at-least = lo; at-most = hi }; loads-length = lx; ranks-length = lr; finite = finite })))
+    ∙ listing-all n x
 
 -- ---- solving, then ranking: o is what the solve came to, of n pads
 
@@ -33,14 +48,6 @@ module _ (n tossed : ℕ) (o : Outcome Column) where
     pub size : length x ≡ k
     pub front : take k now ≡ x
 
-  pub front-done : (x was now : Column) → o ≡ done x → now ≡ fronted n o was → n ≤ length was → length now ≡ length was → (length x ≡ n) × (take n now ≡ x)
-  unfolding settledIn
-  front-done x was now e f h l =
-      let is : now ≡ x ++ drop n was = f ∙ ap (λ (p : Outcome Column). fronted n p was) e in
-      let lengths : length now ≡ length x + length (drop n was) = ap length is ∙ length-append x (drop n was) in
-      let size : length x ≡ n = omega (arith, length-drop n was) in
-      (size, ap (take n) is ∙ take-at x (drop n was) n size)
-
   module _ (made : Order) (e : padsOrdered made ≡ andThen o (λ _. done (n, tossed))) where
     pub solved : (k t : ℕ) (was now : Column) → made ≡ Pads k t → now ≡ fronted n o was → n ≤ length was → length now ≡ length was → Solved k now
     unfolding padsOrdered
@@ -48,7 +55,7 @@ module _ (n tossed : ℕ) (o : Outcome Column) where
         then-done o (λ _. done (n, tossed)) (k, t) (sym e ∙ ap padsOrdered is)
         (λ x d j.
         let same : k ≡ n = ap (λ (y : ℕ × ℕ). y .0) (sym (done-same (n, tossed) (k, t) j)) in
-        let q = front-done x was now d f h l in
+        let q = front-done n o x was now d f h l in
         record { x = x; pads = same; is = d; size = q .0 ∙ sym same; front = rw same (q .1) })
 
     pub not-solved : (k : ℕ) → made ≡ Refused k → o ≡ refused k
@@ -77,19 +84,6 @@ ranks-kept n o k ranks e = ap (λ (p : Outcome Column). ranksLeft n p ranks) (sy
 module _ (bytes : List ℕ) where
   abbrev n : ℕ
   n = padsOf bytes
-
-  -- what the loads are known by
-  pub loads-known : (x : Column) → loadsOf bytes ≡ done x → (1 ≤ n) × (n ≤ 64) × (allFinite x ≡ true)
-  unfolding loadsOf
-  loads-known x e =
-      then-done (factorsIn bytes) (λ f. solutionBy false f (readingsOf n bytes)) x e
-      (λ p d f. let size = factors-size bytes p d in (size .0, size .1, solution-finite false p (readingsOf n bytes) x f))
-
-  pub loads-few : (k : ℕ) → loadsOf bytes ≡ refused k → k ≤ 9
-  unfolding loadsOf
-  loads-few k e =
-      then-refused (factorsIn bytes) (λ f. solutionBy false f (readingsOf n bytes)) k e (factors-few bytes k)
-      (λ p d f. solution-few false p (readingsOf n bytes) k f)
 
   module _ (ranks : List ℕ) (loads : Column) where
     pub ordering-held : (told : Record) (M R : Column) (S : List ℕ) → factorsIn bytes ≡ done (packedIn M S told) → told .rows ≡ n

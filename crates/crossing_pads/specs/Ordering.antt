@@ -1,21 +1,15 @@
 -- The whole answer for a panel file, on every input. Document 01, "Ranking and program": "then factoring's 7, then the solve's 6, then its 7"; else the pads
 -- in rank order and their loads.
-use mathlib.Core.Bool.{false}
 use mathlib.Core.List.{List, _++_}
 use Prim.Native.Nat.{ℕ}
 use lib.ListN.{drop}
 use Rattle.numbers.specs.Column.{Column}
 use Rattle.refusals.specs.Outcome.{Outcome, done, refused, andThen, Call}
 use Rattle.ranking.specs.Ranking.{ranked, padsTo}
-use Rattle.panel_file.specs.File.{padsOf, readingsOf}
-use Rattle.crossing.specs.declared.Order.{Order}
-use Rattle.crossing.specs.declared.Order.the-variants.{Pads, Refused}
-use Rattle.crossing.specs.Below.{solutionBy}
-use Rattle.crossing.specs.Factors.{factorsIn, tossUpsIn, fronted}
-
--- the loads of a file's pads for its readings
-unfoldable pub loadsOf : List ℕ → Outcome Column
-loadsOf bytes = andThen (factorsIn bytes) (λ f. solutionBy false f (readingsOf (padsOf bytes) bytes))
+use Rattle.panel_file.specs.File.{padsOf}
+use Rattle.crossing.specs.Factors.{tossUpsIn, loadsOf, fronted}
+use Rattle.crossing_pads.specs.declared.Order.{Order}
+use Rattle.crossing_pads.specs.declared.Order.the-variants.{Pads, Refused}
 
 -- the n pads in the order of their loads; refused, all as it was. What lies past them stays.
 unfoldable pub ranksLeft : ℕ → Outcome Column → List ℕ → List ℕ

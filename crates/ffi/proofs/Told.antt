@@ -32,9 +32,9 @@ use Rattle.scaled_determinant.proofs.Range.{ranged-few}
 use Rattle.scaled_determinant.proofs.Steps.{kept, is-kept}
 use Rattle.ranking.specs.declared.Listed.{Listed}
 use Rattle.ranking.specs.Ranking.{padsListed}
-use Rattle.crossing.specs.declared.Order.{Order}
-use Rattle.crossing.specs.declared.Order.the-variants.{Pads, Refused as NoPads}
-use Rattle.crossing.specs.Ordering.{padsOrdered}
+use Rattle.crossing_pads.specs.declared.Order.{Order}
+use Rattle.crossing_pads.specs.declared.Order.the-variants.{Pads, Refused as NoPads}
+use Rattle.crossing_pads.specs.Ordering.{padsOrdered}
 use Rattle.ffi.specs.Exports.{valueAfter, resultAfter, padsIn, countIn}
 
 -- ---- factoring, whose outcome with its toss-ups is o

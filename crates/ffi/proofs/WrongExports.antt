@@ -31,8 +31,8 @@ use Rattle.scaled_determinant.specs.Scaled.{scaled}
 use Rattle.scaled_determinant.specs.Determinant.{vanished, scaling}
 use Rattle.panel_file.specs.File.{littleEndian, fieldAt, headed, padsOf}
 use Rattle.panel_file.specs.Reading.{fileTests, fileRefusal}
-use Rattle.crossing.specs.Factors.{factorsIn, tossUpsIn, tossesGiven, stiffness, settledIn}
-use Rattle.crossing.specs.Ordering.{loadsOf, ranksLeft, Ranks, ordering}
+use Rattle.crossing.specs.Factors.{factorsIn, tossUpsIn, tossesGiven, stiffness, settledIn, loadsOf}
+use Rattle.crossing_pads.specs.Ordering.{ranksLeft, Ranks, ordering}
 use Rattle.season.specs.Telling.{telling}
 use Rattle.season.specs.Season.{oneMoreAt, counted, handing, countsOf, seasonFrom}
 use Rattle.ffi.specs.Exports.{valueAfter, resultAfter, padsIn, countIn}

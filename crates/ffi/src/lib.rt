@@ -14,11 +14,11 @@ ghost use Rattle.from_factors.specs.Determinant.{determining, inverseTest};
 ghost use Rattle.scaled_determinant.specs.Scaled.{scaled};
 ghost use Rattle.scaled_determinant.specs.Determinant.{vanished, scaling};
 ghost use Rattle.crossing.specs.Factors.{factorsIn, tossUpsIn, tossesGiven, stiffness};
-ghost use Rattle.crossing.specs.Ordering.{ordering};
+ghost use Rattle.crossing_pads.specs.Ordering.{ordering};
 ghost use Rattle.season.specs.Season.{handing, countsOf, seasonFrom};
 ghost use Rattle.ffi.specs.Exports.{valueAfter, resultAfter, padsIn, countIn};
 use adding::Added;
-use crossing::Order;
+use crossing_pads::Order;
 use factors::Record;
 use from_factors::Det;
 use from_factors::Invertible;
@@ -330,7 +330,7 @@ pub extern "C" fn wejdarox_pad_order(
     ensures { λ _. ⌜ now (pads .exit) ≡ padsIn (ordering (now (file .entry)) (now (ranks .entry)) (now (loads .entry)) .answer) ⌝ }
     ensures { λ _. ⌜ now («toss_ups» .exit) ≡ tossedIn (ordering (now (file .entry)) (now (ranks .entry)) (now (loads .entry)) .answer) ⌝ }
 {
-    match crossing::pad_order(file, ranks, loads) {
+    match crossing_pads::pad_order(file, ranks, loads) {
         Order::Pads {
             pads: n,
             toss_ups: tossed,

@@ -13,7 +13,7 @@ use Rattle.lu.specs.Factoring.{tossedIn}
 use Rattle.panel_file.specs.File.{littleEndian, fieldAt, headed, padsOf, fileLength}
 use Rattle.panel_file.specs.Reading.{fileTests, Stores, stores, readingRefusal, reading}
 use Rattle.panel_file_writer.specs.Writing.{writingRefusal}
-use Rattle.crossing.specs.Moving.{movesRefusal, movesOf, moving}
+use Rattle.crossing_pads.specs.Moving.{movesRefusal, movesOf, moving}
 use Rattle.ffi.specs.Exports.{padsIn, countIn}
 use Rattle.ffi_files.specs.Files.{writingAnswer}
 

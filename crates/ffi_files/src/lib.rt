@@ -6,13 +6,13 @@ ghost use Rattle.refusals.specs.Outcome.{numberOf};
 ghost use Rattle.lu.specs.Factoring.{tossedIn};
 ghost use Rattle.panel_file.specs.Reading.{stores, reading};
 ghost use Rattle.panel_file_writer.specs.Writing.{Writing};
-ghost use Rattle.crossing.specs.Moving.{moving};
+ghost use Rattle.crossing_pads.specs.Moving.{moving};
 ghost use Rattle.panel_text.specs.Text.{written};
 ghost use Rattle.panel_text.specs.Printed.{textOf, movesTextOf, stiffnessTextOf};
 ghost use Rattle.panel_text.specs.Why.{whyTextOf};
 ghost use Rattle.ffi.specs.Exports.{padsIn, countIn};
 ghost use Rattle.ffi_files.specs.Files.{writingAnswer, leftWith, versionNumber};
-use crossing::Order;
+use crossing_pads::Order;
 use panel_file::Panel;
 use panel_file_writer::Written;
 
@@ -81,7 +81,7 @@ pub extern "C" fn wejdarox_moves(
     ensures { λ _. ⌜ now (pads .exit) ≡ padsIn (moving (now (file .entry)) pad (now (moves .entry)) .answer) ⌝ }
     ensures { λ _. ⌜ now («toss_ups» .exit) ≡ tossedIn (moving (now (file .entry)) pad (now (moves .entry)) .answer) ⌝ }
 {
-    match crossing::moves(file, pad, moves) {
+    match crossing_pads::moves(file, pad, moves) {
         Order::Pads {
             pads: n,
             toss_ups: tossed,

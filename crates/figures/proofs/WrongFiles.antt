@@ -32,11 +32,11 @@ use Rattle.scaled_determinant.specs.declared.Scaled.{Scaled}
 use Rattle.scaled_determinant.specs.Scaled.{scaled}
 use Rattle.scaled_determinant.proofs.Figures.{computes as scales}
 use Rattle.crossing.specs.Below.{factorsOf, solutionBy, scaledBy}
-use Rattle.crossing.specs.Factors.{factorsIn, stiffness, settledIn, swapsLeft, Stores as Held, stores as held, holding}
+use Rattle.crossing.specs.Factors.{factorsIn, stiffness, settledIn, swapsLeft, Stores as Held, stores as held, holding, loadsOf}
 use Rattle.factors.specs.declared.Record.{Record}
 use Rattle.factors.specs.Factors.{recordOf}
-use Rattle.crossing.specs.Ordering.{loadsOf, ranksLeft, Ranks, ordering}
-use Rattle.crossing.specs.Moving.{movesRefusal, movesOf, moving}
+use Rattle.crossing_pads.specs.Ordering.{ranksLeft, Ranks, ordering}
+use Rattle.crossing_pads.specs.Moving.{movesRefusal, movesOf, moving}
 use Rattle.panel_text.specs.Text.{written as writtenOver, decimal, lineOf, linesOf, padsText, refusedText, digitsIn, signed, scaledText}
 use Rattle.panel_text.specs.Printed.{orderText, textOf, changeText, movesTextOf, checkText, stiffnessTextOf}
 use Rattle.panel_text.specs.Why.{placeText, spotText, passWord, columnLine, stageLine, reasonText, whyTextOf}

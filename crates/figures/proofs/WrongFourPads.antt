@@ -18,8 +18,7 @@ use Rattle.panel_file.specs.Reading.{fileTests, fileRefusal}
 use Rattle.from_factors.proofs.Figures.{computes, n0, n1, n2, n4, n5, n8, small}
 use Rattle.from_factors.specs.Solving.{solved}
 use Rattle.crossing.specs.Below.{factorsOf, solutionBy}
-use Rattle.crossing.specs.Factors.{factorsIn}
-use Rattle.crossing.specs.Ordering.{loadsOf}
+use Rattle.crossing.specs.Factors.{factorsIn, loadsOf}
 use Rattle.four_pads.specs.declared.FourPads.{FourPads}
 use Rattle.four_pads.specs.Profile.{generalPath, refusedWith, profileOf, fourOf, fourPads}
 use Rattle.four_pads_file.specs.FileProfile.{generalPathIn, fourPadsIn}

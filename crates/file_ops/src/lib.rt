@@ -3,7 +3,7 @@ ghost use Prim.Native.Nat.{_≤_};
 ghost use lib.ListN.{length};
 use cases::Case;
 use cases::bytes_within;
-use crossing::Order;
+use crossing_pads::Order;
 use lines::put;
 use lines::put_bar;
 use lines::put_bytes;
@@ -60,7 +60,7 @@ fn explained(text: &mut [u8], from: usize, file: &[u8]) -> usize {
 // Op 26.
 fn moves(text: &mut [u8], from: usize, pad: usize, file: &[u8]) -> usize {
     let mut numbers = [0.0f64; 64];
-    match crossing::moves(file, pad, &mut numbers) {
+    match crossing_pads::moves(file, pad, &mut numbers) {
         Order::Pads {
             pads: n,
             toss_ups: _,

@@ -12,8 +12,7 @@ use Rattle.refusals.specs.Outcome.{Outcome, done, refused, numberOf, firstOf, t
 use Rattle.panel_file.specs.File.{headed, padsOf, readingsOf}
 use Rattle.panel_file.specs.Reading.{fileTests, fileRefusal}
 use Rattle.crossing.specs.Below.{Packed, solutionBy}
-use Rattle.crossing.specs.Factors.{factorsIn}
-use Rattle.crossing.specs.Ordering.{loadsOf}
+use Rattle.crossing.specs.Factors.{factorsIn, loadsOf}
 use Rattle.four_pads.specs.declared.FourPads.{FourPads}
 use Rattle.four_pads.specs.Profile.{Solution, refusedWith, profileOf}
 use Rattle.four_pads_file.specs.FileProfile.{withLoads, generalPathIn, fourPadsIn}

@@ -1,5 +1,5 @@
--- All steps of a square matrix by one call give its elimination: on the matrix as it was handed over, nothing being counted yet. The call was made for k columns,
--- and the matrix has n, which is k: so the law is one over the size, whatever sizes are written out. Assumes nothing.
+-- All steps of a square matrix by one call give its elimination: on the matrix as it was handed over, nothing being counted yet. The call was made for k
+-- columns, and the matrix has n, which is k: so the law is one over the size, whatever sizes are written out. Assumes nothing.
 use mathlib.Core.Path.{_≡_, sym, ap, subst, _∙_}
 use mathlib.Core.Bool.{true}
 use mathlib.Core.List.{List, []}
@@ -43,5 +43,7 @@ module _ (n : ℕ) (s : Column) (store : List ℕ) (fits : isMatrix s n n ≡ tr
 -- and it may be made
 pub may-step : (n k : ℕ) (s : Column) (store : List ℕ) → n ≡ k → isMatrix s n n ≡ true → store ≡ storeOf []
     → ((0 ≤ k) × (k ≤ k) × (k ≤ k) × (0 ≤ 0) × (0 ≤ 0)) × ((isMatrix s k k ≡ true) × (length store ≡ 128))
-may-step n k s store e fits empty =
-    ((omega arith, omega arith, omega arith, omega arith, omega arith), (sym (ap (λ q. isMatrix s q q) e) ∙ fits, ap length empty ∙ length-store [] (omega arith)))
+may-step n k s store e fits empty = (
+  (omega arith, omega arith, omega arith, omega arith, omega arith),
+  (sym (ap (λ q. isMatrix s q q) e) ∙ fits, ap length empty ∙ length-store [] (omega arith)),
+)

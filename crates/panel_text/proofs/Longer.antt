@@ -11,9 +11,8 @@ use Rattle.refusals.proofs.Cases.{first-behind}
 use Rattle.panel_file.specs.Reading.{fileTests, fileRefusal}
 use Rattle.panel_file.proofs.Reading.{file-numbered}
 use Rattle.panel_file.proofs.Longer.{any-longer}
-use Rattle.crossing.specs.Factors.{factorsIn, stiffness}
-use Rattle.crossing.specs.Ordering.{loadsOf}
-use Rattle.crossing.specs.Moving.{movesRefusal, movesOf}
+use Rattle.crossing.specs.Factors.{factorsIn, stiffness, loadsOf}
+use Rattle.crossing_pads.specs.Moving.{movesRefusal, movesOf}
 use Rattle.panel_text.specs.Text.{refusedText}
 use Rattle.panel_text.specs.Printed.{orderText, textOf, changeText, movesTextOf, checkText, stiffnessTextOf}
 use Rattle.panel_text.specs.Why.{reasonText, whyTextOf}

@@ -17,19 +17,20 @@ use Rattle.ranking.proofs.Inserting.{every-in-front, length-ranked, ranked-ever
 use Rattle.ranking.proofs.Listing.{length-pads, pads-every}
 use Rattle.panel_file.specs.File.{padsOf}
 use Rattle.refusals.proofs.Cases.{then-done}
-use Rattle.crossing.specs.declared.Order.{Order}
-use Rattle.crossing.specs.declared.Order.the-variants.{Pads, Refused}
+use Rattle.crossing_pads.specs.declared.Order.{Order}
+use Rattle.crossing_pads.specs.declared.Order.the-variants.{Pads, Refused}
 use Rattle.scaled_determinant.specs.declared.Scaled.{Scaled}
 use Rattle.scaled_determinant.specs.declared.ScaledDet.{ScaledDet}
 use Rattle.scaled_determinant.specs.declared.ScaledDet.the-variants.{Number, Refused as NoNumber}
 use Rattle.scaled_determinant.specs.Determinant.{scaledAnswer}
-use Rattle.crossing.specs.Factors.{tossUpsIn, stiffness}
-use Rattle.crossing.specs.Ordering.{loadsOf, ranksLeft, Ranks, ordering, padsOrdered}
-use Rattle.crossing.specs.Moving.{movesOf, moving}
+use Rattle.crossing.specs.Factors.{tossUpsIn, stiffness, loadsOf}
+use Rattle.crossing_pads.specs.Ordering.{ranksLeft, Ranks, ordering, padsOrdered}
+use Rattle.crossing_pads.specs.Moving.{movesOf, moving}
 use Rattle.crossing.proofs.Factors.{factors-few}
 use Rattle.crossing.proofs.Answered.{stiffness-refusals}
-use Rattle.crossing.proofs.Ordering.{solved, not-solved, loads-known, loads-few}
-use Rattle.crossing.proofs.Moving.{moves-known, moves-few}
+use Rattle.crossing.proofs.Loads.{loads-known, loads-few}
+use Rattle.crossing_pads.proofs.Ordering.{solved, not-solved}
+use Rattle.crossing_pads.proofs.Moving.{moves-known, moves-few}
 use Rattle.panel_text.specs.Text.{written, padsText, movesText, scaledText, refusedText}
 use Rattle.panel_text.specs.Printed.{orderText, textOf, changeText, movesTextOf, checkText, stiffnessTextOf}
 

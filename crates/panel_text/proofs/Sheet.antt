@@ -45,12 +45,11 @@ use Rattle.panel_file.specs.Reading.{fileTests, fileRefusal}
 use Rattle.refusals.proofs.Cases.{first-behind, done-same, never-both, tested-done, then-done}
 use Rattle.panel_file.proofs.Reading.{file-numbered}
 use Rattle.crossing.specs.Below.{Packed, packed, factorsOf, systemOf, solutionBy}
-use Rattle.crossing.specs.Factors.{factorsIn}
-use Rattle.crossing.specs.Ordering.{loadsOf}
-use Rattle.crossing.specs.Moving.{noPad, movesRefusal, movesOf}
+use Rattle.crossing.specs.Factors.{factorsIn, loadsOf}
+use Rattle.crossing_pads.specs.Moving.{noPad, movesRefusal, movesOf}
 use Rattle.crossing.proofs.Below.{Good, factored-rows}
 use Rattle.crossing.proofs.Factors.{file-good}
-use Rattle.crossing.proofs.Ordering.{loads-known}
+use Rattle.crossing.proofs.Loads.{loads-known}
 use Rattle.panel_text.specs.Text.{padsText, refusedText}
 use Rattle.panel_text.specs.Printed.{orderText, textOf, changeText, movesTextOf}
 

@@ -6,9 +6,8 @@ use Rattle.refusals.specs.Outcome.{Outcome, done, refused}
 use Rattle.ranking.specs.Ranking.{ranked, padsTo}
 use Rattle.panel_file.specs.File.{padsOf}
 use Rattle.scaled_determinant.specs.declared.Scaled.{Scaled}
-use Rattle.crossing.specs.Factors.{stiffness}
-use Rattle.crossing.specs.Ordering.{loadsOf}
-use Rattle.crossing.specs.Moving.{movesOf}
+use Rattle.crossing.specs.Factors.{stiffness, loadsOf}
+use Rattle.crossing_pads.specs.Moving.{movesOf}
 use Rattle.panel_text.specs.Text.{padsText, movesText, scaledText, refusedText}
 
 -- the n pads in rank order with their loads, or the refusal

@@ -17,7 +17,7 @@ ghost use Rattle.panel_text.specs.Printed.{textOf, movesTextOf, stiffnes
 ghost use Rattle.panel_text.specs.Why.{placeText, spotText, passWord, reasonText, whyTextOf};
 ghost use Rattle.why.specs.Why.{toldNumber};
 ghost use Rattle.why_file.specs.Explaining.{toldFile};
-use crossing::Order;
+use crossing_pads::Order;
 use scaled_determinant::Scaled;
 use scaled_determinant::ScaledDet;
 use why_file::WhyFile;
@@ -138,7 +138,7 @@ pub fn text(file: &[u8], out: &mut [u8; 1288]) -> usize
 {
     let mut ranks = [0usize; 64];
     let mut loads = [0.0f64; 64];
-    match crossing::pad_order(file, &mut ranks, &mut loads) {
+    match crossing_pads::pad_order(file, &mut ranks, &mut loads) {
         Order::Pads {
             pads: n,
             toss_ups: _,
@@ -169,7 +169,7 @@ pub fn moves_text(file: &[u8], pad: usize, out: &mut [u8; 1288]) -> usize
     ensures { λ _. ⌜ now (out .exit) ≡ written 0 (movesTextOf (now (file .entry)) pad) (now (out .entry)) ⌝ }
 {
     let mut moves = [0.0f64; 64];
-    match crossing::moves(file, pad, &mut moves) {
+    match crossing_pads::moves(file, pad, &mut moves) {
         Order::Pads {
             pads: n,
             toss_ups: _,

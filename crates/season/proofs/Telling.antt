@@ -42,8 +42,7 @@ use Rattle.bands.specs.Bands.{leastOnDiagonal, biased, bandOf, bandOn}
 use Rattle.bands.proofs.Banded.{banded}
 use Rattle.bands.proofs.Least.{diagonalAt, Least, least-is, finite-magnitude}
 use Rattle.crossing.specs.Below.{Packed, packed, packedIn, factorsOf, solutionBy, solutionIn}
-use Rattle.crossing.specs.Factors.{factorsIn}
-use Rattle.crossing.specs.Ordering.{loadsOf}
+use Rattle.crossing.specs.Factors.{factorsIn, loadsOf}
 use Rattle.crossing.proofs.Below.{factored-rows, factored-seven, solved-answer, solution-few}
 use Rattle.crossing.proofs.Factors.{file-good, factors-few, factors-size}
 use Rattle.season.specs.declared.Told.{Told}

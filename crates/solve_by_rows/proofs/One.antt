@@ -1,5 +1,5 @@
--- One right-hand column as one block: a block of all rows has all turns, and these give the pass. The block was solved for k rows, and the matrix has n, which is k:
--- so the law is one over the size, whatever sizes are written out. Assumes nothing.
+-- One right-hand column as one block: a block of all rows has all turns, and these give the pass. The block was solved for k rows, and the matrix has n,
+-- which is k: so the law is one over the size, whatever sizes are written out. Assumes nothing.
 use mathlib.Core.Path.{_≡_, sym, ap, _∙_}
 use mathlib.Core.Bool.{Bool, true, false}
 use mathlib.Core.List.{append-nil}

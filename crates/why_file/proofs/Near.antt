@@ -24,11 +24,10 @@ use Rattle.lu.proofs.Shape.{settled-number}
 use Rattle.panel_file.specs.File.{padsOf, matrixOf, readingsOf}
 use Rattle.panel_file.specs.Reading.{fileRefusal}
 use Rattle.crossing.specs.Below.{Packed, factorsOf, solutionBy}
-use Rattle.crossing.specs.Factors.{factorsIn}
-use Rattle.crossing.specs.Ordering.{loadsOf}
+use Rattle.crossing.specs.Factors.{factorsIn, loadsOf}
 use Rattle.crossing.proofs.Below.{Good, factored-rows}
 use Rattle.crossing.proofs.Factors.{file-good, factors-size}
-use Rattle.crossing.proofs.Ordering.{loads-few}
+use Rattle.crossing.proofs.Loads.{loads-few}
 use Rattle.why.specs.Results.{firstOverflow}
 use Rattle.why.specs.Factoring.{factoringResults}
 use Rattle.why.specs.Solving.{Spot}

@@ -2,9 +2,9 @@
 use Prim.Native.Nat.{_-_}
 use native.Mathlib.Omega.{arith}
 use borrow.Author.Needs.{needs}
-use Rattle.crossing.proofs.Moving.{unit-front}
-use Rattle.crossing.proofs.move_pad.Statement.{statement}
-use Rattle.crossing.proofs.move_pad.Tie as tie
+use Rattle.crossing_pads.proofs.Moving.{unit-front}
+use Rattle.crossing_pads.proofs.move_pad.Statement.{statement}
+use Rattle.crossing_pads.proofs.move_pad.Tie as tie
 
 returns : tie.Need-returns
 returns c =

@@ -4,11 +4,11 @@ use mathlib.Core.Path.{_≡_}
 use native.Mathlib.Omega.{arith}
 use borrow.Author.Needs.{needs}
 use Rattle.panel_file.specs.File.{padsOf}
-use Rattle.crossing.specs.Moving.{noPad}
+use Rattle.crossing_pads.specs.Moving.{noPad}
 use Rattle.crossing.proofs.Factors.{filed-ready, filed-tossed, filed-refused, factors-seven}
-use Rattle.crossing.proofs.Moving.{pad-inside, moving-held, moving-refused, nowhere-early, moving-nowhere}
-use Rattle.crossing.proofs.moves.Statement.{statement}
-use Rattle.crossing.proofs.moves.Tie as tie
+use Rattle.crossing_pads.proofs.Moving.{pad-inside, moving-held, moving-refused, nowhere-early, moving-nowhere}
+use Rattle.crossing_pads.proofs.moves.Statement.{statement}
+use Rattle.crossing_pads.proofs.moves.Tie as tie
 
 nowhere : (c : tie.Then1) → let g = c .before .before .before .args in noPad (padsOf (g .file .now)) (g .pad) ≡ true
 nowhere c = rw (← c .before .pads-of .ensures .0) (c .if1 .taken)

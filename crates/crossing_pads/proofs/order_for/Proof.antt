@@ -2,9 +2,9 @@
 use mathlib.Core.Path.{sym}
 use Rattle.refusals.specs.Outcome.{refused}
 use Rattle.refusals.proofs.Outcomes.{tested-none, tested-some}
-use Rattle.crossing.specs.Ordering.{padsOrdered}
-use Rattle.crossing.proofs.order_for.Statement.{statement}
-use Rattle.crossing.proofs.order_for.Tie as tie
+use Rattle.crossing_pads.specs.Ordering.{padsOrdered}
+use Rattle.crossing_pads.proofs.order_for.Statement.{statement}
+use Rattle.crossing_pads.proofs.order_for.Tie as tie
 
 returns : tie.Need-returns
 unfolding padsOrdered

@@ -2,11 +2,11 @@
 use mathlib.Core.Path.{_≡_}
 use native.Mathlib.Omega.{arith}
 use borrow.Author.Needs.{needs}
 use Rattle.crossing.specs.Factors.{tossUpsIn}
 use Rattle.crossing.proofs.Factors.{Ready, filed-ready, filed-tossed, filed-refused, factors-seven}
-use Rattle.crossing.proofs.Ordering.{ordering-held, ordering-refused}
-use Rattle.crossing.proofs.pad_order.Statement.{statement}
-use Rattle.crossing.proofs.pad_order.Tie as tie
+use Rattle.crossing_pads.proofs.Ordering.{ordering-held, ordering-refused}
+use Rattle.crossing_pads.proofs.pad_order.Statement.{statement}
+use Rattle.crossing_pads.proofs.pad_order.Tie as tie
 
 -- the factors stand in their store
 ready : (c : tie.After-told) → let at-factor = c .before .before in let left = at-factor .factor-file .last .1 in

@@ -4,13 +4,13 @@ use mathlib.Core.Path.{sym, ap, _∙_}
 use native.Mathlib.Omega.{arith}
 use borrow.Author.Needs.{needs}
 use lib.ListN.{length, take}
 use Rattle.crossing.specs.Below.{packedIn, solutionIn}
-use Rattle.crossing.specs.Ordering.{padsOrdered}
+use Rattle.crossing_pads.specs.Ordering.{padsOrdered}
 use Rattle.crossing.proofs.Below.{solution-finite}
 use Rattle.crossing.proofs.Factors.{taken-count}
-use Rattle.crossing.proofs.Ordering.{Solved, solved, not-solved, ranked-left, ranks-kept}
-use Rattle.crossing.proofs.rank_loads.Statement.{statement}
-use Rattle.crossing.proofs.rank_loads.Tie as tie
+use Rattle.crossing_pads.proofs.Ordering.{Solved, solved, not-solved, ranked-left, ranks-kept}
+use Rattle.crossing_pads.proofs.rank_loads.Statement.{statement}
+use Rattle.crossing_pads.proofs.rank_loads.Tie as tie
 
 -- the place before the call that solves
 abbrev asked : tie.After-solve-front → tie.Start

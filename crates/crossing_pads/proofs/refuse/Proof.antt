@@ -6,10 +6,10 @@ use borrow.Author.Needs.{needs}
 use borrow.Author.Tests.{eq-eqb}
 use lib.ListN.{drop}
 use Rattle.numbers.specs.Column.{Column}
 use Rattle.crossing.specs.Factors.{settledIn}
 use Rattle.crossing.proofs.Factors.{taken-count, fronted-kept}
-use Rattle.crossing.proofs.refuse.Statement.{statement}
-use Rattle.crossing.proofs.refuse.Tie as tie
+use Rattle.crossing_pads.proofs.refuse.Statement.{statement}
+use Rattle.crossing_pads.proofs.refuse.Tie as tie
 
 slice-relend-prefix-fill-zero : tie.Need-slice-relend-prefix-fill-zero
 slice-relend-prefix-fill-zero c = let at-start = c .before .before in omega (arith, at-start .pre .0 (c .if1 .taken), at-start .pre .1)

@@ -6,9 +6,9 @@ use borrow.Author.Needs.{needs}
 use lib.ListN.{drop}
 use Rattle.numbers.specs.Column.{Column}
 use Rattle.panel_file.proofs.Reading.{square}
 use Rattle.crossing.proofs.Factors.{taken-count}
-use Rattle.crossing.proofs.solve_front.Statement.{statement}
-use Rattle.crossing.proofs.solve_front.Tie as tie
+use Rattle.crossing_pads.proofs.solve_front.Statement.{statement}
+use Rattle.crossing_pads.proofs.solve_front.Tie as tie
 
 mul-entries : tie.Need-mul-entries
 mul-entries c = let at-start = c .before .before .before .before in omega (arith, square (at-start .args .told .rows) 64 (at-start .pre .0))

@@ -2,10 +2,10 @@
 use mathlib.Core.Bool.{true, false}
 use mathlib.Core.Path.{_∙_}
 use borrow.Author.Needs.{needs}
 use Rattle.crossing.specs.Below.{packed}
 use Rattle.crossing.proofs.Below.{solved-answer, solved-left}
-use Rattle.crossing.proofs.solve_system.Statement.{statement}
-use Rattle.crossing.proofs.solve_system.Tie as tie
+use Rattle.crossing_pads.proofs.solve_system.Statement.{statement}
+use Rattle.crossing_pads.proofs.solve_system.Tie as tie
 
 returns : tie.Need-returns
 returns c =

@@ -14,8 +14,8 @@ use Rattle.min_max.proofs.Walk.{search-end, above-from}
 use Rattle.min_max.proofs.icamax.Statement.{statement}
 use Rattle.min_max.proofs.icamax.Tie as tie
 
--- The greatest row so far, and the next row that is above it, or none where that is behind the last row: so the next one, where it is one, is the greatest up to
--- itself. The first is row `from`, of which nothing is to be shown as long as it is a row.
+-- The greatest row so far, and the next row that is above it, or none where that is behind the last row: so the next one, where it is one, is the greatest up
+-- to itself. The first is row `from`, of which nothing is to be shown as long as it is a row.
 abbrev Inv-loop : tie.InvT-loop
 Inv-loop col from the-i₀ i₀ the-i i =
     (i < length col → Searched col from (magnitude (entry col i)) i i (i + 1))

@@ -19,7 +19,8 @@ asked c = counted c .before .before
 -- the tests that need no number
 early-at : (c : tie.After-first3) → c .first3 .result ≡ headRefusal (asked c .args .fit) (asked c .args .file .now)
 early-at c =
-    head-tested (asked c .args .fit) (asked c .args .file .now) _ _ _ _ _ _ (counted c .pads-of .ensures .0) (c .before .before .before .before .is-headed .ensures)
+    head-tested (asked c .args .fit) (asked c .args .file .now) _ _ _ _ _ _ (counted c .pads-of .ensures .0)
+    (c .before .before .before .before .is-headed .ensures)
     (c .before .before .before .outside .ensures) (c .before .before .first .ensures) (c .before .first2 .ensures) (c .first3 .ensures)
 
 returns : tie.Need-returns

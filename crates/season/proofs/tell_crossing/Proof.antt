@@ -9,7 +9,7 @@ use Rattle.panel_file.proofs.Reading.{square}
 use Rattle.crossing.specs.Below.{packedIn, solutionIn}
 use Rattle.crossing.proofs.Below.{solution-finite}
 use Rattle.crossing.proofs.Factors.{taken-count}
-use Rattle.crossing.proofs.Ordering.{front-done}
+use Rattle.crossing.proofs.Loads.{front-done}
 use Rattle.season.proofs.Telling.{told-refused, Loads, loads-of, told-share}
 use Rattle.season.proofs.tell_crossing.Statement.{statement}
 use Rattle.season.proofs.tell_crossing.Tie as tie
@@ -32,7 +32,7 @@ front : (c : tie.Else1) → let at-solve = c .before .before in let n = asked at
     (length (loads c .x) ≡ n) × (take n (at-solve .solve-readings .last .1 .1 .1 .1 .0) ≡ loads c .x)
 front c =
     let at-solve = c .before .before in
-    front-done _ 0 _ (loads c .x) _ _ (loads c .is) (at-solve .solve-readings .ensures .1)
+    front-done _ _ (loads c .x) _ _ (loads c .is) (at-solve .solve-readings .ensures .1)
     (asked at-solve .pre .1) (search needs)
 
 mul-entries : tie.Need-mul-entries
