@@ -131,7 +131,7 @@ pub fn u(factors: &[f64], swaps: &[usize], told: Record, out: &mut [f64]) -> Ans
     Answer::Done
 }
 
-// Solves the k right-hand columns in x in place: rows swapped by the list, unit lower, upper.
+// Solves the k right-hand columns in x in place: rows swapped by the list, unit lower, upper; a single one of few rows by a call of its own.
 fn solve_mut(factors: &[f64], swaps: &[usize], told: Record, x: &mut [f64], k: usize)
     requires { ⌜ (isMatrix (now factors) (told .rows) (told .rows) ≡ true) × (isMatrix (now x) (told .rows) k ≡ true) ⌝ }
     requires { ⌜ goodList (now swaps) (told .pairs) (told .rows) (told .rows) ≡ true ⌝ }
@@ -139,6 +139,10 @@ fn solve_mut(factors: &[f64], swaps: &[usize], told: Record, x: &mut [f64], k: u
 {
     let n = told.rows;
     exchanges::apply_to_rows(x, n, k, swaps, told.pairs, false);
+    if (k == 1) & (n < 5) {
+        solve_by_rows::solve_one(factors, n, x);
+        return;
+    }
     solve_by_rows::solve_in_place(false, factors, n, x, k);
     solve_by_rows::solve_in_place(true, factors, n, x, k);
 }
