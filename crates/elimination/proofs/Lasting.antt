@@ -19,7 +19,8 @@ use Rattle.finite.proofs.Lasting.{scale-finite}
 use Rattle.numbers.proofs.First.{passed-before, passed-then}
 use Rattle.store.specs.Columns.{flat}
 use Rattle.store.specs.Steps.{Matrix, column}
-use Rattle.store.proofs.Lasting.{column-finite, columns-finite, swapInAll-finite, stepColumn-finite, eliminated-finite}
+use Rattle.store.proofs.Lasting.{column-finite, columns-finite, swapInAll-finite}
+use Rattle.one_step.proofs.Lasting.{stepColumn-finite, eliminated-finite}
 use Rattle.exchanges.specs.Permute.{permute}
 use Rattle.exchanges.proofs.Finite.{finite-permute}
 use Rattle.factors.specs.Factors.{Factors}

@@ -20,8 +20,10 @@ use Rattle.blas.specs.Blas.{swapRows, scaleFrom}
 use Rattle.numbers.proofs.Choice.{cond-cases, test-cases}
 use Rattle.numbers.proofs.Each.{each-id, each-stop}
 use Rattle.blas.proofs.Exchange.{exchanged-self, length-exchanged}
-use Rattle.store.specs.Steps.{Matrix, column, swapInAll, stepColumns, eliminated}
-use Rattle.store.proofs.Steps.{length-swapInAll, length-stepColumn}
+use Rattle.store.specs.Steps.{Matrix, column, swapInAll}
+use Rattle.one_step.specs.OneStep.{stepColumns, eliminated}
+use Rattle.store.proofs.Steps.{length-swapInAll}
+use Rattle.one_step.proofs.Shape.{length-stepColumn}
 use Rattle.swap_list.specs.SwapList.{Swaps}
 use Rattle.exchanges.proofs.Permute.{length-permute}
 use Rattle.factors.specs.Factors.{Factors, recordSwap}

@@ -20,8 +20,10 @@ use Rattle.numbers.proofs.Each.{each-at, each-before, each-snoc, turns-last}
 use Rattle.blas.proofs.Exchange.{other-first, getD-exchanged}
 use Rattle.blas.proofs.Rows.{length-scale, entry-scale-before}
 use Rattle.store.specs.Columns.{HasRows}
-use Rattle.store.specs.Steps.{Matrix, column, swapInAll, stepColumn, stepColumns, eliminated}
-use Rattle.store.proofs.Steps.{length-swapInAll, rows-swapInAll, length-eliminated, rows-eliminated}
+use Rattle.store.specs.Steps.{Matrix, column, swapInAll}
+use Rattle.one_step.specs.OneStep.{stepColumn, stepColumns, eliminated}
+use Rattle.store.proofs.Steps.{length-swapInAll, rows-swapInAll}
+use Rattle.one_step.proofs.Shape.{length-eliminated, rows-eliminated}
 use Rattle.factors.specs.Factors.{Factors}
 use Rattle.elimination.specs.Elimination.{multipliers, scaled, pivotStep, step, unfactored, eliminate}
 use Rattle.factors.proofs.Swaps.{record-more}

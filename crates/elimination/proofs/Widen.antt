@@ -21,7 +21,8 @@ use Rattle.blas.proofs.Exchange.{exchanged-self, exchanged-above}
 use Rattle.min_max.proofs.Pivot.{pivot-from, pivot-to, pivot-zero}
 use Rattle.blas.proofs.Rows.{axpy-swap}
 use Rattle.store.specs.Columns.{HasRows}
-use Rattle.store.specs.Steps.{Matrix, column, stepColumn}
+use Rattle.store.specs.Steps.{Matrix, column}
+use Rattle.one_step.specs.OneStep.{stepColumn}
 use Rattle.swap_list.specs.SwapList.{Swaps}
 use Rattle.exchanges.specs.Permute.{permutedBy, permute}
 use Rattle.exchanges.proofs.Permute.{permute-append}

@@ -9,7 +9,8 @@ use Rattle.numbers.specs.Numbers.{one64, isZero}
 use Rattle.numbers.specs.Column.{Column, entry}
 use Rattle.min_max.specs.Pivot.{pivotRow}
 use Rattle.blas.specs.Blas.{scaleFrom}
-use Rattle.store.specs.Steps.{Matrix, column, swapInAll, eliminated}
+use Rattle.store.specs.Steps.{Matrix, column, swapInAll}
+use Rattle.one_step.specs.OneStep.{eliminated}
 use Rattle.factors.specs.Factors.{Factors, recordSwap}
 
 -- step 4: "Each entry below becomes entry times reciprocal, rounded"; the pivot stands in row i

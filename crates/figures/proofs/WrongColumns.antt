@@ -20,7 +20,8 @@ use Rattle.min_max.specs.TossUp.{sharedFrom, tossUp, pivotOf}
 use Rattle.min_max.specs.declared.FoundPivot.{FoundPivot}
 use Rattle.blas.specs.Dot.{addProduct, addBlock, eightSums, pairSums, dotOf}
 use Rattle.store.specs.Columns.{columns, flat, isMatrix, onColumns}
-use Rattle.store.specs.Steps.{column, swapInAll, rowsSwapped, columnsSwapped, stepColumn, stepColumns, eliminated}
+use Rattle.store.specs.Steps.{column, swapInAll, rowsSwapped, columnsSwapped}
+use Rattle.one_step.specs.OneStep.{stepColumn, stepColumns, eliminated}
 use Rattle.four_steps.specs.FourSteps.{stepBy, fourSteps, fourStepped, fourSteppedOn}
 use Rattle.refusals.specs.declared.Answer.{Answer}
 use Rattle.refusals.specs.declared.Answer.the-variants.{Done, Refused}

@@ -17,7 +17,8 @@ use Rattle.min_max.specs.Pivot.{pivotRow, searchFrom}
 use Rattle.min_max.proofs.Pivot.{pivot-from, pivot-to}
 use Rattle.blas.specs.Blas.{exchanged, swapRows, scaleFrom}
 use Rattle.blas.proofs.Exchange.{other-first, getD-exchanged, exchanged-self}
-use Rattle.store.specs.Steps.{Matrix, column, swapInAll, stepColumns, eliminated}
+use Rattle.store.specs.Steps.{Matrix, column, swapInAll}
+use Rattle.one_step.specs.OneStep.{stepColumns, eliminated}
 use Rattle.swap_list.specs.SwapList.{Swaps}
 use Rattle.exchanges.specs.Permute.{permute, permutedBy}
 use Rattle.exchanges.proofs.Permute.{permute-append}

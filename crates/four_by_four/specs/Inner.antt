@@ -8,7 +8,8 @@ use lib.Ieee.{Float, lt}
 use Rattle.numbers.specs.Numbers.{magnitude}
 use Rattle.numbers.specs.Column.{Column}
 use Rattle.blas.specs.Blas.{swapRows}
-use Rattle.store.specs.Steps.{Matrix, stepColumn}
+use Rattle.store.specs.Steps.{Matrix}
+use Rattle.one_step.specs.OneStep.{stepColumn}
 use Rattle.swap_list.specs.SwapList.{Swaps}
 use Rattle.factors.specs.Factors.{Factors, recordSwap}
 use Rattle.elimination.specs.Elimination.{step}

@@ -14,8 +14,9 @@ use Rattle.numbers.specs.Column.{Column, entry}
 use Rattle.numbers.proofs.Choice.{test-cases}
 use Rattle.numbers.proofs.Each.{length-each, each-at, each-before}
 use Rattle.blas.proofs.Rows.{entry-axpy-at, entry-axpy-before}
-use Rattle.store.specs.Steps.{Matrix, column, stepColumn}
-use Rattle.store.proofs.Steps.{length-stepColumn}
+use Rattle.store.specs.Steps.{Matrix, column}
+use Rattle.one_step.specs.OneStep.{stepColumn}
+use Rattle.one_step.proofs.Shape.{length-stepColumn}
 use Rattle.four_steps.specs.FourSteps.{stepBy, fourSteps, multiplier, headOf, minusOf, addFour, tailOf}
 
 -- ---- one step, row by row

@@ -15,7 +15,7 @@ use Rattle.numbers.proofs.Choice.{cond-cases}
 use Rattle.numbers.proofs.Each.{length-each, each-step, each-same}
 use Rattle.store.specs.Columns.{columns, isMatrix, onColumns}
 use Rattle.store.specs.Steps.{Matrix, column}
-use Rattle.store.proofs.Within.{set-cases}
+use Rattle.one_step.proofs.Within.{set-cases}
 use Rattle.store.proofs.Columns.{sized, length-columns, columns-rows, on-columns, each-rows}
 use Rattle.four_steps.specs.FourSteps.{stepBy, fourSteps, fourStepped, fourSteppedOn, headOf}
 use Rattle.four_steps.specs.FourSteps.{headIn, fourStepsIn, tailOf, tailLeft, tailsLeft, setTwo, Onward}

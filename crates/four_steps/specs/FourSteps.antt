@@ -8,7 +8,8 @@ use lib.Ieee.{Float, neg}
 use Rattle.numbers.specs.Each.{eachFrom}
 use Rattle.numbers.specs.Numbers.{plusProduct}
 use Rattle.numbers.specs.Column.{Column, entry}
-use Rattle.store.specs.Steps.{Matrix, column, stepColumn}
+use Rattle.store.specs.Steps.{Matrix, column}
+use Rattle.one_step.specs.OneStep.{stepColumn}
 use Rattle.four_steps.specs.declared.Four.{Four}
 
 -- step 5 of step k, the multipliers being those of column k

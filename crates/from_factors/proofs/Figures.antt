@@ -14,7 +14,8 @@ use Rattle.min_max.specs.Pivot.{searchFrom, pivotRow}
 use Rattle.blas.specs.Blas.{exchanged, scaleFrom, axpyFrom}
 use Rattle.finite.specs.Finite.{allFinite}
 use Rattle.store.specs.Columns.{columns, flat, isMatrix, onColumns}
-use Rattle.store.specs.Steps.{swapInAll, stepColumn, stepColumns, eliminated}
+use Rattle.store.specs.Steps.{swapInAll}
+use Rattle.one_step.specs.OneStep.{stepColumn, stepColumns, eliminated}
 use Rattle.dead_columns.specs.Dead.{zeroCount, deadFrom, deadIn, deadOf}
 use Rattle.refusals.specs.Outcome.{done, firstOf, tested, andThen, Call}
 use Rattle.refusals.specs.Refusals.{outside, seventh}

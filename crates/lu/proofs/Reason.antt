@@ -20,7 +20,8 @@ use Rattle.finite.proofs.Finite.{finite-entry, finite-swap}
 use Rattle.blas.proofs.Rows.{entry-scale-before, entry-axpy-before}
 use Rattle.numbers.proofs.First.{passed-then, turn-cases}
 use Rattle.store.specs.Columns.{columns, flat, HasRows}
-use Rattle.store.specs.Steps.{Matrix, column, swapInAll, stepColumn, stepColumns, eliminated}
+use Rattle.store.specs.Steps.{Matrix, column, swapInAll}
+use Rattle.one_step.specs.OneStep.{stepColumn, stepColumns, eliminated}
 use Rattle.store.specs.First.{columnOf, rowOf}
 use Rattle.store.proofs.Columns.{length-columns, flat-columns}
 use Rattle.store.proofs.Steps.{length-swapInAll, rows-swapInAll}

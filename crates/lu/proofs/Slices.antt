@@ -17,10 +17,12 @@ use Rattle.blas.specs.Blas.{scaleFrom}
 use Rattle.numbers.proofs.Choice.{cond-cases}
 use Rattle.min_max.proofs.Pivot.{pivot-from, pivot-to}
 use Rattle.store.specs.Columns.{columns, isMatrix, onColumns}
-use Rattle.store.specs.Steps.{Matrix, column, swapInAll, rowsSwapped, eliminated}
+use Rattle.store.specs.Steps.{Matrix, column, swapInAll, rowsSwapped}
+use Rattle.one_step.specs.OneStep.{eliminated}
 use Rattle.store.proofs.Columns.{sized, same-matrix, length-columns, columns-rows, part-column, column-length, entry-at, column-lent, on-columns}
 use Rattle.store.proofs.Columns.{on-none, on-done}
-use Rattle.store.proofs.Steps.{range-all, length-rowsSwapped, rows-rowsSwapped, length-eliminated, rows-eliminated}
+use Rattle.store.proofs.Steps.{range-all, length-rowsSwapped, rows-rowsSwapped}
+use Rattle.one_step.proofs.Shape.{length-eliminated, rows-eliminated}
 use Rattle.swap_list.specs.SwapList.{withPair}
 use Rattle.factors.specs.Factors.{Factors, storeOf}
 use Rattle.elimination.specs.Elimination.{multipliers, scaled, pivotStep, step, unfactored, eliminate}

@@ -6,7 +6,8 @@ ghost use mathlib.Core.List.{[]};
 ghost use Prim.Native.Nat.{_+_, _<_, _≤_};
 ghost use lib.ListN.{length};
 ghost use Rattle.store.specs.Columns.{columns, isMatrix};
-ghost use Rattle.store.specs.Steps.{column, swapInAll, eliminated};
+ghost use Rattle.store.specs.Steps.{column, swapInAll};
+ghost use Rattle.one_step.specs.OneStep.{eliminated};
 ghost use Rattle.factors.specs.Factors.{Factors, storeOf};
 ghost use Rattle.elimination.specs.Elimination.{scaled, step, eliminate};
 ghost use Rattle.elimination.specs.TossUps.{tossAt, tossUps};
@@ -52,7 +53,7 @@ fn gauss_step(s: &mut [f64], m: usize, n: usize, i: usize, piv: usize)
     store::swap_rows(s, m, n, i, piv, 0, n);
     let inv_diag = 1.0 / s[q];
     blas::scale(&mut s[a..e], i + 1, inv_diag);
-    store::eliminate(s, m, n, i);
+    one_step::eliminate(s, m, n, i);
 }
 
 // Step i by itself on an m by n matrix, its swap not recorded; nothing where s is none such or has no row or no column i.

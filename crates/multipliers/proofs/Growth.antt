@@ -22,7 +22,8 @@ use Rattle.blas.proofs.Rows.{entry-scale-before, entry-axpy-at, entry-axpy-befo
 use Rattle.finite.proofs.Finite.{finite-entry}
 use Rattle.min_max.proofs.Pivot.{pivot-from, pivot-to}
 use Rattle.store.specs.Columns.{HasRows}
-use Rattle.store.specs.Steps.{Matrix, column, stepColumn}
+use Rattle.store.specs.Steps.{Matrix, column}
+use Rattle.one_step.specs.OneStep.{stepColumn}
 use Rattle.store.proofs.Lasting.{column-finite}
 use Rattle.factors.specs.Factors.{Factors}
 use Rattle.elimination.specs.Elimination.{multipliers, pivotStep, step, unfactored, eliminate}

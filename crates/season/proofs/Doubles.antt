@@ -18,7 +18,8 @@ use Rattle.numbers.specs.Column.{Column, entry}
 use Rattle.numbers.proofs.Choice.{cond-cases}
 use Rattle.blas.specs.Blas.{exchanged, swapRows, scaleFrom, axpyFrom}
 use Rattle.store.specs.Columns.{columns}
-use Rattle.store.specs.Steps.{Matrix, column, swapInAll, stepColumn, stepColumns, eliminated}
+use Rattle.store.specs.Steps.{Matrix, column, swapInAll}
+use Rattle.one_step.specs.OneStep.{stepColumn, stepColumns, eliminated}
 use Rattle.factors.specs.Factors.{Factors}
 use Rattle.elimination.specs.Elimination.{multipliers, scaled, pivotStep, step, unfactored, eliminate}
 use Rattle.elimination.proofs.Step.{pivotAt, step-cases}

@@ -18,8 +18,8 @@ use Rattle.finite.proofs.Lasting.{axpy-finite, set-finite}
 use Rattle.numbers.proofs.First.{passed-then}
 use Rattle.store.specs.Steps.{Matrix, column}
 use Rattle.triangular_passes.specs.declared.Pass.{Pass}
-use Rattle.triangular_passes.specs.declared.Pass.the-variants.{Lower, Upper, GivenDiagonal}
-use Rattle.triangular_passes.specs.declared.Pass.the-variants.{TransposedLower, TransposedUpper, CorrectedDiagonal, TransposedUnitLower}
+use Rattle.triangular_passes.specs.declared.Pass.the-variants.{Lower, Upper, GivenDiagonal, CorrectedDiagonal}
+use Rattle.triangular_passes.specs.declared.Pass.the-variants.{TransposedLower, TransposedUpper, TransposedUnitLower}
 use Rattle.triangular_passes.specs.Triangular.{lowerRow, upperRow, keptRow, lessBelow, transposedLowerRow, transposedUpperRow, transposedUnitLowerRow}
 use Rattle.triangular_passes.specs.Triangular.{divisor, rowBy, rowAt, turnsOf, solvedRow, turn, solvedColumn}
 

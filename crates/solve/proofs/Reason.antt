@@ -28,8 +28,8 @@ use Rattle.store.specs.Columns.{flat, HasRows}
 use Rattle.store.specs.Steps.{Matrix, column}
 use Rattle.store.proofs.Lasting.{column-finite, columns-finite}
 use Rattle.triangular_passes.specs.declared.Pass.{Pass}
-use Rattle.triangular_passes.specs.declared.Pass.the-variants.{Lower, Upper, GivenDiagonal}
-use Rattle.triangular_passes.specs.declared.Pass.the-variants.{TransposedLower, TransposedUpper, CorrectedDiagonal, TransposedUnitLower}
+use Rattle.triangular_passes.specs.declared.Pass.the-variants.{Lower, Upper, GivenDiagonal, CorrectedDiagonal}
+use Rattle.triangular_passes.specs.declared.Pass.the-variants.{TransposedLower, TransposedUpper, TransposedUnitLower}
 use Rattle.dead_columns.specs.Dead.{zeroCount, deadFrom}
 use Rattle.triangular_passes.specs.Triangular.{lowerRow, upperRow, keptRow, transposedLowerRow, transposedUpperRow, transposedUnitLowerRow, divisor, rowBy}
 use Rattle.triangular_passes.specs.Triangular.{rowAt, turnsOf, solvedRow, turn, solvedColumn, solvedFrom, solvedColumns}

@@ -13,8 +13,8 @@ use Rattle.numbers.specs.Column.{Column, entry}
 use Rattle.finite.specs.Finite.{allFinite}
 use Rattle.store.specs.Steps.{Matrix}
 use Rattle.triangular_passes.specs.declared.Pass.{Pass}
-use Rattle.triangular_passes.specs.declared.Pass.the-variants.{Lower, Upper, GivenDiagonal}
-use Rattle.triangular_passes.specs.declared.Pass.the-variants.{TransposedLower, TransposedUpper, CorrectedDiagonal, TransposedUnitLower}
+use Rattle.triangular_passes.specs.declared.Pass.the-variants.{Lower, Upper, GivenDiagonal, CorrectedDiagonal}
+use Rattle.triangular_passes.specs.declared.Pass.the-variants.{TransposedLower, TransposedUpper, TransposedUnitLower}
 use Rattle.triangular_passes.specs.Triangular.{rowAt, turnsOf, turn}
 
 -- the pass and the turn that stored a number, its right-hand column and its row

@@ -21,7 +21,8 @@ use Rattle.numbers.proofs.Choice.{test-cases}
 use Rattle.numbers.proofs.Each.{length-list, list-at}
 use Rattle.blas.proofs.Rows.{length-axpy, entry-axpy-at, copied-whole}
 use Rattle.store.specs.Columns.{columns}
-use Rattle.store.specs.Steps.{Matrix, column, stepColumn}
+use Rattle.store.specs.Steps.{Matrix, column}
+use Rattle.one_step.specs.OneStep.{stepColumn}
 use Rattle.store.proofs.Columns.{column-within, length-columns, columns-rows, entry-at}
 use Rattle.triangular_passes.specs.Triangular.{upperRow, solvedRow, turn}
 use Rattle.triangular_passes.proofs.Lengths.{length-turns}

@@ -19,8 +19,9 @@ use Rattle.blas.specs.Blas.{axpyFrom}
 use Rattle.numbers.proofs.Choice.{test-cases}
 use Rattle.numbers.proofs.One.{div-one64}
 use Rattle.blas.proofs.Rows.{length-axpy, entry-axpy-at, entry-axpy-before}
-use Rattle.store.specs.Steps.{Matrix, column, stepColumn}
-use Rattle.store.proofs.Steps.{length-stepColumn}
+use Rattle.store.specs.Steps.{Matrix, column}
+use Rattle.one_step.specs.OneStep.{stepColumn}
+use Rattle.one_step.proofs.Shape.{length-stepColumn}
 use Rattle.triangular_passes.specs.declared.Pass.the-variants.{Upper, GivenDiagonal}
 use Rattle.triangular_passes.specs.Triangular.{upperRow, keptRow, solvedRow, turn, solvedColumn}
 use Rattle.triangular_passes.proofs.Lengths.{length-turns, length-row}

@@ -8,7 +8,8 @@ use Rattle.numbers.specs.Each.{turnsFrom, listOf}
 use Rattle.numbers.specs.Numbers.{one64, plusProduct}
 use Rattle.numbers.specs.Column.{Column, entry}
 use Rattle.store.specs.Columns.{columns}
-use Rattle.store.specs.Steps.{Matrix, column, stepColumn}
+use Rattle.store.specs.Steps.{Matrix, column}
+use Rattle.one_step.specs.OneStep.{stepColumn}
 use Rattle.triangular_passes.specs.declared.Pass.{Pass}
 use Rattle.triangular_passes.specs.declared.Pass.the-variants.{Upper, CorrectedDiagonal}
 use Rattle.triangular_passes.specs.Triangular.{turn, solvedInPlace}

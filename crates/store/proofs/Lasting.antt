@@ -1,5 +1,4 @@
--- A matrix is finite where each column is. So what its columns are changed by lasts in the whole: step 3's swap, and step 5 on the columns to the
--- right. Assumes nothing.
+-- A matrix is finite where each column is. So what its columns are changed by lasts in the whole, as step 3's swap does. Assumes nothing.
 use mathlib.Core.Path.{_≡_, refl, sym, _∙_}
 use mathlib.Core.Bool.{true}
 use mathlib.Core.List.{[], _∷_}
@@ -14,9 +13,8 @@ use Rattle.finite.specs.Finite.{allFinite}
 use Rattle.numbers.proofs.Choice.{test-cases, and-first, and-second, and-both}
 use Rattle.numbers.proofs.Each.{each-at, each-before}
 use Rattle.finite.proofs.Finite.{finite-append, finite-swap}
-use Rattle.finite.proofs.Lasting.{axpy-finite}
 use Rattle.store.specs.Columns.{flat}
-use Rattle.store.specs.Steps.{Matrix, column, swapInAll, stepColumn, stepColumns, eliminated}
+use Rattle.store.specs.Steps.{Matrix, column, swapInAll}
 
 pub column-finite : (cs : Matrix) → allFinite (flat cs) ≡ true → (j : ℕ) → allFinite (column cs j) ≡ true
 unfolding flat allFinite
@@ -43,15 +41,3 @@ module _ (i : ℕ) where
   pub swapInAll-finite : (p : ℕ) (cs : Matrix) → allFinite (flat (swapInAll i p cs)) ≡ true → allFinite (flat cs) ≡ true
   unfolding swapInAll
   swapInAll-finite p cs = each-columns-finite _ (λ j c e. sym (finite-swap i p c) ∙ e) 0 cs
-
-  pub stepColumn-finite : (l c : Column) → allFinite (stepColumn i l c) ≡ true → allFinite c ≡ true
-  unfolding stepColumn
-  stepColumn-finite l c = axpy-finite _ _ l c
-
-  pub stepColumns-finite : (l : Column) (from : ℕ) (cs : Matrix) → allFinite (flat (stepColumns i l from cs)) ≡ true → allFinite (flat cs) ≡ true
-  unfolding stepColumns
-  stepColumns-finite l from cs = each-columns-finite _ (λ j c. stepColumn-finite l c) from cs
-
-  pub eliminated-finite : (cs : Matrix) → allFinite (flat (eliminated i cs)) ≡ true → allFinite (flat cs) ≡ true
-  unfolding eliminated
-  eliminated-finite cs = stepColumns-finite (column cs i) _ cs

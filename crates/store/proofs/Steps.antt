@@ -1,6 +1,6 @@
--- The steps on the columns, as the loops and the callers meet them: a range of columns, and that the shape of the matrix is kept. Assumes nothing.
+-- Exchanges of rows and of columns, as the loops and the callers meet them: a range of columns, and that the shape of the matrix is kept. Assumes nothing.
 use mathlib.Core.Path.{_≡_, refl, sym, ap, _∙_}
-use mathlib.Core.Bool.{true, cond}
+use mathlib.Core.Bool.{cond}
 use mathlib.Core.List.{List, []}
 use Prim.Native.Nat.{ℕ, _+_, _-_, _*_, _≤_, _<_, min}
 use native.Mathlib.Omega.{arith}
@@ -8,18 +8,16 @@ use borrow.Author.Tests.{ltb-true, ltb-false, lt-ltb, le-ltb}
 use borrow.Rule.Slice.PartMut.{midOf, putMid, same-len-mid}
 use lib.Dec.{ltb}
 use lib.ListN.{length, set}
-use lib.Seq.{ext-getD}
-use lib.Ieee.{Float, nan, neg}
-use Rattle.numbers.specs.Each.{eachFrom}
-use Rattle.numbers.specs.Column.{Column, entry}
+use lib.Ieee.{Float, nan}
+use Rattle.numbers.specs.Column.{Column}
 use Rattle.blas.specs.Blas.{swapRows, copied}
 use Rattle.numbers.proofs.Choice.{test-cases, cond-cases}
-use Rattle.numbers.proofs.Each.{length-each, each-id, each-same, each-at, each-before}
+use Rattle.numbers.proofs.Each.{length-each, each-id, each-same}
 use Rattle.blas.proofs.Exchange.{length-exchanged, exchanged-is, exchanged-out, exchanged-self}
-use Rattle.blas.proofs.Rows.{length-axpy, axpy-none, copied-whole}
-use Rattle.store.specs.Columns.{columns, HasRows, isMatrix}
-use Rattle.store.specs.Steps.{Matrix, column, columnsSwapped, swapInAll, rowsSwapped, stepColumn, stepColumns, eliminated}
-use Rattle.store.proofs.Columns.{sized, length-columns, columns-rows, column-length, part-column, column-lent, column-turn, column-stop, each-rows}
+use Rattle.blas.proofs.Rows.{copied-whole}
+use Rattle.store.specs.Columns.{columns, HasRows}
+use Rattle.store.specs.Steps.{Matrix, column, columnsSwapped, swapInAll, rowsSwapped}
+use Rattle.store.proofs.Columns.{length-columns, columns-rows, column-length, part-column, column-lent, column-turn, column-stop, each-rows}
 
 -- rows that are one stay
 pub rows-itself : (i p from to : ℕ) (cs : Matrix) → i ≡ p → cs ≡ rowsSwapped i p from to cs
@@ -74,26 +72,6 @@ module _ (i : ℕ) where
   rows-rowsSwapped m p from to cs =
       each-rows m (inRange i p to) from cs (λ j c e. cond-cases (λ (x : Column). length x ≡ m) (ltb j to) (λ t. length-exchanged nan i p c ∙ e) (λ t. e))
 
-  pub length-stepColumn : (l c : Column) → length (stepColumn i l c) ≡ length c
-  unfolding stepColumn
-  length-stepColumn l c = length-axpy _ _ l c
-
-  pub length-stepColumns : (l : Column) (from : ℕ) (cs : Matrix) → length (stepColumns i l from cs) ≡ length cs
-  unfolding stepColumns
-  length-stepColumns l from cs = length-each _ from cs
-
-  pub rows-stepColumns : (m : ℕ) (l : Column) (from : ℕ) (cs : Matrix) → HasRows m cs → HasRows m (stepColumns i l from cs)
-  unfolding stepColumns
-  rows-stepColumns m l from cs = each-rows m _ from cs (λ j c e. length-stepColumn l c ∙ e)
-
-  pub length-eliminated : (cs : Matrix) → length (eliminated i cs) ≡ length cs
-  unfolding eliminated
-  length-eliminated cs = length-stepColumns _ (i + 1) cs
-
-  pub rows-eliminated : (m : ℕ) (cs : Matrix) → HasRows m cs → HasRows m (eliminated i cs)
-  unfolding eliminated
-  rows-eliminated m cs = rows-stepColumns m _ (i + 1) cs
-
 -- ---- from what the calls give
 
 -- a column that was lent as a part and copied whole
@@ -131,24 +109,3 @@ module _ (i j m n : ℕ) (s x y x' y' c d : List Float) (hi : i < n) (hj : j < n
       written j m n s' d x' hj len' (ap length x-is ∙ columns-rows m n s len i (rw length-columns hi)) kd ed
       ∙ (λ t. set (first t) j (x-is t))
       ∙ sym (exchanged-is [] i j cs (rw length-columns hi) (rw length-columns hj))
-
--- no row is below row i
-eliminated-no-row : (i m : ℕ) (cs : Matrix) → m ≤ i → HasRows m cs → cs ≡ eliminated i cs
-unfolding eliminated stepColumns stepColumn
-eliminated-no-row i m cs h rows =
-    let l = column cs i in
-    sym (ext-getD [] (eachFrom (λ j c. stepColumn i l c) (i + 1) cs) cs (length-each _ (i + 1) cs)
-    (λ j k.
-    let hj : j < length cs = rw length-each at k in
-    test-cases (ltb j (i + 1))
-    (λ t. each-before _ (i + 1) cs j [] (ltb-true j (i + 1) t))
-    (λ t. each-at _ (i + 1) cs j [] (ltb-false j (i + 1) t) hj
-    ∙ axpy-none (i + 1) (neg (entry (column cs j) i)) l (column cs j) (rw (rows j hj) (omega arith)))))
-
--- past the last column there is none to the right, and past the last row none below
-pub eliminated-past : (i m n : ℕ) (s : List Float) → isMatrix s m n ≡ true → min m n ≤ i → columns m n s ≡ eliminated i (columns m n s)
-unfolding eliminated stepColumns
-eliminated-past i m n s fits h =
-    test-cases (ltb i n)
-    (λ t. let l = ltb-true i n t in eliminated-no-row i m (columns m n s) (omega arith) (columns-rows m n s (sized m n s fits .size)))
-    (λ t. let l = ltb-false i n t in sym (column-stop _ m n (i + 1) s (omega arith)))

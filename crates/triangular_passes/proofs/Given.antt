@@ -7,8 +7,8 @@ use denote.Enum.Declared.{tagOf}
 use Prim.Native.Nat.{ℕ}
 use lib.Ieee.{Float}
 use Rattle.triangular_passes.specs.declared.Pass.{Pass}
-use Rattle.triangular_passes.specs.declared.Pass.the-variants.{Lower, Upper, GivenDiagonal}
-use Rattle.triangular_passes.specs.declared.Pass.the-variants.{TransposedLower, TransposedUpper, CorrectedDiagonal, TransposedUnitLower}
+use Rattle.triangular_passes.specs.declared.Pass.the-variants.{Lower, Upper, GivenDiagonal, CorrectedDiagonal}
+use Rattle.triangular_passes.specs.declared.Pass.the-variants.{TransposedLower, TransposedUpper, TransposedUnitLower}
 use Rattle.triangular_passes.specs.Triangular.{given, turnsOf}
 use Rattle.triangular_passes.proofs.Pass.{the-type}
 

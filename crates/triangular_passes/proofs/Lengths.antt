@@ -11,8 +11,8 @@ use Rattle.store.specs.Columns.{HasRows}
 use Rattle.store.specs.Steps.{Matrix}
 use Rattle.store.proofs.Columns.{each-rows}
 use Rattle.triangular_passes.specs.declared.Pass.{Pass}
-use Rattle.triangular_passes.specs.declared.Pass.the-variants.{Lower, Upper, GivenDiagonal}
-use Rattle.triangular_passes.specs.declared.Pass.the-variants.{TransposedLower, TransposedUpper, CorrectedDiagonal, TransposedUnitLower}
+use Rattle.triangular_passes.specs.declared.Pass.the-variants.{Lower, Upper, GivenDiagonal, CorrectedDiagonal}
+use Rattle.triangular_passes.specs.declared.Pass.the-variants.{TransposedLower, TransposedUpper, TransposedUnitLower}
 use Rattle.triangular_passes.specs.Triangular.{lowerRow, upperRow, keptRow, transposedLowerRow, transposedUpperRow, transposedUnitLowerRow, rowBy}
 use Rattle.triangular_passes.specs.Triangular.{solvedRow, turn, solvedColumn, solvedFrom}
 

@@ -12,8 +12,8 @@ use Rattle.store.specs.Columns.{columns}
 use Rattle.store.specs.Steps.{column}
 use Rattle.store.proofs.Columns.{part-column}
 use Rattle.triangular_passes.specs.declared.Pass.{Pass}
-use Rattle.triangular_passes.specs.declared.Pass.the-variants.{Lower, Upper, GivenDiagonal}
-use Rattle.triangular_passes.specs.declared.Pass.the-variants.{TransposedLower, TransposedUpper, CorrectedDiagonal, TransposedUnitLower}
+use Rattle.triangular_passes.specs.declared.Pass.the-variants.{Lower, Upper, GivenDiagonal, CorrectedDiagonal}
+use Rattle.triangular_passes.specs.declared.Pass.the-variants.{TransposedLower, TransposedUpper, TransposedUnitLower}
 use Rattle.triangular_passes.specs.Triangular.{divisor, rowBy, solvedRow, rowAt, turnsOf, turn}
 
 -- no more turns than rows, and each turn's row is one

@@ -15,9 +15,10 @@ use Rattle.numbers.specs.Numbers.{isZero}
 use Rattle.numbers.specs.Column.{Column, entry}
 use Rattle.numbers.proofs.Each.{length-each, each-step, each-stop, each-same, each-id}
 use Rattle.store.specs.Columns.{columns, isMatrix, onColumns, HasRows}
-use Rattle.store.specs.Steps.{Matrix, column, stepColumn}
+use Rattle.store.specs.Steps.{Matrix, column}
+use Rattle.one_step.specs.OneStep.{stepColumn}
 use Rattle.store.proofs.Columns.{sized, length-columns, columns-rows, entry-at, on-columns, on-done, each-rows}
-use Rattle.store.proofs.Within.{within-columns}
+use Rattle.one_step.proofs.Within.{within-columns}
 use Rattle.four_steps.specs.FourSteps.{stepBy, fourSteps, fourStepped, fourSteppedOn}
 use Rattle.four_steps.proofs.Within.{stepped-columns, on-column}
 use Rattle.refusals.proofs.Tests.{neither}

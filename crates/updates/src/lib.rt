@@ -15,7 +15,7 @@ fn update_by(s: &mut [f64], m: usize, n: usize, i: usize, j: usize)
     if numbers::is_zero(diag) {
         return;
     }
-    store::step_within(s, m, n, i, j);
+    one_step::step_within(s, m, n, i, j);
 }
 
 // That by each column from `from` up to but not `to`, in turn.

@@ -17,8 +17,8 @@ use Rattle.store.specs.Steps.{Matrix, column}
 use Rattle.store.proofs.Lasting.{column-finite}
 use Rattle.swap_list.specs.SwapList.{Swaps}
 use Rattle.triangular_passes.specs.declared.Pass.{Pass}
-use Rattle.triangular_passes.specs.declared.Pass.the-variants.{Lower, Upper, GivenDiagonal}
-use Rattle.triangular_passes.specs.declared.Pass.the-variants.{TransposedLower, TransposedUpper, CorrectedDiagonal, TransposedUnitLower}
+use Rattle.triangular_passes.specs.declared.Pass.the-variants.{Lower, Upper, GivenDiagonal, CorrectedDiagonal}
+use Rattle.triangular_passes.specs.declared.Pass.the-variants.{TransposedLower, TransposedUpper, TransposedUnitLower}
 use Rattle.triangular_passes.specs.Triangular.{solvedColumn, solvedFrom, solvedColumns}
 use Rattle.solve.specs.Reason.{Stored, firstInPass}
 use Rattle.triangular_passes.proofs.Lengths.{solved-rows}

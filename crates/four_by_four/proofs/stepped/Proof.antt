@@ -5,7 +5,7 @@ use mathlib.Core.Path.{ap, _∙_}
 use Prim.Native.Nat.{_+_}
 use lib.Ieee.{Float, neg}
 use Rattle.blas.specs.Blas.{axpyFrom}
-use Rattle.store.specs.Steps.{stepColumn}
+use Rattle.one_step.specs.OneStep.{stepColumn}
 use Rattle.four_by_four.specs.System.{listed}
 use Rattle.four_by_four.specs.Inner.{steppedBy}
 use Rattle.four_by_four.proofs.stepped.Statement.{statement}

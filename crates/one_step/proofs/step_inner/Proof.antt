@@ -6,12 +6,13 @@ use borrow.Author.Needs.{needs}
 use borrow.Rule.Slice.PartMut.{same-len-mid}
 use lib.ListN.{length, set}
 use lib.Ieee.{Float}
 use Rattle.store.specs.Columns.{columns}
-use Rattle.store.specs.Steps.{column, stepColumn}
+use Rattle.store.specs.Steps.{column}
+use Rattle.one_step.specs.OneStep.{stepColumn}
 use Rattle.store.proofs.Columns.{sized, column-within, column-length}
-use Rattle.store.proofs.Within.{updating, within-start, within-turn, within-stop}
-use Rattle.store.proofs.step_inner.Statement.{statement}
-use Rattle.store.proofs.step_inner.Tie as tie
+use Rattle.one_step.proofs.Within.{updating, within-start, within-turn, within-stop}
+use Rattle.one_step.proofs.step_inner.Statement.{statement}
+use Rattle.one_step.proofs.step_inner.Tie as tie
 
 abbrev Inv-loop : tie.InvT-loop
 Inv-loop s₀ m n i j a b e u k₀ s k =

@@ -6,13 +6,14 @@ use native.Mathlib.Omega.{arith}
 use borrow.Author.Needs.{needs}
 use borrow.Author.Tests.{not-true, not-false}
 use lib.ListN.{length}
 use Rattle.store.specs.Columns.{columns, isMatrix}
-use Rattle.store.specs.Steps.{column, stepColumns, eliminated}
+use Rattle.store.specs.Steps.{column}
+use Rattle.one_step.specs.OneStep.{stepColumns, eliminated}
 use Rattle.store.proofs.Columns.{same-matrix, column-stop, on-none, on-done}
-use Rattle.store.proofs.Steps.{eliminated-past}
-use Rattle.store.proofs.Within.{stepped-column, stepped-turn}
-use Rattle.store.proofs.eliminate.Statement.{statement}
-use Rattle.store.proofs.eliminate.Tie as tie
+use Rattle.one_step.proofs.Shape.{eliminated-past}
+use Rattle.one_step.proofs.Within.{stepped-column, stepped-turn}
+use Rattle.one_step.proofs.eliminate.Statement.{statement}
+use Rattle.one_step.proofs.eliminate.Tie as tie
 
 abbrev Inv-loop : tie.InvT-loop
 Inv-loop s₀ m n i j₀ s j =

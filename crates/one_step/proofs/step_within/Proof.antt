@@ -5,11 +5,11 @@ use mathlib.Core.Bool.{true}
 use native.Mathlib.Omega.{arith}
 use borrow.Author.Needs.{needs}
 use borrow.Author.Tests.{not-true, not-false}
 use Rattle.store.specs.Columns.{isMatrix}
 use Rattle.store.proofs.Columns.{on-none, on-done}
-use Rattle.store.proofs.Within.{within-no-column, within-no-row}
-use Rattle.store.proofs.step_within.Statement.{statement}
-use Rattle.store.proofs.step_within.Tie as tie
+use Rattle.one_step.proofs.Within.{within-no-column, within-no-row}
+use Rattle.one_step.proofs.step_within.Statement.{statement}
+use Rattle.one_step.proofs.step_within.Tie as tie
 
 returns : tie.Need-returns
 returns c = on-none _ _ _ _ (sym (c .before .is-matrix .ensures) ∙ not-true _ (c .if1 .taken))

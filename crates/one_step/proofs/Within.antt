@@ -18,10 +18,11 @@ use Rattle.blas.specs.Blas.{axpyFrom}
 use Rattle.numbers.proofs.Choice.{test-cases, cond-cases}
 use Rattle.numbers.proofs.Each.{each-step, each-stop, each-same}
 use Rattle.blas.proofs.Rows.{axpy-none}
 use Rattle.store.specs.Columns.{columns, HasRows, isMatrix, onColumns}
-use Rattle.store.specs.Steps.{Matrix, column, stepColumn, stepColumns, steppedIn}
+use Rattle.store.specs.Steps.{Matrix, column}
+use Rattle.one_step.specs.OneStep.{stepColumn, stepColumns, steppedIn}
 use Rattle.store.proofs.Columns.{sized, length-columns, columns-rows, entry-at, column-lent, on-columns}
-use Rattle.store.proofs.Steps.{length-stepColumn}
+use Rattle.one_step.proofs.Shape.{length-stepColumn}
 
 -- ---- one column of a list of columns replaced
 
