@@ -17,9 +17,11 @@ use Rattle.exchanges.specs.Permute.{permute, rowsPermuted, inOrder}
 use Rattle.swap_list.proofs.SwapList.{held-good}
 use Rattle.exchanges.proofs.Permute.{length-permute, rows-each}
 use Rattle.triangular_passes.specs.declared.Pass.{Pass}
-use Rattle.triangular_passes.specs.declared.Pass.the-variants.{Upper, GivenDiagonal, TransposedUpper, TransposedUnitLower}
+use Rattle.triangular_passes.specs.declared.Pass.the-variants.{Upper, GivenDiagonal, CorrectedDiagonal, TransposedUpper, TransposedUnitLower}
 use Rattle.triangular_passes.specs.Triangular.{solvedColumn, solvedFrom, solvedInPlace}
-use Rattle.solve.proofs.Alone.{in-place-columns}
+use Rattle.solve.proofs.Alone.{in-place-columns, in-place-long}
+use Rattle.solve.proofs.Corrected.{Doubles, same-by-one}
+use Rattle.solve_by_rows.specs.Rows.{bothPasses}
 use Rattle.from_factors.specs.Solving.{solved, trSolved, solvedAll}
 
 module _ (n k : ℕ) where
@@ -82,3 +84,15 @@ module _ (n k : ℕ) where
         let p = by-pass TransposedUpper factors x y matrix sides upper y-long in
         let q = by-pass TransposedUnitLower factors y z matrix (p .is) lower z-long in
         three _ _ _ x y z w p q (by-swaps true most pairs store z w (q .is) list permuted w-long)
+
+  -- x, a single column, is permuted to y, which one call for both passes makes w
+  pub passes-one : (most pairs : ℕ) (factors x y w : Column) (store : List ℕ) → isMatrix factors n n ≡ true → isMatrix x n k ≡ true
+      → goodList store pairs n most ≡ true → k ≡ 1 → Doubles y
+      → y ≡ onColumns n k (rowsPermuted (inOrder false (held pairs store))) x → length y ≡ length x
+      → w ≡ bothPasses factors n y → length w ≡ length y
+      → w ≡ flat (solvedAll solved n (columns n n factors) (pairsOf pairs store) (columns n k x))
+  passes-one most pairs factors x y w store matrix sides list one all permuted y-long made w-long =
+      let lower = solvedInPlace (CorrectedDiagonal one64) factors n y k in
+      let z-long = in-place-long (CorrectedDiagonal one64) n k factors y matrix (same-matrix n k x y y-long ∙ sides) in
+      passes-solve most pairs factors x y lower w store matrix sides list permuted y-long (same-by-one n k factors y all) z-long
+      (made ∙ ap (λ (q : ℕ). solvedInPlace Upper factors n (solvedInPlace (CorrectedDiagonal one64) factors n y q) q) (sym one)) (w-long ∙ sym z-long)

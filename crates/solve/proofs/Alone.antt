@@ -4,7 +4,7 @@
 use mathlib.Core.Path.{_≡_, sym, ap, _∙_}
 use mathlib.Core.Bool.{true, cond}
 use mathlib.Core.List.{[]}
-use Prim.Native.Nat.{ℕ, _<_}
+use Prim.Native.Nat.{ℕ, _*_, _<_}
 use native.Mathlib.Omega.{arith}
 use lib.ListN.{length}
 use Rattle.numbers.specs.Column.{Column}
@@ -12,7 +12,7 @@ use Rattle.finite.specs.Finite.{allFinite}
 use Rattle.numbers.proofs.Each.{length-each, each-at, each-before}
 use Rattle.store.specs.Columns.{columns, flat, isMatrix}
 use Rattle.store.specs.Steps.{Matrix, column}
-use Rattle.store.proofs.Columns.{length-columns, columns-rows, on-flat, on-columns, sized}
+use Rattle.store.proofs.Columns.{length-columns, columns-rows, length-flat, on-flat, on-columns, sized}
 use Rattle.refusals.specs.Outcome.{numberOf, Call}
 use Rattle.triangular_passes.specs.declared.Pass.{Pass}
 use Rattle.triangular_passes.specs.Triangular.{solvedColumn, solvedFrom, solvedColumns, solvedInPlace}
@@ -42,6 +42,15 @@ module _ (pass : Pass) (n k : ℕ) (t b : Column) (matrix : isMatrix t n n ≡ t
       rw matrix
       (on-columns n k (solvedColumns pass n (columns n n t)) b sides (length-each _ 0 (columns n k b) ∙ length-columns n k b)
       (solved-rows pass n n (columns n n t) 0 (columns n k b) (columns-rows n k b (sized n k b sides .size))))
+
+  pub in-place-long : length (solvedInPlace pass t n b k) ≡ length b
+  unfolding solvedFrom
+  in-place-long =
+      let size = sized n k b sides .size in
+      ap length in-place-flat
+      ∙ length-flat n (solvedColumns pass n (columns n n t) (columns n k b)) (solved-rows pass n n (columns n n t) 0 (columns n k b) (columns-rows n k b size))
+      ∙ ap (λ (c : ℕ). c * n) (length-each _ 0 (columns n k b) ∙ length-columns n k b)
+      ∙ sym size
 
 module _ (pass : Pass) (n k : ℕ) (t b x : Column) where
   -- an accepted call: no test held, and the result is what the pass made
