@@ -4,5 +4,4 @@ pub mod Reason
 pub mod Seven
 pub mod Shape
 pub mod Slices
-pub mod Square
 pub mod Told

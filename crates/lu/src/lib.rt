@@ -162,38 +162,12 @@ fn factor_panel(
     now
 }
 
-// All steps of the n by n matrix in s, one by one. Answers what they counted. A small n is written out, so that the compiler knows it where it puts the steps
-// in place.
-fn square_steps(s: &mut [f64], n: usize, swaps: &mut [usize]) -> Counts
-    requires { ⌜ (isMatrix (now s) n n ≡ true) × (now swaps ≡ storeOf []) ⌝ }
-    ensures { λ r. ⌜ Held (now (s .exit)) n n (now (swaps .exit)) (r .pairs) (eliminate n (columns n n (now (s .entry)))) ⌝ }
-    ensures { λ r. ⌜ r .tossed ≡ tossUps n (columns n n (now (s .entry))) ⌝ }
-{
-    let none = Counts {
-        pairs: 0,
-        tossed: 0,
-    };
-    match n {
-        2 => factor_steps(s, 2, 2, 0, 2, swaps, none),
-        3 => factor_steps(s, 3, 3, 0, 3, swaps, none),
-        4 => factor_steps(s, 4, 4, 0, 4, swaps, none),
-        5 => factor_steps(s, 5, 5, 0, 5, swaps, none),
-        6 => factor_steps(s, 6, 6, 0, 6, swaps, none),
-        7 => factor_steps(s, 7, 7, 0, 7, swaps, none),
-        8 => factor_steps(s, 8, 8, 0, 8, swaps, none),
-        _ => factor_steps(s, n, n, 0, n, swaps, none),
-    }
-}
-
 // All steps of the m by n matrix in s, in panels as long as more than eight are left. Answers what they counted.
 fn factor_in_place(s: &mut [f64], m: usize, n: usize, swaps: &mut [usize]) -> Counts
     requires { ⌜ (isMatrix (now s) m n ≡ true) × (now swaps ≡ storeOf []) ⌝ }
     ensures { λ r. ⌜ Held (now (s .exit)) m n (now (swaps .exit)) (r .pairs) (eliminate m (columns m n (now (s .entry)))) ⌝ }
     ensures { λ r. ⌜ r .tossed ≡ tossUps m (columns m n (now (s .entry))) ⌝ }
 {
-    if (m == n) & (n < 9) {
-        return square_steps(s, n, swaps);
-    }
     let min_nrows_ncols = store::min(m, n);
     let mut counts = Counts {
         pairs: 0,

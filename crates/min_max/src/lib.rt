@@ -53,7 +53,7 @@ pub fn icamax(col: &[f64], from: usize) -> FoundPivot
         };
     }
     let mut the_i = from;
-    let mut i = from;
+    let mut i = next_above(col, from + 1, numbers::magnitude(col[from]));
     while i < col.len() {
         the_i = i;
         i = next_above(col, i + 1, numbers::magnitude(col[i]));

@@ -2,15 +2,12 @@
 use Prim.Native.Nat.{_+_, _-_, _≤_, min}
 use native.Mathlib.Nat.{zero-add, add-assoc}
 use mathlib.Core.Path.{_≡_, refl, sym, ap, subst, _∙_}
-use mathlib.Core.Bool.{true}
 use mathlib.Core.List.{[]}
 use native.Mathlib.Omega.{arith}
 use borrow.Author.Needs.{needs}
-use borrow.Author.Tests.{eqb-true}
 use lib.ListN.{length}
 use Rattle.numbers.specs.Each.{turnsFrom}
-use Rattle.numbers.proofs.Choice.{and-first}
-use Rattle.store.specs.Columns.{columns, isMatrix}
+use Rattle.store.specs.Columns.{columns}
 use Rattle.store.proofs.Columns.{sized, same-matrix}
 use Rattle.factors.specs.Factors.{Factors}
 use Rattle.elimination.specs.Elimination.{step, unfactored, eliminate}
@@ -32,28 +29,9 @@ Inv-loop s₀ m n swaps₀ min-nrows-ncols counts₀ i₀ s swaps counts i =
 abbrev μ-loop : tie.MeasureT-loop
 μ-loop s₀ m n swaps₀ min-nrows-ncols counts₀ i₀ s swaps counts i = min-nrows-ncols - i
 
--- a small square matrix by itself
-square : (c : tie.Then1 Inv-loop μ-loop) → let g = c .before .before .before .args in (isMatrix (g .s .now) (g .n) (g .n) ≡ true) × (g .m ≡ g .n)
-square c =
-    let g = c .before .before .before .args in
-    let same : g .m ≡ g .n = eqb-true _ _ (and-first _ _ (c .if1 .taken)) in
-    (sym (ap (λ k. isMatrix (g .s .now) k (g .n)) same) ∙ c .before .before .before .pre .0, same)
-
-square-steps-requires : tie.Need-square-steps-requires Inv-loop μ-loop
-square-steps-requires c κs = (square (c .before .before) .0, c .before .before .before .before .before .pre .1)
-
-returns : tie.Need-returns Inv-loop μ-loop
-returns c =
-    let at-call = c .before .before .before .before in
-    let at-square = at-call .before .before .before in
-    let g = at-square .before .before .before .args in
-    subst (λ k. Held (at-call .square-steps .last .0) k (g .n) (at-call .square-steps .last .1 .1 .0) (at-call .square-steps .result .pairs)
-    (eliminate k (columns k (g .n) (g .s .now))) × (at-call .square-steps .result .tossed ≡ tossUps k (columns k (g .n) (g .s .now))))
-    (sym (square at-square .1)) (at-call .square-steps .ensures)
-
 loop-holds : tie.Need-loop-holds Inv-loop μ-loop
-loop-holds c = let g = c .before .before .before .before .args in
-    let size = sized g.m g.n (g .s .now) (c .before .before .before .before .pre .0) .size in (
+loop-holds c = let g = c .before .before .before .args in
+    let size = sized g.m g.n (g .s .now) (c .before .before .before .pre .0) .size in (
       refl,
       refl,
       omega arith,
@@ -61,7 +39,7 @@ loop-holds c = let g = c .before .before .before .before .args in
       (
         unfactored (columns g.m g.n (g .s .now)),
         (
-          held-unfactored g.m g.n (g .s .now) (g .swaps .now) size (c .before .before .before .before .pre .1),
+          held-unfactored g.m g.n (g .s .now) (g .swaps .now) size (c .before .before .before .pre .1),
           steps-begin g.m g.n (g .s .now),
           zero-add (tossFrom 0 (min g.m g.n - 0) (unfactored (columns g.m g.n (g .s .now)))) ∙ toss-begin g.m g.n (g .s .now),
         ),
@@ -72,16 +50,16 @@ sub-loop : tie.Need-sub-loop Inv-loop μ-loop
 sub-loop c = rw (c .before .min .ensures) (c .loop .inv .2)
 
 -- more than eight steps are left
-left : (c : tie.In-loop Inv-loop μ-loop) → let g = c .before .before .before .before .before .before .args in
+left : (c : tie.In-loop Inv-loop μ-loop) → let g = c .before .before .before .before .before .args in
     (c .before .loop .i + 4 ≤ min (g .m) (g .n)) × (c .before .before .min .result ≡ min (g .m) (g .n)) × (g .m ≤ 64)
 left c =
     let e = c .before .before .min .ensures in
-    (omega (arith, e, c .loop-test .taken), e, sized _ _ _ (c .before .before .before .before .before .before .pre .0) .rows-most)
+    (omega (arith, e, c .loop-test .taken), e, sized _ _ _ (c .before .before .before .before .before .pre .0) .rows-most)
 
 factor-panel-requires : tie.Need-factor-panel-requires Inv-loop μ-loop
 factor-panel-requires c κs =
     let at-loop = c .before .before .before in
-    let pre = at-loop .before .before .before .before .before .pre in
+    let pre = at-loop .before .before .before .before .pre in
     let inv = at-loop .loop .inv in
     let few = left (c .before .before) .0 in
     ((omega arith, omega arith, inv .3 .0, inv .3 .1), (same-matrix _ _ _ _ (inv .0) ∙ (pre .0), inv .1 ∙ ap length (pre .1) ∙ length-store [] (omega arith)))
@@ -91,7 +69,7 @@ loop-again c =
     let at-factor-panel = c .before .before .before .before in
     let at-turn = at-factor-panel .before .before .before in
     let at-loop = at-turn .before in
-    let g = at-loop .before .before .before .before .before .args in
+    let g = at-loop .before .before .before .before .args in
     let l = at-loop .loop in
     let k = at-factor-panel .factor-panel in
     let i = l .i in
@@ -127,18 +105,18 @@ loop-again c =
 factor-steps-requires : tie.Need-factor-steps-requires Inv-loop μ-loop
 factor-steps-requires c κs =
     let at-loop = c .before .before .before in
-    let pre = at-loop .before .before .before .before .before .pre in
+    let pre = at-loop .before .before .before .before .pre in
     let inv = at-loop .loop .inv in
     let e = at-loop .before .min .ensures in (
       (omega (arith, inv .2), omega arith, omega arith, inv .3 .0, inv .3 .1),
       (same-matrix _ _ _ _ (inv .0) ∙ (pre .0), inv .1 ∙ ap length (pre .1) ∙ length-store [] (omega arith)),
     )
 
-returns-2 : tie.Need-returns-2 Inv-loop μ-loop
-returns-2 c =
+returns : tie.Need-returns Inv-loop μ-loop
+returns c =
     let at-factor-steps = c .before .before .before .before in
     let at-loop = c .before .before .before .before .before .before .before .before in
-    let g = at-loop .before .before .before .before .before .args in
+    let g = at-loop .before .before .before .before .args in
     let l = at-loop .loop in
     let k = at-factor-steps .factor-steps in
     let e = at-loop .before .min .ensures in
@@ -157,10 +135,6 @@ factor-in-place-spec =
     (tie.spec
     Inv-loop
     μ-loop
-    square-steps-requires
-    (λ c. search needs)
-    (λ c. search needs)
-    returns
     (λ c κs. search needs)
     loop-holds
     sub-loop
@@ -171,4 +145,4 @@ factor-in-place-spec =
     factor-steps-requires
     (λ c. search needs)
     (λ c. search needs)
-    returns-2)
+    returns)
