@@ -1,6 +1,4 @@
 // The ops on a panel file's bytes, which stand at the start of the lent store. Each puts its line into the text.
-ghost use Prim.Native.Nat.{_≤_};
-ghost use lib.ListN.{length};
 use cases::Case;
 use cases::bytes_within;
 use crossing_pads::Order;
@@ -11,13 +9,9 @@ use lines::put_front;
 use lines::put_scaled;
 use lines::put_shown;
 use lines::put_whole;
-use lines::put_wholes;
 use lines::put_word;
 use panel_file_writer::Written;
-use refusals::Answer;
 use scaled_determinant::ScaledDet;
-use season::Handed;
-use season::Season;
 
 // The digit of the refusal number in what a program prints, 0 where it prints pads or no reason.
 fn digit_of(answer: &[u8]) -> u8 {
@@ -117,52 +111,6 @@ fn write_file(text: &mut [u8], from: usize, case: Case, bytes: &mut [u8]) -> usi
     write_to(text, from, case.n, &a[..na], &b[..nb], &mut bytes[..k])
 }
 
-// Where a file ends that begins at a place and has so many bytes; at most the bytes' own end.
-fn end_of(bytes: &[u8], at: usize, count: usize) -> usize
-    requires { ⌜ at ≤ length (now bytes) ⌝ }
-    ensures { λ r. ⌜ (at ≤ r) × (r ≤ length (now (bytes .entry))) ⌝ }
-{
-    if count <= bytes.len() - at {
-        return at + count;
-    }
-    bytes.len()
-}
-
-// Hands the files with these lengths over to a season, the first first. Answers what the last one was answered.
-fn hand_over(lengths: &[usize], bytes: &[u8]) -> Handed {
-    let mut handed = Handed {
-        answer: Answer::Done,
-        season: Season::new(),
-    };
-    let mut at = 0;
-    let mut k = 0;
-    while k < lengths.len() {
-        let end = end_of(bytes, at, lengths[k]);
-        let season = handed.season;
-        handed = season.with_file(&bytes[at..end]);
-        at = end;
-        k += 1;
-    }
-    handed
-}
-
-// Puts the sixteen counts, without the number of files behind them.
-fn put_counts(text: &mut [u8], at: usize, counts: [usize; 17]) -> usize {
-    put_wholes(text, at, &counts[..16])
-}
-
-// Op 34.
-fn season_line(text: &mut [u8], from: usize, case: Case, bytes: &[u8]) -> usize {
-    let mut lengths = [0; cases::LIMIT];
-    let n = cases::wholes(bytes, cases::SWAPS, case.swaps, &mut lengths);
-    let handed = hand_over(&lengths[..n], bytes);
-    let answer = handed.answer;
-    let season = handed.season;
-    let at = put_whole(text, from, refusals::number_of(answer));
-    let bar = put_bar(text, at);
-    put_counts(text, bar, season.counts())
-}
-
 // Runs an op that reads a file.
 fn on_file(text: &mut [u8], from: usize, case: Case, file: &[u8]) -> usize {
     let op = case.op;
@@ -178,9 +126,6 @@ fn on_file(text: &mut [u8], from: usize, case: Case, file: &[u8]) -> usize {
 pub fn run(text: &mut [u8], from: usize, case: Case, bytes: &mut [u8]) -> usize {
     if case.op == 21 {
         return write_file(text, from, case, bytes);
-    }
-    if case.op == 34 {
-        return season_line(text, from, case, bytes);
     }
     let k = bytes_within(bytes, case.k);
     on_file(text, from, case, &bytes[..k])

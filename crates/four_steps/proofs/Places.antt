@@ -5,6 +5,8 @@ use mathlib.Core.Bool.{true}
 use mathlib.Core.List.{List, []}
 use Prim.Native.Nat.{ℕ, _+_, _*_, _≤_, _<_}
 use native.Mathlib.Omega.{arith}
+use mir.Syntax.{w64}
+use mir.Val.{Fits}
 use lib.ListN.{length, getD, set, length-set}
 use lib.Seq.{getD-set-same, set-set}
 use lib.Ieee.{Float, nan, neg, add, mul, binary64}
@@ -58,6 +60,15 @@ module _ (m n : ℕ) (s : List Float) where
         is-at i r (omega arith) hr,
         is-at j r hj hr,
       ) refl
+
+-- a place in a store that is so long, and short: in row r of the column that starts there
+pub record Placed (start r long : ℕ) : Type 0 where
+  pub sum : Fits w64 (start + r)
+  pub bytes : Fits w64 ((start + r) * 8)
+  pub inside : start + r < long
+
+pub placed : (m start r long : ℕ) → start + m ≤ long → r < m → long ≤ 4096 → Placed start r long
+placed m start r long ends h short = record { sum = omega arith; bytes = omega arith; inside = omega arith }
 
 -- the head's columns are there
 pub reaches : (m n i j : ℕ) (s : List Float) → isMatrix s m n ≡ true → i + 4 ≤ j → j < n → Reaches m i j (length s)

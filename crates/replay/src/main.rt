@@ -15,50 +15,18 @@ struct Place {
     going: bool,
 }
 
-// Runs an op on exactly the slices of its case, and puts its line.
-fn answer(
-    text: &mut [u8],
-    at: usize,
-    case: Case,
-    a: &[f64],
-    b: &[f64],
-    x: &mut [f64],
-    swaps: &mut [usize],
-) -> usize {
-    let line = factor_ops::run(case, a, b, x, swaps);
-    lines::put_line(text, at, line, x, swaps)
-}
-
-// Takes the slices of a case out of its bytes, and runs its op on them.
-fn on_slices(text: &mut [u8], at: usize, case: Case, bytes: &[u8]) -> usize {
-    let mut a = [0.0; cases::LIMIT];
-    let mut b = [0.0; cases::LIMIT];
-    let mut x = [0.0; cases::LIMIT];
-    let mut swaps = [0; cases::LIMIT];
-    let na = cases::floats(bytes, cases::A, case.a, &mut a);
-    let nb = cases::floats(bytes, cases::B, case.b, &mut b);
-    let nx = cases::floats(bytes, cases::X, case.x, &mut x);
-    let ns = cases::wholes(bytes, cases::SWAPS, case.swaps, &mut swaps);
-    answer(
-        text,
-        at,
-        case,
-        &a[..na],
-        &b[..nb],
-        &mut x[..nx],
-        &mut swaps[..ns],
-    )
-}
-
 // Puts the line of a case.
 fn one_case(text: &mut Text, at: usize, case: Case, bytes: &mut Bytes) -> usize {
     if (case.op == 32) | (case.op == 33) {
         return four_ops::run(text, at, case, bytes);
     }
+    if case.op == 34 {
+        return season_ops::run(text, at, case, bytes);
+    }
     if case.on_file {
         return file_ops::run(text, at, case, bytes);
     }
-    on_slices(text, at, case, bytes)
+    slice_ops::run(text, at, case, bytes)
 }
 
 // Puts what ends a line, and tells the place behind it.

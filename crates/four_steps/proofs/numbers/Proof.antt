@@ -1,4 +1,5 @@
 -- Row by row, by its number. Assumes nothing.
+use native.Mathlib.Omega.{arith}
 use borrow.Author.Needs.{needs}
 use Rattle.four_steps.proofs.Places.{four-read}
 use Rattle.four_steps.proofs.numbers.Statement.{statement}
@@ -15,11 +16,11 @@ pub numbers-spec : {M : Type 1} → statement M
 numbers-spec =
     tie.close
     (tie.spec
-    (λ c κs. search needs)
+    (λ c κs. let h = c .before .pre in (h .0, h .1, h .2, omega (arith, h .3)))
     (λ c. search needs)
-    (λ c κs. search needs)
+    (λ c κs. let h = c .before .before .pre in (h .0, h .1, h .2, omega (arith, h .3)))
     (λ c. search needs)
-    (λ c κs. search needs)
+    (λ c κs. let h = c .before .before .before .pre in (h .0, h .1, h .2, omega (arith, h .3)))
     (λ c. search needs)
-    (λ c κs. search needs)
+    (λ c κs. let h = c .before .before .before .before .pre in (h .0, h .1, h .2, omega (arith, h .3)))
     returns)

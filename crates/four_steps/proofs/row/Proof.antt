@@ -27,7 +27,7 @@ row-spec =
     tie.close
     (tie.spec
     (λ c. omega (arith, within (c .before)))
-    (λ c κs. search needs)
+    (λ c κs. let h = c .before .before .pre in (h .0, h .1, h .2, h .4))
     (λ c. omega (arith, within (c .before .before .before)))
     (λ c. omega (arith, within (c .before .before .before)))
     (λ c. omega (arith, within (c .before .before .before)))

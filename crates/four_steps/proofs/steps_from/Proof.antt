@@ -24,7 +24,7 @@ steps-from-spec =
     tie.close
     (tie.spec
     (λ c. search needs)
-    (λ c κs. search needs)
+    (λ c κs. c .before .before .before .pre)
     (λ c. search needs)
     returns
     (λ c κs. search needs)

@@ -51,7 +51,7 @@ tail-spec =
     (tie.spec
     Inv-loop
     μ-loop
-    (λ c κs. search needs)
+    (λ c κs. let h = c .before .before .pre in (h .0, h .1, h .3))
     (λ c. search needs)
     loop-holds
     row-requires

@@ -112,8 +112,8 @@ two-by-four-spec =
     Inv-loop
     μ-loop
     (λ c. search needs)
-    (λ c κs. search needs)
-    (λ c κs. search needs)
+    (λ c κs. let h = c .before .before .pre in (h .0, h .1, omega (arith, h .3)))
+    (λ c κs. let h = c .before .before .before .before .pre in (h .0, h .1, h .3))
     (λ c. search needs)
     loop-holds
     (λ c. omega (arith, few c))

@@ -14,6 +14,11 @@ returns c =
     let size = sized _ _ _ (h .0) .size in
     both-left _ _ _ _ _ _ _ _ (h .2) (none-left _ _ _ _ _ _ size (omega arith) (c .if1 .taken)) (none-left _ _ _ _ _ _ size (h .3) (c .if1 .taken))
 
+row-requires : tie.Need-row-requires
+row-requires c κs =
+    let at-if1 = c .before .before .before in
+    let h = at-if1 .before .before .pre in (h .0, h .2, omega (arith, h .3), h .4, at-if1 .if1 .left, c .before .minus .ensures)
+
 minus-requires-2 : tie.Need-minus-requires-2
 minus-requires-2 c κs =
     let at-row = c .before .before .before in
@@ -46,8 +51,8 @@ two-by-one-spec =
     (tie.spec
     returns
     (λ c. search needs)
-    (λ c κs. search needs)
-    (λ c κs. search needs)
+    (λ c κs. let h = c .before .before .before .pre in (h .0, h .1, omega (arith, h .3)))
+    row-requires
     minus-requires-2
     row-requires-2
     (λ c. search needs)

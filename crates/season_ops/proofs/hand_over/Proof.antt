@@ -1,10 +1,10 @@
--- `file_ops::hand_over` is safe and ends: the next file begins within the bytes. The measure is the number of files that are left. Assumes nothing.
+-- `season_ops::hand_over` is safe and ends: the next file begins within the bytes. The measure is the number of files that are left. Assumes nothing.
 use Prim.Native.Nat.{_-_, _≤_}
 use native.Mathlib.Omega.{arith}
 use borrow.Author.Needs.{needs}
 use lib.ListN.{length}
-use Rattle.file_ops.proofs.hand_over.Statement.{statement}
-use Rattle.file_ops.proofs.hand_over.Tie as tie
+use Rattle.season_ops.proofs.hand_over.Statement.{statement}
+use Rattle.season_ops.proofs.hand_over.Tie as tie
 
 abbrev Inv-loop : tie.InvT-loop
 Inv-loop lengths bytes handed₀ at₀ k₀ handed at k = at ≤ length bytes

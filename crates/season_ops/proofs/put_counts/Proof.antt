@@ -1,11 +1,11 @@
--- `file_ops::put_counts` is safe and ends: sixteen of seventeen. Assumes nothing.
+-- `season_ops::put_counts` is safe and ends: sixteen of seventeen. Assumes nothing.
 use native.Mathlib.Omega.{arith}
 use borrow.Author.Needs.{needs}
 use borrow.Kind.Array.{eInt, good-length}
 use mir.Syntax.{w64}
 use lib.ListN.{length-take}
-use Rattle.file_ops.proofs.put_counts.Statement.{statement}
-use Rattle.file_ops.proofs.put_counts.Tie as tie
+use Rattle.season_ops.proofs.put_counts.Statement.{statement}
+use Rattle.season_ops.proofs.put_counts.Tie as tie
 
 slice-aggregate-put-wholes : tie.Need-slice-aggregate-put-wholes
 slice-aggregate-put-wholes c =
