@@ -1,7 +1,8 @@
 // Times a season beside reading its files: wejdarox_with_file, file after file, for panel files of so many pads that this program makes.
-//   season FOLDER PADS FILES PASSES   makes the files in FOLDER, then prints lines "WHAT PADS FILES NANOSECONDS" for more and more files, up to all of them
-// WHAT is read (opened, read, closed), season (read and handed over), handed (the bytes are in memory) or refused (the same with a NaN as the last number: what the
-// library's reader takes). The files are gone through in parts; what counts of a part is its least time over the passes, so that other work on the machine counts little.
+//   season FOLDER PADS FILES PASSES   makes the files in FOLDER, then prints lines "WHAT PADS FILES NANOSECONDS" for more and more of them
+// WHAT is read (opened, read, closed), season (read and handed over), handed (the bytes are in memory) or refused (the same with a NaN as the last
+// number: what the library's reader takes). The files are gone through in parts. What counts of a part is its least time over the passes, so that
+// other work on the machine counts little.
 #include "wejdarox.h"
 #include <errno.h>
 #include <fcntl.h>
