@@ -13,7 +13,7 @@
 #include <time.h>
 #include <unistd.h>
 
-enum { HEAD = 6, LARGEST = HEAD + 8 * (64 * 64 + 64), PARTS = 40, IN_MEMORY = 16 };
+enum { HEAD = 6, LARGEST = HEAD + 8 * (64 * 64 + 64), PARTS = 400, IN_MEMORY = 16 };
 
 // What is timed: the folder with its files, some of them in memory, and the same with a NaN at their ends.
 static const char *folder;
