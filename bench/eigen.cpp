@@ -1,4 +1,5 @@
-// The peer Eigen for the program in C: PartialPivLU with run-time sizes, over stores that are allocated once; and for four pads with sizes that the compiler knows.
+// The peer Eigen for the program in C: PartialPivLU with run-time sizes, over stores that are allocated once; for four pads with sizes that the
+// compiler knows.
 #include <Eigen/Dense>
 #include <cstddef>
 
