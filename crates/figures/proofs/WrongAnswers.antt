@@ -18,7 +18,7 @@ use Rattle.dead_columns.specs.Dead.{zeroCount, deadFrom, deadIn, deadOf}
 use Rattle.refusals.specs.Outcome.{Outcome, done, firstOf, tested, Call}
 use Rattle.refusals.specs.Refusals.{outside, seventh}
 use Rattle.refusals.proofs.Strength.{OneOutcome, one-outcome, ShutsOut, shut-out, BothShutOut, both, Strong, strong, done-refused}
-use Rattle.solve_by_rows.specs.Rows.{passOf}
+use Rattle.solve_by_rows.specs.Rows.{passOf, bothPasses}
 use Rattle.triangular_passes.specs.declared.Pass.{Pass}
 use Rattle.triangular_passes.specs.declared.Pass.the-variants.{Lower, Upper, GivenDiagonal, TransposedLower, TransposedUpper, CorrectedDiagonal}
 use Rattle.triangular_passes.specs.Triangular.{lowerRow, upperRow, keptRow, transposedLowerRow, transposedUpperRow, solvedRow, turn, solvedColumn, solvedFrom}
@@ -141,6 +141,19 @@ unfolding solves
 solve-in-place-by-rows =
     strong inRows (true, (1, (1, (n2 ∷ [], n4 ∷ [])))) (true, (1, (1, (n2 ∷ [], n8 ∷ [])))) (λ d. let z : _≡_ {A = ℕ} 0 1 = cc in omega arith)
     (shut-out inRows (λ x. x .1 .1 .1 .1) (true, (1, (1, (n2 ∷ [], n4 ∷ [])))) (λ d. let z : _≡_ {A = ℕ} 0 1 = cc in omega arith))
+
+-- both passes over one right-hand column: the same always; and the lower pass left out, which shows below a multiplier that is not zero
+abbrev oneColumn : Column × (ℕ × Column) → Column
+oneColumn x = bothPasses (x .0) (x .1 .0) (x .1 .1)
+
+abbrev upperAlone : Column × (ℕ × Column) → Column
+upperAlone x = solvedInPlace Upper (x .0) (x .1 .0) (x .1 .1) 1
+
+pub solve-one : Strong oneColumn (ShutsOut oneColumn upperAlone)
+unfolding solves
+solve-one =
+    strong oneColumn (n2 ∷ [], (1, n4 ∷ [])) (n2 ∷ [], (1, n8 ∷ [])) (λ d. let z : _≡_ {A = ℕ} 0 1 = cc in omega arith)
+    (shut-out oneColumn upperAlone (n1 ∷ n1 ∷ n0 ∷ n1 ∷ [], (2, n1 ∷ n2 ∷ [])) (λ d. let z : _≡_ {A = ℕ} 0 1 = cc in omega arith))
 
 -- the same always; and the first entry alone tested
 abbrev zeroThere : ℕ × Column → Bool
