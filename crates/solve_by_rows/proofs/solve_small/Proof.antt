@@ -13,15 +13,18 @@ block-down-requires c κs = let at-start = c .before .before .before .before .be
 block-up-requires : tie.Need-block-up-requires
 block-up-requires c κs =
     let at-down = c .before .before .before .before .before in
-    let at-start = at-down .before .before .before .before .before .before in
+    let at-arm = at-down .before .before .before in
+    let at-start = at-arm .before .before .before in
     whole-may _ _ (omega (arith, at-start .pre)) _ (at-start .pre .0) _ _ (at-down .block-down .kept .1 .1 .0 ∙ at-start .pre .1)
     (at-down .block-down .kept .1 .1 .1 .1 .0)
 
 returns : tie.Need-returns
 returns c =
     let at-up = c .before .before .before in
-    let at-down = at-up .before .before .before .before .before .before in
-    let at-start = at-down .before .before .before .before .before .before in
+    let at-lent = at-up .before .before .before in
+    let at-down = at-lent .before .before .before in
+    let at-arm = at-down .before .before .before in
+    let at-start = at-arm .before .before .before in
     both-blocks _ _ (omega (arith, at-start .pre)) _ (at-start .pre .0) _ _ _ _ _ refl (at-down .block-down .kept .1 .1 .1 .1 .0) (at-start .pre .1)
     (at-down .block-down .kept .1 .1 .0) (at-down .before .before .before .before .slice-known .given)
     (at-up .before .before .before .before .slice-known2 .given) (at-down .block-down .ensures)
@@ -34,15 +37,18 @@ block-down-requires-2 c κs = let at-start = c .before .before .before .before .
 block-up-requires-2 : tie.Need-block-up-requires-2
 block-up-requires-2 c κs =
     let at-down = c .before .before .before .before .before in
-    let at-start = at-down .before .before .before .before .before .before in
+    let at-arm = at-down .before .before .before in
+    let at-start = at-arm .before .before .before in
     whole-may _ _ (omega (arith, at-start .pre)) _ (at-start .pre .0) _ _ (at-down .block-down2 .kept .1 .1 .0 ∙ at-start .pre .1)
     (at-down .block-down2 .kept .1 .1 .1 .1 .0)
 
 returns-2 : tie.Need-returns-2
 returns-2 c =
     let at-up = c .before .before .before in
-    let at-down = at-up .before .before .before .before .before .before in
-    let at-start = at-down .before .before .before .before .before .before in
+    let at-lent = at-up .before .before .before in
+    let at-down = at-lent .before .before .before in
+    let at-arm = at-down .before .before .before in
+    let at-start = at-arm .before .before .before in
     both-blocks _ _ (omega (arith, at-start .pre)) _ (at-start .pre .0) _ _ _ _ _ refl (at-down .block-down2 .kept .1 .1 .1 .1 .0) (at-start .pre .1)
     (at-down .block-down2 .kept .1 .1 .0) (at-down .before .before .before .before .slice-known .given)
     (at-up .before .before .before .before .slice-known4 .given) (at-down .block-down2 .ensures)
@@ -55,15 +61,18 @@ block-down-requires-3 c κs = let at-start = c .before .before .before .before .
 block-up-requires-3 : tie.Need-block-up-requires-3
 block-up-requires-3 c κs =
     let at-down = c .before .before .before .before .before in
-    let at-start = at-down .before .before .before .before .before .before in
+    let at-arm = at-down .before .before .before in
+    let at-start = at-arm .before .before .before in
     whole-may _ _ (omega (arith, at-start .pre)) _ (at-start .pre .0) _ _ (at-down .block-down3 .kept .1 .1 .0 ∙ at-start .pre .1)
     (at-down .block-down3 .kept .1 .1 .1 .1 .0)
 
 returns-3 : tie.Need-returns-3
 returns-3 c =
     let at-up = c .before .before .before in
-    let at-down = at-up .before .before .before .before .before .before in
-    let at-start = at-down .before .before .before .before .before .before in
+    let at-lent = at-up .before .before .before in
+    let at-down = at-lent .before .before .before in
+    let at-arm = at-down .before .before .before in
+    let at-start = at-arm .before .before .before in
     both-blocks _ _ (omega (arith, at-start .pre)) _ (at-start .pre .0) _ _ _ _ _ refl (at-down .block-down3 .kept .1 .1 .1 .1 .0) (at-start .pre .1)
     (at-down .block-down3 .kept .1 .1 .0) (at-down .before .before .before .before .slice-known .given)
     (at-up .before .before .before .before .slice-known6 .given) (at-down .block-down3 .ensures)

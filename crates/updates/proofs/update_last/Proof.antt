@@ -21,7 +21,7 @@ returns-2 : tie.Need-returns-2
 returns-2 c = on-none _ _ _ _ (sym (c .before .is-matrix .ensures) ∙ not-true _ (c .if2 .taken))
 
 -- past the tests
-fits : (c : tie.After-min) → let g = c .before .before .before .before .before .before .args in isMatrix (g .s .now) (g .m) (g .n + 1) ≡ true
+fits : (c : tie.After-min) → let at-if1 = c .before .before .before in let g = at-if1 .before .before .before .args in isMatrix (g .s .now) (g .m) (g .n + 1) ≡ true
 fits c = sym (c .before .before .is-matrix .ensures) ∙ not-false _ (c .before .if2 .left)
 
 update-each-requires : tie.Need-update-each-requires
@@ -33,7 +33,8 @@ returns-3 : tie.Need-returns-3
 returns-3 c =
     let at-call = c .before .before in
     let at-min = at-call .before .before .before in
-    let g = at-min .before .before .before .before .before .before .args in
+    let at-if1 = at-min .before .before .before in
+    let g = at-if1 .before .before .before .args in
     let all : at-min .min .result - 0 ≡ min (g .m) (g .n) = omega (arith, at-min .min .ensures) in
     last-made _ _ _ _ (fits at-min) (at-call .update-each .kept .0)
     (at-call .update-each .ensures ∙ ap (λ k. turnsFrom (updatedAt (g .n)) 0 k (columns (g .m) (g .n + 1) (g .s .now))) all)
