@@ -1,5 +1,5 @@
-// Prints the bytes of stack that the calls take at 64 pads, and those of four pads at four: the stack below the caller is painted, the call is made, and what it wrote over is
-// counted, less what an empty call writes. A program for x86-64 that needs no C library, so that an emulator can run it.
+// Prints the bytes of stack that the calls take at 64 pads, and those of four pads at four: the stack below the caller is painted, the call is made, and
+// what it wrote over is counted, less what an empty call writes. A program for x86-64 that needs no C library, so that an emulator can run it.
 #include "wejdarox.h"
 
 typedef unsigned char byte;

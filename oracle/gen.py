@@ -89,7 +89,8 @@ put('solve.rs',
     cut(L + 'solve.rs', 1, 1), cut(L + 'solve.rs', 4, 9),
     '// CUT solve.rs 10-441 (whole impl block)\n', cut(L + 'solve.rs', 10, 441))
 put('min_max.rs',
-    '// ADDED header\nuse crate::base::dimension::Dim;\nuse crate::base::storage::RawStorage;\nuse crate::base::{Scalar, Vector};\nuse simba::scalar::ComplexField;\n',
+    '// ADDED header\nuse crate::base::dimension::Dim;\nuse crate::base::storage::RawStorage;\n'
+    'use crate::base::{Scalar, Vector};\nuse simba::scalar::ComplexField;\n',
     '// CUT min_max.rs 204-240\n', cut(B + 'min_max.rs', 204, 240), '} // ADDED\n')
 put('blas.rs',
     '// ADDED header\nuse crate::base::blas_uninit::axcpy_uninit;\nuse crate::base::constraint::{DimEq, ShapeConstraint};\n'

@@ -650,7 +650,8 @@ def idle():
     """Loads with zeros of either sign among them, with none and with nothing else; the least loads; with and without all pads."""
     least = 2.0 ** -1074
     for all_pads in (0, 1, 2, 2 ** 32, 2 ** 63, 2 ** 64 - 1):
-        for loads in ((0.0, 1.0, -0.0), (0.0,), (-0.0,), (least,), (-least, 0.0), (-0.0, 0.0, 0.0, -0.0), (0.0, least, -0.0, -least), (2.0, 0.0, -2.0, -0.0, 2.0)):
+        for loads in ((0.0, 1.0, -0.0), (0.0,), (-0.0,), (least,), (-least, 0.0), (-0.0, 0.0, 0.0, -0.0), (0.0, least, -0.0, -least),
+                      (2.0, 0.0, -2.0, -0.0, 2.0)):
             yield Case(19, all_pads, len(loads), 0, [doubles(*loads), array('Q', range(7, 7 + len(loads)))])
 
 
@@ -808,7 +809,8 @@ def seasons():
     yield season_case([by_diagonal(2.0 ** 600, 1.0)])
     yield season_case([by_diagonal(1.0, -(2.0 ** -600)), by_diagonal(-1.0, 2.0 ** -600), by_diagonal(-(2.0 ** 600), 2.0 ** -600, 1.0)])
     yield season_case([idle, idle, good, panel(2, doubles(1.0, 0.0, 0.0, 1.0, 0.0, -0.0))])
-    yield season_case([panel(2, doubles(2.0 ** -700, 0.0, 0.0, 0.0, 1.0, 1.0)), panel(1, doubles(2.0 ** -1000, 2.0 ** 100))])      # refused by the solve: no band
+    # refused by the solve: no band
+    yield season_case([panel(2, doubles(2.0 ** -700, 0.0, 0.0, 0.0, 1.0, 1.0)), panel(1, doubles(2.0 ** -1000, 2.0 ** 100))])
     yield season_case([panel(2, doubles(2.0 ** -1024, 0.0, 0.0, 0.0, 5.0, 8.0))])
     for count in (3999, 4000, 4001):
         yield season_case([good] + [b''] * (count - 2) + [idle])
@@ -854,7 +856,8 @@ def fixed():
     """All of them, as generators: makers ask the oracle."""
     for _, case, _ in table():
         yield done(case)
-    for case in (*(four(*numbers) for numbers in crossings_of_four()), *added(), *given(), *tossed(), *removed(), *transposed(), *dead(), *kept(), *explained(), *scaled()):
+    for case in (*(four(*numbers) for numbers in crossings_of_four()), *added(), *given(), *tossed(), *removed(), *transposed(), *dead(), *kept(),
+                 *explained(), *scaled()):
         yield done(case)
     for op in OPS:
         if op in (20, 29):

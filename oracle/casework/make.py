@@ -10,7 +10,8 @@ from .wire import Case, FLOATS, HELD, LONGEST, OPS, hexes, unhex
 
 # how often each op comes in a round
 TURNS = {1: 4, 2: 4, 3: 3, 4: 2, 5: 2, 6: 2, 7: 4, 8: 4, 9: 2, 10: 2, 11: 2, 12: 3, 13: 3,
-         14: 4, 15: 4, 16: 4, 17: 4, 18: 2, 19: 2, 20: 2, 21: 2, 22: 4, 23: 2, 24: 2, 25: 3, 26: 2, 27: 4, 28: 4, 29: 3, 30: 3, 31: 2, 32: 3, 33: 3, 34: 2, 35: 4}
+         14: 4, 15: 4, 16: 4, 17: 4, 18: 2, 19: 2, 20: 2, 21: 2, 22: 4, 23: 2, 24: 2, 25: 3, 26: 2, 27: 4, 28: 4,
+         29: 3, 30: 3, 31: 2, 32: 3, 33: 3, 34: 2, 35: 4}
 ROUND = [(op, turn) for turn in range(max(TURNS.values())) for op in TURNS if turn < TURNS[op]]
 
 JUNK = [0, 1, 63, 64, 65, 255, 2 ** 32, 2 ** 63, 2 ** 64 - 1]
@@ -345,7 +346,8 @@ MAKERS = {1: make_factor, 2: make_add, 3: make_solve, 4: make_square, 5: make_sq
           27: make_why_factor, 28: make_why_solve, 29: make_why_file, 30: make_scaled, 31: make_stiffness, 32: make_four,
           33: make_four_file, 34: make_season,
           35: make_factor}
-SQUARE = (3, 4, 5, 6, 9, 10, 11, 12, 13, 19, 20, 21, 24, 25, 26, 28, 29, 30, 31, 32, 33, 34)      # ops whose two sizes are the matrix's and the right-hand columns'
+# ops whose two sizes are the matrix's and the right-hand columns'
+SQUARE = (3, 4, 5, 6, 9, 10, 11, 12, 13, 19, 20, 21, 24, 25, 26, 28, 29, 30, 31, 32, 33, 34)
 
 
 # ---- faults: each changes a good case in place; the rules say what the changed case gives

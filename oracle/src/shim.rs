@@ -177,10 +177,22 @@ where DefaultAllocator: Allocator<RF, CF, Buffer<T> = VecStorage<T, RF, CF>> + A
 
 // ---------- ranges ----------
 pub trait DimRange { type Size: Dim; fn begin(&self) -> usize; fn size(&self, n: usize) -> Self::Size; }
-impl DimRange for usize { type Size = U1; fn begin(&self) -> usize { *self } fn size(&self, n: usize) -> U1 { assert!(*self < n); crate::base::dimension::Const::<1> } }
-impl DimRange for RangeFrom<usize> { type Size = Dyn; fn begin(&self) -> usize { self.start } fn size(&self, n: usize) -> Dyn { assert!(self.start <= n); Dyn(n - self.start) } }
+impl DimRange for usize {
+    type Size = U1;
+    fn begin(&self) -> usize { *self }
+    fn size(&self, n: usize) -> U1 { assert!(*self < n); crate::base::dimension::Const::<1> }
+}
+impl DimRange for RangeFrom<usize> {
+    type Size = Dyn;
+    fn begin(&self) -> usize { self.start }
+    fn size(&self, n: usize) -> Dyn { assert!(self.start <= n); Dyn(n - self.start) }
+}
 impl DimRange for RangeTo<usize> { type Size = Dyn; fn begin(&self) -> usize { 0 } fn size(&self, n: usize) -> Dyn { assert!(self.end <= n); Dyn(self.end) } }
-impl DimRange for Range<usize> { type Size = Dyn; fn begin(&self) -> usize { self.start } fn size(&self, n: usize) -> Dyn { assert!(self.start <= self.end && self.end <= n); Dyn(self.end - self.start) } }
+impl DimRange for Range<usize> {
+    type Size = Dyn;
+    fn begin(&self) -> usize { self.start }
+    fn size(&self, n: usize) -> Dyn { assert!(self.start <= self.end && self.end <= n); Dyn(self.end - self.start) }
+}
 
 fn vw<'a, T, R: Dim, C: Dim, RS: Dim, CS: Dim>(ptr: *const T, shape: (R, C), strides: (RS, CS)) -> MatrixView<'a, T, R, C, RS, CS> {
     Matrix { data: ViewStorage { ptr, shape, strides, _p: PhantomData }, _p: PhantomData }

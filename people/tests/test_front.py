@@ -360,7 +360,8 @@ class Words(Front):
         self.variables.update(CALLS=self.work + "/calls", STAND_INS=self.stand_ins)
         put(self.top + "/bad.csv", "1,x\n")
         put(self.top + "/crates/panel_write/src/main.rt", "source\n", 0o644)
-        for words in (["--sheet", "-x"], ["--sheet", "people"], ["--sheet", "nothing", "no more"], ["--csv", "nothing"], ["--make", "bad.csv", "new.lxp"], ["--make", "nothing", "new.lxp"],
+        for words in (["--sheet", "-x"], ["--sheet", "people"], ["--sheet", "nothing", "no more"], ["--csv", "nothing"],
+                      ["--make", "bad.csv", "new.lxp"], ["--make", "nothing", "new.lxp"],
                       ["--sheet", "--example", "--html", "VERSION"], ["--season", "--html", "out.html", "nothing"]):
             self.assertEqual(self.run_front(*words)[:2], (2, ""), words)
             self.assertEqual(os.path.exists(self.work + "/calls"), False, "a bad question builds nothing")

@@ -57,7 +57,8 @@ class Notes(unittest.TestCase):
         """A singular matrix that rounding hides is told by its least pivot, with the determinant."""
         file = panel([[1.0, 4.0, 7.0], [2.0, 5.0, 8.0], [3.0, 6.0, 9.0]], [1.0, 2.0, 4.0])
         told = noted(file)
-        self.assertTrue(told.startswith("The least pivot is 1.1102230246251565e-16, and the greatest number of the matrix 9. The crossing may be nearly singular"))
+        self.assertTrue(told.startswith("The least pivot is 1.1102230246251565e-16, and the greatest number of the matrix 9. "
+                                        "The crossing may be nearly singular"))
         self.assertIn("about 6.7e-16", told)
         self.assertEqual(noted(file, "panel_pivots"), "", "nothing is said of what nobody counted")
 

@@ -1,5 +1,5 @@
-//! The C calls of include/wejdarox.h, each lent slices. A slice is valid and apart from every `&mut`, which is all that the calls ask of their caller; every size,
-//! length, swap list and number is tested by the call itself. Each answers a refusal's number, 0 for none.
+//! The C calls of include/wejdarox.h, each lent slices. A slice is valid and apart from every `&mut`, which is all that the calls ask of their caller;
+//! every size, length, swap list and number is tested by the call itself. Each answers a refusal's number, 0 for none.
 #![allow(unsafe_code)]
 
 mod c {

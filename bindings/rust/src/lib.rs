@@ -1,7 +1,7 @@
 //! LU decomposition with row pivoting of small `f64` matrices, by the proved static library of this repository.
 //!
-//! Matrices lie column after column, with 1 to 64 rows and up to 64 columns. Sizes, lengths and numbers may be anything: what cannot be answered is refused with
-//! a [`Refusal`], and nothing here panics. The numbers under "Errors" are those of [`Refusal::number`]. Without the feature
+//! Matrices lie column after column, with 1 to 64 rows and up to 64 columns. Sizes, lengths and numbers may be anything: what cannot be answered is refused
+//! with a [`Refusal`], and nothing here panics. The numbers under "Errors" are those of [`Refusal::number`]. Without the feature
 //! `std`, which adds files on a disk, only `core` and `alloc` are used. See `examples/pads.rs`.
 #![cfg_attr(not(test), no_std)]
 #![deny(unsafe_code)]
@@ -582,7 +582,8 @@ pub fn four_pads_of(file: &[u8]) -> Result<FourPads, Refusal> {
     FourPads::told(calls::four_pads_of(file, &mut out), out)
 }
 
-/// The figures of a season: panel files are handed over one at a time, at most 4,000, and counted by what becomes of them. The order of the files does not matter.
+/// The figures of a season: panel files are handed over one at a time, at most 4,000, and counted by what becomes of them. The order of the files does not
+/// matter.
 ///
 /// ```
 /// let season = wejdarox::Season::new().with_file(b"no panel file")?;
