@@ -21,7 +21,8 @@ returns-2 : tie.Need-returns-2
 returns-2 c = on-none _ _ _ _ (sym (c .before .is-matrix .ensures) ∙ not-true _ (c .if2 .taken))
 
 -- past the tests
-fits : (c : tie.After-min) → let at-if1 = c .before .before .before in let g = at-if1 .before .before .before .args in isMatrix (g .s .now) (g .m) (g .n + 1) ≡ true
+fits : (c : tie.After-min) → let at-if1 = c .before .before .before in let g = at-if1 .before .before .before .args in
+    isMatrix (g .s .now) (g .m) (g .n + 1) ≡ true
 fits c = sym (c .before .before .is-matrix .ensures) ∙ not-false _ (c .before .if2 .left)
 
 update-each-requires : tie.Need-update-each-requires
