@@ -1,4 +1,6 @@
 // Document 01, "Adding a column": one column more for the factors of `lu`.
+#![tactic(auto)]
+
 ghost use Rattle.std.specs.Prelude.{◌≡◌, true, cond, ◌+◌, ◌*◌, ◌≤◌, min, length};
 ghost use Rattle.min_max.specs.TossUp.{toss_up};
 ghost use Rattle.store.specs.Columns.{columns, is_matrix};
@@ -12,7 +14,7 @@ use factors::{Asks, Record};
 use min_max::FoundPivot;
 
 // What adding a column answers: the new record with 0 or 1 for a toss-up of its own pivot, or a refusal's number with the old record.
-#[derive(Drop)]
+#[derive(Clone, Copy)]
 pub enum Added {
     Accepted { told: Record, toss_ups: usize },
     Refused { number: usize, told: Record },

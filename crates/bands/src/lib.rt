@@ -1,4 +1,6 @@
 // Document 02, request 13: the band of a crossing, by the least magnitude on the diagonal of its factors.
+#![tactic(auto)]
+
 ghost use Rattle.std.specs.Prelude.{◌≡◌, true, not, T};
 ghost use Rattle.std.specs.Float.Ieee.{is_nan};
 ghost use Rattle.store.specs.Columns.{columns, is_matrix};

@@ -1,4 +1,6 @@
 // Arithmetic on single columns: base/blas.rs and base/blas_uninit.rs of nalgebra 0.35.0, for f64. Where sizes do not fit, a function leaves all as it was.
+#![tactic(auto)]
+
 ghost use Rattle.std.specs.Prelude.{◌≡◌, ◌≤◌, ◌-◌, length};
 ghost use Rattle.numbers.specs.Each.{each_from, turns_from};
 ghost use Rattle.numbers.specs.Column.{zeros};

@@ -1,4 +1,6 @@
 // Factors built up from no columns, one column added after another.
+#![tactic(auto)]
+
 ghost use Rattle.std.specs.Prelude.{◌≡◌, []};
 ghost use Rattle.factors.specs.Factors.{store_of};
 ghost use Rattle.lu.specs.Factoring.{factoring_refusal, factoring, factored, factoring_answer};

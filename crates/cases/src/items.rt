@@ -45,7 +45,7 @@ pub fn float_of(bits: u64) -> f64 {
 }
 
 // What was read of a slice: how many items it has, and whether they are all there.
-#[derive(Drop)]
+#[derive(Clone, Copy)]
 pub struct Items {
     pub count: usize,
     pub whole: bool,

@@ -1,5 +1,7 @@
 // A case of the list that stands on standard input: the op, three sizes, and the slices that the op takes. The bytes of the
 // slices go to a lent store, each kind of slice to its own room there; from there they are read as numbers.
+#![tactic(auto)]
+
 ghost use Rattle.std.specs.Prelude.{◌<◌};
 
 mod items;
@@ -24,7 +26,7 @@ pub const SWAPS: usize = 4;
 
 // A case: its op and sizes, how many items the slices a, b, x and swaps have, the numbers that stand in slices of one or two
 // items, and whether it has a slice of bytes. It is whole where nothing is missing and no slice has a count that it may not have.
-#[derive(Drop)]
+#[derive(Clone, Copy)]
 pub struct Case {
     pub op: u8,
     pub m: usize,
@@ -44,7 +46,7 @@ pub struct Case {
 }
 
 // The kinds of the slices that an op takes, at most five, in their order.
-#[derive(Drop)]
+#[derive(Clone, Copy)]
 struct Layout(u8, u8, u8, u8, u8);
 
 // No slice.
@@ -193,7 +195,7 @@ fn read(op: u8, bytes: &mut [u8]) -> Case {
 }
 
 // What stands next on standard input.
-#[derive(Drop)]
+#[derive(Clone, Copy)]
 pub enum Next {
     Whole(Case),
     Bad,

@@ -1,4 +1,6 @@
 // A crossing by its panel file: its matrix factored where it was read, and the quick check of its stiffness.
+#![tactic(auto)]
+
 ghost use Rattle.std.specs.Prelude.{◌≡◌, true, ◌*◌, ◌≤◌, length};
 ghost use Rattle.finite.specs.Finite.{all_finite};
 ghost use Rattle.refusals.specs.Outcome.{done, and_then};
@@ -13,14 +15,14 @@ use panel_file::Panel;
 use scaled_determinant::ScaledDet;
 
 // What a file's matrix answers once it is factored: the record of its factors and the number of toss-ups, or a refusal's number.
-#[derive(Drop)]
+#[derive(Clone, Copy)]
 pub enum Held {
     Factors { told: Record, toss_ups: usize },
     Refused(usize),
 }
 
 // What the quick check answers: the scaled determinant, or its refusal, and at how many columns the pivot was a toss-up, 0 where the matrix was not factored.
-#[derive(Drop)]
+#[derive(Clone, Copy)]
 pub struct QuickCheck {
     pub determinant: ScaledDet,
     pub toss_ups: usize,

@@ -1,5 +1,7 @@
 // The pads of a crossing, by its panel file: their order (document 01, "Ranking and program"), and how a pad's load moves with each reading (document 02,
 // request 5).
+#![tactic(auto)]
+
 ghost use Rattle.std.specs.Prelude.{◌≡◌, true, false, ◌-◌, ◌≤◌, length};
 ghost use Rattle.refusals.specs.Outcome.{done, refused, tested, and_then};
 ghost use Rattle.from_factors.specs.Solving.{unit_column};
@@ -12,7 +14,7 @@ use crossing::Held;
 use factors::Record;
 
 // What a call on a panel file answers: how many pads it has and at how many columns the pivot was a toss-up, or a refusal's number.
-#[derive(Drop)]
+#[derive(Clone, Copy)]
 pub enum Order {
     Pads { pads: usize, toss_ups: usize },
     Refused(usize),

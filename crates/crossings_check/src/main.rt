@@ -1,4 +1,5 @@
 // Prints what `panel_text::text` answers for each file of crossings/, under its name. The names are its ten arguments.
+#![tactic(auto)]
 
 // Prints the answer for an open file.
 fn print_answer(fd: i32) {

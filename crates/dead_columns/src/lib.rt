@@ -1,4 +1,6 @@
 // Document 02, request 7: how many columns of a matrix are dead, that is, have a zero of either sign on the diagonal.
+#![tactic(auto)]
+
 ghost use Rattle.std.specs.Prelude.{◌≡◌, ◌≤◌};
 ghost use Rattle.dead_columns.specs.Dead.{zero_count, dead_at, dead_of};
 

@@ -1,5 +1,7 @@
 // The exchanges that a swap list stands for, pair after pair, in the rows or the columns of a matrix that lies column after column in a slice: the passes
 // of linalg/permutation_sequence.rs of nalgebra 0.35.0, without the tests of a call.
+#![tactic(auto)]
+
 ghost use Rattle.std.specs.Prelude.{◌≡◌, true, [], ◌∷◌, ◌*◌, ◌≤◌, ◌<◌, length};
 ghost use Rattle.store.specs.Columns.{is_matrix, on_columns};
 ghost use Rattle.swap_list.specs.SwapList.{pairs_of, held};

@@ -1,5 +1,7 @@
 // The ops that make factors or change them: each hands to its call exactly the slices of its case, and tells what the call
 // answered. a and b are read; x and swaps are written. The ops that read factors, and those that need none, are handed on.
+#![tactic(auto)]
+
 use adding::Added;
 use cases::Case;
 use factors::Record;

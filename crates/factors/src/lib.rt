@@ -1,4 +1,6 @@
 // Factors as slices hold them: the record beside them, what every call on factors tests, and a swap recorded in the store.
+#![tactic(auto)]
+
 ghost use Rattle.std.specs.Prelude.{◌≡◌, cond, length, replicate};
 ghost use Rattle.refusals.specs.Outcome.{first_holding};
 ghost use Rattle.factors.specs.Factors.{pairs_with, store_with};
@@ -6,7 +8,7 @@ ghost use Rattle.factors.specs.Held.{dead_tests, held_refusal};
 
 // What factoring tells beside the lent factors and swap store: the sizes, the recorded pairs and the dead columns. Every call on factors takes the three
 // together.
-#[derive(Drop)]
+#[derive(Clone, Copy)]
 pub struct Record {
     pub rows: usize,
     pub columns: usize,
@@ -16,7 +18,7 @@ pub struct Record {
 
 // What a call on factors asks besides: a square matrix, one that can be solved, and that its further sizes, lengths and numbers, and what it asks of the
 // list, are good.
-#[derive(Drop)]
+#[derive(Clone, Copy)]
 pub struct Asks {
     pub square: bool,
     pub solves: bool,

@@ -1,5 +1,7 @@
 // The calls for C and Rust, under plain names: a slice is a pointer and a length, a refusal's number is the answer (0 for none), and a further number is
 // written through a pointer. Each hands its arguments on and adds nothing of its own; include/wejdarox.h is the caller's side.
+#![tactic(auto)]
+
 mod four;
 
 ghost use Rattle.std.specs.Prelude.{◌≡◌};

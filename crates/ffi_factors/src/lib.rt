@@ -1,5 +1,7 @@
 // More calls on factors for C and Rust, in the form of `ffi`: a slice is a pointer and a length, a refusal's number is the answer, and a further number is
 // written through a pointer. Each hands its arguments on and adds nothing of its own; include/wejdarox.h is the caller's side.
+#![tactic(auto)]
+
 ghost use Rattle.std.specs.Prelude.{◌≡◌};
 ghost use Rattle.refusals.specs.Outcome.{number_of};
 ghost use Rattle.factors.specs.Factors.{record_of, record_after};

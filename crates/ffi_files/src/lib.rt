@@ -1,5 +1,7 @@
 // The calls on panel files for C and Rust, in the form of `ffi`: a slice is a pointer and a length, a refusal's number is the answer, and a further number is
 // written through a pointer. A text has no refusal, and its answer is how many bytes it has. include/wejdarox.h is the caller's side.
+#![tactic(auto)]
+
 ghost use Rattle.std.specs.Prelude.{◌≡◌, length};
 ghost use Rattle.refusals.specs.Outcome.{number_of};
 ghost use Rattle.lu.specs.Factoring.{tossed_in};

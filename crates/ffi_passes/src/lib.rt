@@ -1,5 +1,7 @@
 // The triangular solves and the swap lists for C and Rust, in the form of `ffi`: a slice is a pointer and a length, a refusal's number is the answer, and a
 // further number is written through a pointer. Each hands its arguments on and adds nothing of its own; include/wejdarox.h is the caller's side.
+#![tactic(auto)]
+
 ghost use Rattle.std.specs.Prelude.{◌≡◌, true, false};
 ghost use Rattle.refusals.specs.Outcome.{number_of};
 ghost use Rattle.permutation_sequence.specs.Calls.{sign_of};

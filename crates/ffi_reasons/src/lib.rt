@@ -1,5 +1,7 @@
 // The explaining calls for C and Rust (document 02, request 8), in the form of `ffi`: the number that is told is the answer, the place is written through three
 // pointers. include/wejdarox.h is the caller's side.
+#![tactic(auto)]
+
 ghost use Rattle.std.specs.Prelude.{◌≡◌};
 ghost use Rattle.factors.specs.Factors.{record_of};
 ghost use Rattle.lu.specs.Factoring.{factoring};
@@ -11,7 +13,7 @@ use factors::Record;
 use why::{WhyFactor, WhySolve};
 
 // A reason as four numbers: the refusal's, and a place of three.
-#[derive(Drop)]
+#[derive(Clone, Copy)]
 struct Reason {
     number: usize,
     first: usize,

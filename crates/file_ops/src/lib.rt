@@ -1,4 +1,6 @@
 // The ops on a panel file's bytes, which stand at the start of the lent store. Each puts its line into the text.
+#![tactic(auto)]
+
 use cases::{Case, bytes_within};
 use crossing_pads::Order;
 use lines::{put, put_bar, put_bytes, put_front, put_scaled, put_shown, put_whole, put_word};

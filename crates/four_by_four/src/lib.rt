@@ -1,5 +1,7 @@
 // Four columns of four numbers, held by value, and their elimination. Every size is constant, so that the work stays in registers; what comes out is what the
 // general steps give, bit for bit.
+#![tactic(auto)]
+
 ghost use Rattle.std.specs.Prelude.{◌≡◌, ◌+◌, ◌<◌, ◌≤◌};
 ghost use Rattle.numbers.specs.Column.{entry};
 ghost use Rattle.min_max.specs.Pivot.{pivot_row};
@@ -9,11 +11,11 @@ ghost use Rattle.four_by_four.specs.System.{listed, matrix_of, Eliminated};
 ghost use Rattle.four_by_four.specs.Inner.{next_of, stepped_by, columns_by, Stepped};
 
 // A column's entries from row 0 down.
-#[derive(Drop)]
+#[derive(Clone, Copy)]
 pub struct Rows(pub f64, pub f64, pub f64, pub f64);
 
 // The columns, and the readings, which take part in the swaps.
-#[derive(Drop)]
+#[derive(Clone, Copy)]
 pub struct System {
     pub c0: Rows,
     pub c1: Rows,
@@ -23,14 +25,14 @@ pub struct System {
 }
 
 // The greatest magnitude so far, and its row.
-#[derive(Drop)]
+#[derive(Clone, Copy)]
 struct Found {
     top: f64,
     row: usize,
 }
 
 // A system after a step, and the row that was swapped with the step's.
-#[derive(Drop)]
+#[derive(Clone, Copy)]
 struct After {
     system: System,
     row: usize,
@@ -38,7 +40,7 @@ struct After {
 
 // A system after all steps, and the rows that the first three swapped with their own. The swaps are recorded from these where nothing can refuse any more:
 // recorded before the solve, the whole took 70 ns in a trial, and 55 so.
-#[derive(Drop)]
+#[derive(Clone, Copy)]
 pub struct Reduced {
     pub system: System,
     pub p: usize,

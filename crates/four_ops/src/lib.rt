@@ -1,4 +1,6 @@
 // The ops of the four-pad profile, on the bytes of their case. Each puts its line into the text.
+#![tactic(auto)]
+
 use cases::{Case, bytes_within};
 use four_pads::FourPads;
 use lines::{put_bar, put_front, put_whole, put_wholes};

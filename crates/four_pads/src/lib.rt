@@ -1,5 +1,7 @@
 // Document 02, request 11: the short panel with exactly four pads, its matrix held by value as four columns of four numbers. What comes out is what the general
 // path gives, bit for bit.
+#![tactic(auto)]
+
 ghost use Rattle.std.specs.Prelude.{◌≡◌};
 ghost use Rattle.store.specs.Columns.{flat};
 ghost use Rattle.four_by_four.specs.System.{listed, matrix_of, recorded_by};
@@ -10,7 +12,7 @@ use four_by_four::{Reduced, Rows, System};
 
 // What the profile answers: the refusal's number, 0 for none, the packed factors by column, how many swaps are recorded, their row numbers, two a pair and then
 // zeros, and the loads. A refusal's are zeros.
-#[derive(Drop)]
+#[derive(Clone, Copy)]
 pub struct FourPads {
     pub number: usize,
     pub factors: [f64; 16],
@@ -20,7 +22,7 @@ pub struct FourPads {
 }
 
 // How many swaps are recorded, and the front of the store that holds them.
-#[derive(Drop)]
+#[derive(Clone, Copy)]
 struct Pairs(usize, [usize; 8]);
 
 // A refusal's number, and zeros.

@@ -1,4 +1,6 @@
 // Document 02, request 11: the four-pad profile of a panel file. It is read into twenty numbers, and into no store for a greater one.
+#![tactic(auto)]
+
 ghost use Rattle.std.specs.Prelude.{◌≡◌};
 ghost use Rattle.store.specs.Columns.{flat};
 ghost use Rattle.four_pads_file.specs.FileProfile.{numbers_in, four_pads_in};
@@ -7,7 +9,7 @@ use four_pads::FourPads;
 use panel_file::Panel;
 
 // What is read of a file: a refusal's number, 0 for none, the matrix by column and the readings. A refusal's numbers are zeros.
-#[derive(Drop)]
+#[derive(Clone, Copy)]
 pub struct FourNumbers {
     pub number: usize,
     pub matrix: [f64; 16],

@@ -1,4 +1,6 @@
 // What four columns of four numbers are asked, and the two passes of their solve, with every size constant.
+#![tactic(auto)]
+
 ghost use Rattle.std.specs.Prelude.{◌≡◌};
 ghost use Rattle.finite.specs.Finite.{all_finite};
 ghost use Rattle.store.specs.Columns.{flat};

@@ -1,5 +1,7 @@
 // Four elimination steps at once: what four columns do to the columns right of them, number by number as the steps in turn do.
 // A slice that does not hold n columns of m entries, both at most 64, stays as it was.
+#![tactic(auto)]
+
 ghost use Rattle.std.specs.Prelude.{◌≡◌, true, ◌+◌, ◌≤◌, ◌<◌, length, set};
 ghost use Rattle.store.specs.Columns.{columns, is_matrix, on_columns};
 ghost use Rattle.store.specs.Steps.{column};
@@ -8,7 +10,7 @@ ghost use Rattle.four_steps.specs.FourSteps.{four_steps, four_steps_in, four_ste
 ghost use Rattle.four_steps.specs.FourSteps.{Reaches, head_in, minus_of, add_four, four_rows, written_four, tail_left, tails_left};
 
 // The numbers of four rows of a column, from above down.
-#[derive(Drop)]
+#[derive(Clone, Copy)]
 struct Four {
     first: f64,
     second: f64,

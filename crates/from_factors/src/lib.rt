@@ -1,5 +1,7 @@
 // What is read off the factors of `lu`: L, U, solutions (also of the transposed system), the inverse, the determinant and the invertible test; linalg/lu.rs
 // of nalgebra 0.35.0.
+#![tactic(auto)]
+
 ghost use Rattle.std.specs.Prelude.{◌≡◌, true, ◌+◌, ◌*◌, ◌<◌, ◌≤◌, min, length};
 ghost use Rattle.store.specs.Columns.{columns, flat, is_matrix};
 ghost use Rattle.refusals.specs.Refusals.{answered};
@@ -13,14 +15,14 @@ use refusals::Answer;
 use triangular_passes::Pass;
 
 // The determinant, or a refusal's number.
-#[derive(Drop)]
+#[derive(Clone, Copy)]
 pub enum Det {
     Number(f64),
     Refused(usize),
 }
 
 // Whether the matrix is invertible, or a refusal's number.
-#[derive(Drop)]
+#[derive(Clone, Copy)]
 pub enum Invertible {
     Is(bool),
     Refused(usize),

@@ -1,5 +1,7 @@
 // The ops that read factors: each hands to its call exactly the slices of its case, and tells what the call answered. a, b and
 // swaps are read; x is written.
+#![tactic(auto)]
+
 use cases::Case;
 use factors::Record;
 use from_factors::{Det, Invertible};

@@ -1,4 +1,6 @@
 // The line that a case prints: the refusal number, then the parts that its op prints, each behind a bar.
+#![tactic(auto)]
+
 mod text;
 
 pub use text::{
@@ -9,14 +11,14 @@ use text::{put_float, put_floats, put_signed};
 
 // What the parts of a line are, at most five: x and s the slices x and swaps, 1, 2 and 3 the line's whole numbers, t all three of
 // them as one part, f its float, e its exponent, and a dash for what a call does not answer.
-#[derive(Drop)]
+#[derive(Clone, Copy)]
 pub struct Parts(pub u8, pub u8, pub u8, pub u8, pub u8);
 
 // No part.
 pub const NO: u8 = 0;
 
 // What a call answered: its refusal number, the parts that are printed, and the numbers in them.
-#[derive(Drop)]
+#[derive(Clone, Copy)]
 pub struct Line {
     pub number: usize,
     pub parts: Parts,

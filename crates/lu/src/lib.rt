@@ -1,5 +1,7 @@
 // LU decomposition with partial (row) pivoting: linalg/lu.rs of nalgebra 0.35.0, for f64 matrices that lie column after column. A column more or less is in
 // `adding` and `columns`, what is read off the factors in `from_factors`.
+#![tactic(auto)]
+
 ghost use Rattle.std.specs.Prelude.{◌≡◌, true, [], ◌+◌, ◌<◌, ◌≤◌, length};
 ghost use Rattle.store.specs.Columns.{columns, is_matrix};
 ghost use Rattle.store.specs.Steps.{column, swap_in_all};
@@ -14,14 +16,14 @@ ghost use Rattle.lu.specs.Inner.{Held, Stepped, Settled};
 use factors::Record;
 
 // What factoring answers: the record with the number of columns whose pivot was a toss-up, or a refusal's number.
-#[derive(Drop)]
+#[derive(Clone, Copy)]
 pub enum Factored {
     Accepted { told: Record, toss_ups: usize },
     Refused(usize),
 }
 
 // What the steps count as they go.
-#[derive(Drop)]
+#[derive(Clone, Copy)]
 struct Counts {
     pairs: usize,
     tossed: usize,

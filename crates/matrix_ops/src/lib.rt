@@ -1,5 +1,7 @@
 // The ops on matrices and lists that need no factors: each hands to its call exactly the slices of its case, and tells what the
 // call answered. a and b are read; x and swaps are written.
+#![tactic(auto)]
+
 use cases::Case;
 use lines::{Line, NO, Parts};
 use ranking::Listed;

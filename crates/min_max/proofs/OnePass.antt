@@ -2,7 +2,7 @@
 -- than the pivot has its magnitude exactly when one below it has. Assumes nothing.
 use mathlib.Core.Path.{◌≡◌, refl, sym, ap, ◌∙◌}
 use mathlib.Core.Logic.{inl, inr}
-use mathlib.Core.Bool.{Bool, and_false, true, false, cond, not, ◌&&◌, ◌||◌, or_true, or_false, or_assoc}
+use mathlib.Core.Bool.{Bool, and-false, true, false, cond, not, ◌&&◌, ◌||◌, or-true, or-false, or_assoc}
 use Prim.Native.Nat.{ℕ, zero, suc, ◌+◌, ◌-◌, ◌≤◌, ◌<◌}
 use native.Mathlib.Nat.{eq-or-lt_of_le}
 use native.Mathlib.Numerals.{add-one}
@@ -27,7 +27,7 @@ shared_past : (v : Float) (p : ℕ) (c : Column) (n k i : ℕ) → k + n ≡ i �
     → ((j : ℕ) → k ≤ j → j < i → eq (magnitude (entry c j)) v ≡ false) → shared_from v p k (drop k c) ≡ shared_from v p i (drop i c)
 shared_past v p c zero k i e h none = let is : k ≡ i = omega (arith, e) in ap (λ (k : ℕ). shared_from v p k (drop k c)) is
 shared_past v p c (suc n) k i e h none =
-    shared_next v p c k (omega (arith, e)) false (ap (λ (b : Bool). not (eqb k p) && b) (none k (omega arith) (omega (arith, e))) ∙ and_false (not (eqb k p)))
+    shared_next v p c k (omega (arith, e)) false (ap (λ (b : Bool). not (eqb k p) && b) (none k (omega arith) (omega (arith, e))) ∙ and-false (not (eqb k p)))
     ∙ shared_past v p c n (k + 1) i (omega (arith, e)) h (λ j lo hi. none j (omega arith) hi)
 
 -- ---- what holds before row i is looked at: t is the greatest magnitude so far, b the first row that has it
@@ -102,8 +102,8 @@ module _ (c : Column) (from : ℕ) where
 
     by_tests : (g d : Bool) → lt t v ≡ g → eq t v ≡ d → Searched c from (cond g v t) (cond g i b) (cond (g || d) i last) (i + 1)
     by_tests true d p q = moved p
-    by_tests false true p q = let passed = s.passed in stayed true i p q (rw (ne_eqb i b (λ q. omega arith)) (sym (or_true (not (eqb last b)))))
-    by_tests false false p q = stayed false last p q (sym (or_false (not (eqb last b))))
+    by_tests false true p q = let passed = s.passed in stayed true i p q (rw (ne_eqb i b (λ q. omega arith)) (sym (or-true (not (eqb last b)))))
+    by_tests false false p q = stayed false last p q (sym (or-false (not (eqb last b))))
 
   -- Rows that are not above the greatest magnitude leave it, so the search may go on at the next one that is.
   abbrev Next : Float → ℕ → ℕ → Type 0

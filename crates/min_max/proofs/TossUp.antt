@@ -1,6 +1,6 @@
 -- The toss-up: one turn of its test and the end, that a pivot of zero is none, and the search's answer put together and taken apart. Assumes nothing.
 use mathlib.Core.Path.{◌≡◌, sym, ap, ap₂, ◌∙◌}
-use mathlib.Core.Bool.{Bool, true, false, not, and_false, ◌&&◌, ◌||◌}
+use mathlib.Core.Bool.{Bool, true, false, not, and-false, ◌&&◌, ◌||◌}
 use Prim.Native.Nat.{ℕ, ◌+◌, ◌≤◌, ◌<◌}
 use native.Mathlib.Numerals.{add-one}
 use native.Mathlib.Omega.{arith}
@@ -47,7 +47,7 @@ pub none_toss_up : (from : ℕ) (c : Column) → length c ≤ from → toss_up f
 unfolding toss_up
 none_toss_up from c h =
     let p = pivot_row from c in
-    rw (shared_end (magnitude (entry c p)) p c from h) (and_false (not (is_zero (entry c p))))
+    rw (shared_end (magnitude (entry c p)) p c from h) (and-false (not (is_zero (entry c p))))
 
 -- ---- the answer, from what the code finds
 module _ (from row : ℕ) (c : Column) (is : row ≡ pivot_row from c) where

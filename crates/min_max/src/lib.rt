@@ -1,9 +1,11 @@
 // The pivot search: base/min_max.rs of nalgebra 0.35.0, for f64, and whether the pivot was a toss-up.
+#![tactic(auto)]
+
 ghost use Rattle.std.specs.Prelude.{◌≡◌, ◌≤◌, ◌<◌, ◌+◌, length, drop};
 ghost use Rattle.min_max.specs.TossUp.{shared_from, above_from, pivot_of};
 
 // What the pivot search answers: the row, and whether another one at or below has its magnitude, this not being zero.
-#[derive(Drop)]
+#[derive(Clone, Copy)]
 pub struct FoundPivot {
     pub row: usize,
     pub tossed: bool,

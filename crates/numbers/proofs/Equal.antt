@@ -1,7 +1,7 @@
 -- Doubles of equal magnitude: of two finite ones the magnitudes are equal exactly when neither is smaller; and what is strictly greater than any third
 -- equals nothing that is not, whatever the doubles are. By cases on the doubles. Assumes nothing.
 use mathlib.Core.Path.{◌≡◌, refl, sym, ◌∙◌, ap}
-use mathlib.Core.Bool.{Bool, true, false, ◌&&◌, ◌||◌, beq, true≢false, false≢true, or_true}
+use mathlib.Core.Bool.{Bool, true, false, ◌&&◌, ◌||◌, beq, true≢false, false≢true, or-true}
 use Prim.Native.Nat.{ℕ, ◌*◌, ◌≤◌, ◌<◌}
 use native.Mathlib.Nat.{zero-mul, mul-pos}
 use native.Mathlib.Omega.{arith}
@@ -165,7 +165,7 @@ equal_swap x y = equal_bare x y ∙ bare_swap x y ∙ sym (equal_bare y x)
 
 -- a magnitude is zero where its number is
 alike : (u w z : Bool) → (z && (u || z)) ≡ (z && (w || z))
-alike u w true = or_true u ∙ sym (or_true w)
+alike u w true = or-true u ∙ sym (or-true w)
 alike u w false = refl
 
 zero_neg : (x : Float) → is_zero (neg x) ≡ is_zero x

@@ -1,4 +1,6 @@
 // What document 01 asks of a double: whether it is finite, whether it is a zero, and its magnitude.
+#![tactic(auto)]
+
 ghost use Rattle.std.specs.Prelude.{◌≡◌};
 ghost use Rattle.std.specs.Float.Ieee.Scale.{finite};
 ghost use Rattle.numbers.specs.Numbers.{magnitude, is_zero};

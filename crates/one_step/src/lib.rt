@@ -1,5 +1,7 @@
 // One step of the elimination, step 5 of document 01, on the columns of a matrix that lie column after column in a slice. A slice that does not hold n columns
 // of m entries, both at most 64, stays as it was.
+#![tactic(auto)]
+
 ghost use Rattle.std.specs.Prelude.{◌≡◌, true, ◌<◌, length, set};
 ghost use Rattle.std.specs.Float.{binary64};
 ghost use Rattle.std.specs.Float.Ieee.{add};

@@ -1,4 +1,6 @@
 // Document 01, "Ranking and program": the panel file, read. Its meaning is in specs/File, the writer's too; the reader tests in the document's order.
+#![tactic(auto)]
+
 ghost use Rattle.std.specs.Prelude.{◌≡◌, true, ℕ, ◌+◌, ◌*◌, ◌<◌, ◌≤◌, length, get_or};
 ghost use Rattle.std.specs.Float.{binary64};
 ghost use Rattle.std.specs.Float.Ieee.{of_bits};
@@ -11,7 +13,7 @@ ghost use Rattle.panel_file.specs.Inner.{Holds, reading_beside};
 ghost use Rattle.panel_file.specs.Reading.{file_tests, file_refusal, stores, reading, reading_sized, pads_read};
 
 // What reading a file answers: how many pads it has, or a refusal's number.
-#[derive(Drop)]
+#[derive(Clone, Copy)]
 pub enum Panel {
     Pads(usize),
     Refused(usize),

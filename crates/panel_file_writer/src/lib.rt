@@ -1,5 +1,7 @@
 // Document 02, 1/13: a crossing's panel file, written. What the bytes are is said in the reader's words (panel_file/specs/File); the tests go in the document's
 // order.
+#![tactic(auto)]
+
 ghost use Rattle.std.specs.Prelude.{◌≡◌, true, ◌+◌, ◌*◌, ◌<◌, ◌≤◌, length};
 ghost use Rattle.numbers.specs.Each.{list_of};
 ghost use Rattle.finite.specs.Finite.{all_finite};
@@ -8,7 +10,7 @@ ghost use Rattle.panel_file_writer.specs.Inner.{KeepsBefore};
 ghost use Rattle.panel_file_writer.specs.Writing.{writing_refusal, written, Writing};
 
 // What writing a file answers: how many bytes it has, or a refusal's number.
-#[derive(Drop)]
+#[derive(Clone, Copy)]
 pub enum Written {
     Bytes(usize),
     Refused(usize),

@@ -1,5 +1,6 @@
 // Prints how a pad's load moves with each reading, or the refusal: the pad's number is the first argument, the panel file is standard input. What is
 // printed is `panel_text::moves_text` of the bytes and the number. A file that is longer than what is read is refused for its length.
+#![tactic(auto)]
 
 // A decimal digit's value, 10 for any other byte.
 fn digit(byte: u8) -> usize {

@@ -1,4 +1,5 @@
 // Reads a panel file from standard input to its end, and prints its pads in rank order or the refusal. What is printed is `panel_text::text` of the bytes.
+#![tactic(auto)]
 
 // Reads once more and keeps nothing. Answers whether there may be more.
 fn skip_some() -> bool {

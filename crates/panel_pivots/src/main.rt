@@ -1,5 +1,7 @@
 // Prints how the elimination of a panel file's matrix went, or the refusal: the number of toss-ups, the greatest magnitude of the matrix, and the greatest and
 // the least magnitude on the diagonal of its factors. The panel file is standard input. A file that is longer than what is read is refused for its length.
+#![tactic(auto)]
+
 ghost use Rattle.std.specs.Prelude.{◌≡◌, not, ◌*◌, ◌≤◌, T, length, take};
 ghost use Rattle.std.specs.Float.Ieee.{is_nan};
 ghost use Rattle.panel_file.specs.File.{pads_of, matrix_of};
@@ -12,7 +14,7 @@ use crossing::Held;
 use panel_file::Panel;
 
 // How the elimination went: the number of toss-ups, the greatest magnitude of the matrix, and the greatest and the least of the pivots; or a refusal's number.
-#[derive(Drop)]
+#[derive(Clone, Copy)]
 enum Pivots {
     Told {
         toss_ups: usize,

@@ -1,5 +1,7 @@
 // Reads names of panel files from standard input, one a line, hands each file over to a season, and prints its sixteen counts, each on a line. A name of more
 // than 255 bytes, or one that cannot be opened, counts as an empty file. With the name that is one too many it stops reading.
+#![tactic(auto)]
+
 ghost use Rattle.io.specs.Counts.{IsPrefixLen};
 
 use refusals::Answer;
@@ -9,7 +11,7 @@ use season::{Handed, Season};
 const MOST: usize = 255;
 
 // Where the reading stands: the season, how many bytes of a name are there, one more than the most for any that is longer, and whether it goes on.
-#[derive(Drop)]
+#[derive(Clone, Copy)]
 struct Place {
     season: Season,
     length: usize,

@@ -1,5 +1,6 @@
 // Prints the scaled determinant of a panel file's matrix, or the refusal: the quick check of a crossing's stiffness. The panel file is standard input; what is
 // printed is `panel_text::stiffness_text` of the bytes. A file that is longer than what is read is refused for its length.
+#![tactic(auto)]
 
 fn main() {
     let mut file = [0u8; 33287];

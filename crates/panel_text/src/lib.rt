@@ -1,5 +1,7 @@
 // What is printed for a panel file (document 01, "Ranking and program"): the text of its pads in rank order, of how a pad's load moves with each reading
 // (document 02, request 5), of its stiffness (request 10), and of why it is refused (request 8).
+#![tactic(auto)]
+
 ghost use Rattle.std.specs.Prelude.{◌≡◌, true, ℕ, ◌+◌, ◌*◌, ◌<◌, ◌≤◌, length, get_or, nat_abs};
 ghost use Rattle.std.specs.Int.Signed.{mag};
 ghost use Rattle.std.specs.Float.Ieee.Scale.{finite};

@@ -1,5 +1,6 @@
 // Prints why a panel file is refused, or that there is no reason. The panel file is standard input; what is printed is `panel_text::why_text` of the bytes. A
 // file that is longer than what is read is refused for its length.
+#![tactic(auto)]
 
 fn main() {
     let mut file = [0u8; 33287];

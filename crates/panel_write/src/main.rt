@@ -1,5 +1,7 @@
 // Prints the panel file of a crossing, or the refusal. Standard input is text: a line with the number of pads, then a line for each number of the matrix,
 // column by column, and of the readings, with the 16 small hex digits of its bits. The bytes are those of `panel_file_writer::write`.
+#![tactic(auto)]
+
 ghost use Rattle.std.specs.Prelude.{◌≡◌, true, ◌+◌, ◌*◌, ◌<◌, ◌≤◌, length};
 ghost use Rattle.std.specs.Float.{binary64};
 ghost use Rattle.std.specs.Float.Ieee.{of_bits};
@@ -18,7 +20,7 @@ const FILE: usize = 33286;
 const LENGTH: usize = 3;
 
 // What the first line tells: the number of pads, 0 for none, and the place behind the line.
-#[derive(Drop)]
+#[derive(Clone, Copy)]
 struct Head {
     pads: usize,
     end: usize,

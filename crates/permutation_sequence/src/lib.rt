@@ -1,4 +1,6 @@
 // Permuting by a swap list: linalg/permutation_sequence.rs of nalgebra 0.35.0, for f64 matrices that lie column after column in a slice.
+#![tactic(auto)]
+
 ghost use Rattle.std.specs.Prelude.{◌≡◌, true, false};
 ghost use Rattle.refusals.specs.Refusals.{answered};
 ghost use Rattle.exchanges.specs.Permute.{exchange_of};

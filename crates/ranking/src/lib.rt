@@ -1,10 +1,12 @@
 // Document 01, "Ranking and program": the pads of a crossing, greatest load first; and document 02, request 9: all of them, or those that carry something.
+#![tactic(auto)]
+
 ghost use Rattle.std.specs.Prelude.{◌≡◌, ◌++◌, ℕ, ◌+◌, ◌<◌, length, get_or, take, drop};
 ghost use Rattle.ranking.specs.Ranking.{IsPad, ahead, loaded, every_pad, insert_pad, listing, ranking_refusal, padded, ranking, pads_listed};
 ghost use Rattle.ranking.specs.Inner.{choice_by};
 
 // What a ranking answers: how many pads are listed, or a refusal's number.
-#[derive(Drop)]
+#[derive(Clone, Copy)]
 pub enum Listed {
     Pads(usize),
     Refused(usize),

@@ -1,10 +1,12 @@
 // Document 01, "Refusal numbers": what the calls share of testing their input and of answering.
+#![tactic(auto)]
+
 ghost use Rattle.std.specs.Prelude.{◌≡◌, cond};
 ghost use Rattle.refusals.specs.Outcome.{done, refused, number_of, tested};
 ghost use Rattle.refusals.specs.Refusals.{outside, answered, seventh};
 
 // What a call answers whose results are lent slices.
-#[derive(Drop)]
+#[derive(Clone, Copy)]
 pub enum Answer {
     Done,
     Refused(usize),

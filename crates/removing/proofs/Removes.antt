@@ -1,6 +1,6 @@
 -- Removing's outcomes, each from what the code found and left on the way to it. Assumes nothing.
 use mathlib.Core.Path.{◌≡◌, refl, sym, ap, ap₂, ◌∙◌}
-use mathlib.Core.Bool.{Bool, true, false, not, ◌&&◌, and_true}
+use mathlib.Core.Bool.{Bool, true, false, not, ◌&&◌, and-true}
 use mathlib.Core.List.{List, ◌∷◌, [], ◌++◌}
 use Prim.Native.Nat.{ℕ, ◌+◌, ◌-◌, ◌*◌, ◌≤◌, ◌<◌, min}
 use native.Mathlib.Omega.{arith}
@@ -59,7 +59,7 @@ module _ (m n pairs : ℕ) (store : List ℕ) where
   -- none is
   pub kept_test : undoes n (pairs_of pairs store) ≡ false → leb pairs (min m n) ≡ good_undoing m n (pairs_of pairs store)
   unfolding good_undoing pairs_before
-  kept_test t = rw (t, length_pairs pairs store) (sym (and_true (leb pairs (min m n))))
+  kept_test t = rw (t, length_pairs pairs store) (sym (and-true (leb pairs (min m n))))
 
 module _ (r : Record) (s : Column) (store : List ℕ) where
   abbrev m : ℕ

@@ -1,4 +1,6 @@
 // The last column taken off the factors of `lu` (document 02, request 2).
+#![tactic(auto)]
+
 ghost use Rattle.std.specs.Prelude.{◌≡◌, ◌+◌, ◌-◌, ◌*◌, ◌<◌, ◌≤◌, min, length, get_or, set};
 ghost use Rattle.store.specs.Columns.{on_columns};
 ghost use Rattle.store.specs.Steps.{rows_swapped};
@@ -11,7 +13,7 @@ ghost use Rattle.removing.specs.Inner.{RemovableIf, Ready, RemovedFrom};
 use factors::{Asks, Record};
 
 // What removing a column answers: the new record, or a refusal's number with the old record.
-#[derive(Drop)]
+#[derive(Clone, Copy)]
 pub enum Removed {
     Accepted(Record),
     Refused { number: usize, told: Record },

@@ -1,5 +1,7 @@
 // Reads cases on standard input, runs each through the public call that it names, and prints what the call answered and
 // what every lent slice holds afterwards.
+#![tactic(auto)]
+
 use cases::{Case, Next};
 
 // The text that is collected before it is written out.
@@ -9,7 +11,7 @@ type Text = [u8; 65536];
 type Bytes = [u8; cases::BYTES];
 
 // The place behind the text, and whether the list goes on.
-#[derive(Drop)]
+#[derive(Clone, Copy)]
 struct Place {
     at: usize,
     going: bool,

@@ -1,7 +1,7 @@
 -- A double that is finite and not zero, and its two parts: the significand is a `Sig`, both together are the double, they are the only such pair, and the
 -- exponent is from -1074 up to 1023. Assumes nothing.
 use mathlib.Core.Path.{◌≡◌, refl, sym, ap, ◌∙◌, subst}
-use mathlib.Core.Bool.{Bool, false, or_true, true≢false, false≢true}
+use mathlib.Core.Bool.{Bool, false, or-true, true≢false, false≢true}
 use Prim.Native.Nat.{ℕ, zero, suc, ◌+◌, ◌-◌, ◌*◌, ◌^◌, ◌≤◌, ◌<◌}
 use native.Mathlib.Nat.{le_trans, le_of_eq, lt_of_lt_of_le, lt_of_le_of_lt, lt_of_not-le, not-le_of_lt, zero-lt-suc, zero-mul, mul-one, mul_comm}
 use native.Mathlib.Nat.{mul_assoc, mul_left_comm, mul_right_comm, mul-pos, mul-le-mul_right, mul-lt-mul_of_pos_right, eq_of_mul-eq-mul_right}
@@ -32,7 +32,7 @@ pub parted_fine : (x : Float) → Parted x → Fine x
 unfolding is_zero eq of_bits
 parted_fine nan p = absurd (false≢true p.0)
 parted_fine (inf s) p = absurd (false≢true p.0)
-parted_fine (fin s zero e) p = absurd (true≢false (sym (simp (zero-mul, or_true)) ∙ p.1))
+parted_fine (fin s zero e) p = absurd (true≢false (sym (simp (zero-mul, or-true)) ∙ p.1))
 parted_fine (fin s (suc m) e) p = zero-lt-suc m
 
 pub fine_nonzero : (x : Float) → Fine x → is_zero x ≡ false

@@ -1,4 +1,6 @@
 // Document 02, request 10: the determinant of factored matrices as a significand and a binary exponent, so that it neither vanishes nor overflows.
+#![tactic(auto)]
+
 ghost use Rattle.std.specs.Prelude.{◌≡◌, true, false, ◌<◌, ◌/◌, ◌%◌};
 ghost use Rattle.std.specs.Int.Signed.{mag};
 ghost use Rattle.std.specs.Float.{binary64};
@@ -14,14 +16,14 @@ ghost use Rattle.scaled_determinant.specs.Inner.{Parted};
 use factors::{Asks, Record, held_refusal};
 
 // The significand times two to the exponent. The significand is of magnitude from 1 up to but not 2; or it is +0.0, with the exponent 0.
-#[derive(Drop)]
+#[derive(Clone, Copy)]
 pub struct Scaled {
     pub significand: f64,
     pub exponent: i32,
 }
 
 // The scaled determinant, or a refusal's number.
-#[derive(Drop)]
+#[derive(Clone, Copy)]
 pub enum ScaledDet {
     Number(Scaled),
     Refused(usize),

@@ -1,4 +1,6 @@
 // A season's figures (document 02, request 13): panel files are handed over one at a time, and counted by what becomes of them.
+#![tactic(auto)]
+
 ghost use Rattle.std.specs.Prelude.{◌≡◌, ◌≤◌, true, false, [], length, ◌≢◌};
 ghost use Rattle.finite.specs.Finite.{all_finite};
 ghost use Rattle.refusals.specs.Outcome.{done, refused, number_of, and_then};
@@ -14,7 +16,7 @@ use ranking::Listed;
 use refusals::Answer;
 
 // What a file brings to a season: the pads that are listed and the band of its crossing, or a refusal's number.
-#[derive(Drop)]
+#[derive(Clone, Copy)]
 enum Told {
     Crossing { pads: usize, band: usize },
     Refused(usize),
@@ -109,7 +111,7 @@ fn one_more_band(mut a: [usize; 5], i: usize) -> [usize; 5]
 }
 
 // The counts: of the files handed over, of those accepted, of those refused under 1 to 9, of the listed pads, and of the crossings in each band.
-#[derive(Drop)]
+#[derive(Clone, Copy)]
 pub struct Season {
     pub files: usize,
     pub accepted: usize,
@@ -119,7 +121,7 @@ pub struct Season {
 }
 
 // What handing over a file answers: that it was counted, or refusal 10, the season being full; and the season then, as it was where the file was refused.
-#[derive(Drop)]
+#[derive(Clone, Copy)]
 pub struct Handed {
     pub answer: Answer,
     pub season: Season,

@@ -1,4 +1,6 @@
 // The op of a season, 34, on the bytes of its case: the lengths of the files, and then all their bytes. It puts its line into the text.
+#![tactic(auto)]
+
 ghost use Rattle.std.specs.Prelude.{◌≤◌, length};
 
 use cases::Case;

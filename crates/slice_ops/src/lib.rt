@@ -1,4 +1,6 @@
 // The ops on the slices of a case, which are taken out of its bytes. Each puts its line into the text.
+#![tactic(auto)]
+
 use cases::Case;
 
 // Runs an op on exactly the slices of its case, and puts its line.

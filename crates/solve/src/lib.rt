@@ -1,4 +1,6 @@
 // The triangular solves, each tested first: linalg/solve.rs of nalgebra 0.35.0, for f64. The matrix and the right-hand sides lie column after column.
+#![tactic(auto)]
+
 ghost use Rattle.std.specs.Prelude.{◌≡◌};
 ghost use Rattle.refusals.specs.Refusals.{answered};
 ghost use Rattle.solve.specs.Calls.{zero_on_diagonal, sizes_outside, lengths_fit, given_finite, numbers_finite, zero_divisor, refusal_of, solving};

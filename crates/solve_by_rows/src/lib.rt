@@ -1,5 +1,7 @@
 // The unit lower and the upper solve of `solve`, row by row, single rows first, then blocks of four and of eight: the same operations on each
 // number in the same order, so the same bits, with the numbers of a block held while they take their products.
+#![tactic(auto)]
+
 ghost use Rattle.std.specs.Prelude.{◌≡◌, true, false, ◌+◌, ◌-◌, ◌%◌, ◌≤◌, ◌<◌, length};
 ghost use Rattle.numbers.specs.Each.{turns_from};
 ghost use Rattle.store.specs.Columns.{columns, is_matrix};

@@ -1,5 +1,7 @@
 // Work on whole matrices that lie column after column in a slice: the views and swaps of nalgebra's Matrix, for f64.
 // A slice that does not hold n columns of m entries, both at most 64, stays as it was.
+#![tactic(auto)]
+
 ghost use Rattle.std.specs.Prelude.{◌≡◌, ◌+◌, ◌*◌, ◌≤◌, ◌<◌, min, length};
 ghost use Rattle.store.specs.Columns.{columns, is_matrix, on_columns};
 ghost use Rattle.store.specs.Steps.{rows_swapped, columns_swapped};

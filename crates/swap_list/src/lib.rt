@@ -1,11 +1,13 @@
 // Swap lists: what a list is, whether it is good, and a pair written behind its last; the list of linalg/permutation_sequence.rs of nalgebra 0.35.0.
 // A list is a store of whole numbers, two a pair, and a count of pairs.
+#![tactic(auto)]
+
 ghost use Rattle.std.specs.Prelude.{◌≡◌};
 ghost use Rattle.swap_list.specs.SwapList.{good_pair, good_list};
 ghost use Rattle.swap_list.specs.Appending.{appending_refusal, appending, appended, count_of};
 
 // What appending answers: the new count, or a refusal's number and the old count.
-#[derive(Drop)]
+#[derive(Clone, Copy)]
 pub enum Appended {
     Pairs(usize),
     Refused { number: usize, pairs: usize },

@@ -1,5 +1,7 @@
 // The passes of the triangular solves, row by row and column by column, without the tests of a call: linalg/solve.rs of nalgebra 0.35.0, for f64. The matrix
 // and the right-hand sides lie column after column.
+#![tactic(auto)]
+
 ghost use Rattle.std.specs.Prelude.{◌≡◌, true, ◌<◌, length};
 ghost use Rattle.store.specs.Columns.{columns, is_matrix};
 ghost use Rattle.triangular_passes.specs.Triangular.{divisor, lower_row, upper_row, kept_row, less_below, transposed_lower_row, transposed_upper_row};
@@ -7,7 +9,7 @@ ghost use Rattle.triangular_passes.specs.Triangular.{transposed_unit_lower_row, 
 
 // Which solve it is: the triangle read, the diagonal divided by, and whether the matrix is transposed. A given diagonal is the Rust's: it
 // leaves the entries undivided. Corrected, it divides them. In the transposed unit lower triangle the diagonal counts as one.
-#[derive(Drop)]
+#[derive(Clone, Copy)]
 pub enum Pass {
     Lower,
     Upper,

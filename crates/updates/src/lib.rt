@@ -1,4 +1,6 @@
 // Step 5 of several elimination steps on columns right of theirs: one by one, or four steps at once (`four_steps`) where all four were made.
+#![tactic(auto)]
+
 ghost use Rattle.std.specs.Prelude.{◌≡◌, true, ◌+◌, ◌-◌, ◌<◌, ◌≤◌, min};
 ghost use Rattle.numbers.specs.Each.{turns_from};
 ghost use Rattle.store.specs.Columns.{columns, is_matrix, on_columns};

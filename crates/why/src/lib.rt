@@ -1,5 +1,7 @@
 // Document 02, request 8: why a factoring or a solve is refused. Each call takes what the call takes that it explains, and leaves every lent slice as that
 // one does. The reason is looked for by plain steps and turns, in the crate's order.
+#![tactic(auto)]
+
 ghost use Rattle.std.specs.Prelude.{◌≡◌, true, cond, ◌<◌, ◌≤◌, length};
 ghost use Rattle.std.specs.Float.Ieee.Scale.{finite};
 ghost use Rattle.numbers.specs.First.{first_failing};
@@ -21,7 +23,7 @@ use lu::Factored;
 use triangular_passes::Pass;
 
 // Why a factoring is refused: the number of a refusal before the work, or where the first result stands that is not finite.
-#[derive(Drop)]
+#[derive(Clone, Copy)]
 pub enum WhyFactor {
     NoReason,
     Refused(usize),
@@ -34,7 +36,7 @@ pub enum WhyFactor {
 
 // Why a solve is refused: the number of a refusal before the work, for a singular matrix its lowest dead column, or where the first result stands that is
 // not finite; pass 1 is the unit lower one, 2 the upper.
-#[derive(Drop)]
+#[derive(Clone, Copy)]
 pub enum WhySolve {
     NoReason,
     Refused(usize),
@@ -158,7 +160,7 @@ fn overflow_in_column(upper: bool, t: &[f64], n: usize, b: &mut [f64]) -> usize
 }
 
 // The right-hand column and the row of the first result that is not finite of a pass.
-#[derive(Drop)]
+#[derive(Clone, Copy)]
 struct Found {
     column: usize,
     row: usize,

@@ -1,4 +1,6 @@
 // Document 02, request 8, for a panel file: why its answer is refused, by the reader, by factoring or by the solve.
+#![tactic(auto)]
+
 ghost use Rattle.std.specs.Prelude.{◌≡◌, ◌*◌, ◌≤◌, length, take, replicate};
 ghost use Rattle.numbers.specs.Column.{zeros};
 ghost use Rattle.crossing.specs.Below.{packed_in};
@@ -13,7 +15,7 @@ use why::{WhyFactor, WhySolve};
 
 // Why a panel file's answer is refused: the number of a refusal before the work; where the first result of factoring stands that is not finite; the lowest
 // dead column; or where the first result of the solve stands that is not finite, in pass 1, the unit lower one, or 2, the upper. Places count from 0.
-#[derive(Drop)]
+#[derive(Clone, Copy)]
 pub enum WhyFile {
     NoReason,
     Refused(usize),

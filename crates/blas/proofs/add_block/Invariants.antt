@@ -1,0 +1,17 @@
+-- Each running sum takes the product at its own place: what is left to do from place k on is `each_from` from k on. Assumes nothing.
+use Prim.Native.Nat.{◌-◌}
+use mathlib.Core.Path.{◌≡◌, refl, sym, ◌∙◌}
+use native.Mathlib.Omega.{arith}
+use borrow.Author.Rules.{rules}
+use lib.ListN.{length}
+use lib.Ieee.{nan}
+use Rattle.numbers.specs.Each.{each_from}
+use Rattle.blas.specs.Dot.{add_product}
+use Rattle.numbers.proofs.Each.{each_step, each_stop}
+use Rattle.blas.proofs.add_block.Given as goal
+
+abbrev pub invariant-loop-k : goal.invariant-loop-k
+invariant-loop-k l = (length l.sums ≡ length l.initial.sums) × (each_from (add_product l.x l.y) l.k l.sums ≡ each_from (add_product l.x l.y) 0 l.initial.sums)
+
+abbrev pub decreases-loop-k : goal.decreases-loop-k
+decreases-loop-k l = length l.initial.sums - l.k

@@ -1,0 +1,27 @@
+-- What is left to write from row k on is `each_from` from k on, with the entries of src. Assumes nothing.
+use Prim.Native.Nat.{◌-◌}
+use mathlib.Core.Path.{◌≡◌, refl, sym, ◌∙◌}
+use native.Mathlib.Omega.{arith}
+use borrow.Author.Rules.{rules}
+use borrow.Author.Tests.{eq-eqb, ne_eqb}
+use lib.ListN.{length}
+use lib.Ieee.{nan}
+use Rattle.numbers.specs.Each.{each_from}
+use Rattle.blas.specs.Blas.{copied}
+use Rattle.numbers.specs.Column.{entry}
+use Rattle.numbers.proofs.Each.{each_step, each_stop, each_over}
+use Rattle.blas.proofs.copy.Goals as goal
+
+pub returns-then-src-dst : goal.returns-then-src-dst
+unfolding copied
+returns-then-src-dst c = rw (ne_eqb _ _ c.if-src-dst.true)
+
+pub loop-k-init : goal.loop-k-init
+loop-k-init c = (refl, each_over _ _ _ (omega arith))
+
+pub loop-k-preserved : goal.loop-k-preserved
+loop-k-preserved c = (search rules, each_step _ _ _ nan (search rules) ∙ c.loop-k.invariant.1)
+
+pub returns : goal.returns
+unfolding copied
+returns c = rw (eq-eqb _ _ c.if-src-dst.false) (sym (each_stop _ _ _ c.loop-k-test.false) ∙ c.loop-k.invariant.1)

@@ -1,0 +1,21 @@
+-- What is left to fill from row k on is `each_from` from k on. Assumes nothing.
+use Prim.Native.Nat.{◌-◌}
+use mathlib.Core.Path.{◌≡◌, refl, sym, ◌∙◌}
+use native.Mathlib.Omega.{arith}
+use borrow.Author.Rules.{rules}
+use lib.ListN.{length}
+use lib.Ieee.{nan}
+use Rattle.numbers.specs.Each.{each_from}
+use Rattle.numbers.specs.Numbers.{zero64}
+use Rattle.numbers.specs.Column.{zeros}
+use Rattle.numbers.proofs.Each.{each_step, each_stop, each_fill}
+use Rattle.blas.proofs.fill_zero.Goals as goal
+
+pub loop-k-init : goal.loop-k-init
+loop-k-init c = (refl, each_fill _ _)
+
+pub loop-k-preserved : goal.loop-k-preserved
+loop-k-preserved c = (search rules, each_step _ _ _ nan (search rules) ∙ c.loop-k.invariant.1)
+
+pub returns : goal.returns
+returns c = sym (each_stop _ _ _ c.loop-k-test.false) ∙ c.loop-k.invariant.1

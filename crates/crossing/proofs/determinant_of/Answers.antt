@@ -1,0 +1,25 @@
+-- The determinant's answer, taken apart and handed on. Assumes nothing.
+use mathlib.Core.Path.{sym, ap, ◌∙◌, subst}
+use native.Mathlib.Omega.{arith}
+use borrow.Author.Rules.{rules}
+use Rattle.panel_file.proofs.Reading.{square}
+use Rattle.scaled_determinant.specs.Determinant.{scaled_answer}
+use Rattle.scaled_determinant.specs.Range.{AnswerRanged}
+use Rattle.crossing.specs.Below.{scaled_by}
+use Rattle.crossing.proofs.Factors.{taken_count}
+use Rattle.crossing.proofs.determinant_of.Goals as goal
+
+pub overflow_mul-entries : goal.overflow_mul-entries
+overflow_mul-entries c = omega (arith, square c.args.told.rows 64 c.requires.0)
+
+pub slice_bounds-scaled_determinant-end : goal.slice_bounds-scaled_determinant-end
+slice_bounds-scaled_determinant-end c = taken_count _ c.args.matrix.now (omega (arith, c.requires.1, square c.args.told.rows 64 c.requires.0))
+
+pub returns-in_default : goal.returns-in_default
+unfolding scaled_by
+returns-in_default c = let whole = c.scaled_determinant-answer.ensures in record { result_value = whole.0; answer_ranged = whole.1 }
+
+pub returns : goal.returns
+unfolding scaled_by
+returns c =
+    record { result_value = ap scaled_answer (sym c.in-Number.is) ∙ c.scaled_determinant-answer.ensures.result_value; answer_ranged = subst AnswerRanged c.in-Number.is c.scaled_determinant-answer.ensures.answer_ranged }

@@ -1,0 +1,26 @@
+-- The columns that are left from column j on give the whole. Assumes nothing.
+use denote.Slice.{shr_slice_at}
+use Prim.Native.Nat.{ℕ, ◌-◌, ◌*◌, ◌+◌, ◌≤◌}
+use mathlib.Core.Path.{◌≡◌, refl, sym, ◌∙◌}
+use native.Mathlib.Omega.{arith}
+use borrow.Author.Rules.{rules}
+use lib.ListN.{length}
+use Rattle.numbers.specs.Each.{each_from}
+use Rattle.numbers.specs.Column.{Column}
+use Rattle.store.specs.Columns.{columns}
+use Rattle.store.proofs.Columns.{sized, column_within, column_turn, column_stop, on_done}
+use Rattle.swap_list.specs.SwapList.{Swaps, pairs_of}
+use Rattle.exchanges.specs.Permute.{permute}
+use Rattle.exchanges.proofs.Permute.{permute_four, rows_each}
+use Rattle.exchanges.proofs.exchange_four.Given as goal
+
+-- what becomes of a column
+abbrev pub in_column : Swaps → ℕ → Column → Column
+in_column swaps j c = permute swaps c
+
+abbrev pub invariant-loop-j : goal.invariant-loop-j
+invariant-loop-j l =
+    (length l.s ≡ length l.initial.s) × (each_from (in_column (pairs_of 4 l.four)) l.j (columns l.m l.n l.s) ≡ each_from (in_column (pairs_of 4 l.four)) 0 (columns l.m l.n l.initial.s))
+
+abbrev pub decreases-loop-j : goal.decreases-loop-j
+decreases-loop-j l = l.n - l.j

@@ -1,0 +1,21 @@
+-- Before turn k the first k times four pairs are exchanged. Assumes nothing.
+use Prim.Native.Nat.{ℕ, ◌+◌, ◌-◌, ◌*◌, ◌≤◌}
+use mathlib.Core.Path.{◌≡◌, refl, ap, ◌∙◌}
+use mathlib.Core.Bool.{false}
+use native.Mathlib.Omega.{arith}
+use borrow.Author.Rules.{rules}
+use lib.ListN.{length, length-take, length-drop}
+use Rattle.store.specs.Columns.{on_columns}
+use Rattle.store.specs.Steps.{swap_in_all}
+use Rattle.store.proofs.Columns.{same_matrix}
+use Rattle.swap_list.specs.SwapList.{Swaps, pairs_of}
+use Rattle.exchanges.specs.Permute.{rows_permuted}
+use Rattle.swap_list.proofs.SwapList.{part_pairs}
+use Rattle.exchanges.proofs.OnColumns.{exchange_keeps, pairs_none, pairs_more}
+use Rattle.exchanges.proofs.exchange_in_fours.Given as goal
+
+abbrev pub invariant-loop-k : goal.invariant-loop-k
+invariant-loop-k l = (length l.s ≡ length l.initial.s) × (l.k ≤ l.fours) × (l.s ≡ on_columns l.m l.n (rows_permuted (pairs_of (4 * l.k) l.swaps)) l.initial.s)
+
+abbrev pub decreases-loop-k : goal.decreases-loop-k
+decreases-loop-k l = l.fours - l.k

@@ -1,0 +1,15 @@
+-- Case by case. Assumes nothing.
+use mathlib.Core.Path.{refl}
+use borrow.Author.Rules.{rules}
+use Rattle.refusals.specs.Outcome.{number_of}
+use Rattle.ranking.specs.Ranking.{pads_listed}
+use Rattle.ffi.specs.Exports.{count_in}
+use Rattle.ffi.proofs.tell_count.Goals as goal
+
+pub returns-in-Pads : goal.returns-in-Pads
+unfolding number_of pads_listed count_in
+returns-in-Pads c = let whole = rw c.in-Pads.is (refl, refl) in record { value = whole.0; count_after = whole.1 }
+
+pub returns-in-Refused : goal.returns-in-Refused
+unfolding number_of pads_listed count_in
+returns-in-Refused c = let whole = rw c.in-Refused.is (refl, refl) in record { value = whole.0; count_after = whole.1 }

@@ -1,0 +1,17 @@
+-- Case by case. Assumes nothing.
+use borrow.Author.Rules.{rules}
+use Rattle.adding.specs.Adding.{adding_answer}
+use Rattle.ffi.proofs.Told.{added_told, not_added}
+use Rattle.ffi.proofs.wejdarox_add_column.Goals as goal
+
+pub returns-in-Accepted : goal.returns-in-Accepted
+unfolding adding_answer
+returns-in-Accepted c =
+    let o = added_told _ _ _ _ c.add_column.ensures.result_value c.add_column.ensures.result_value_2 _ _ c.in-Accepted.is in
+    let whole = (o.0, (c.add_column.ensures.s_after, (c.add_column.ensures.swaps_after, o.1))) in record { value = whole.0; factors_after = whole.1.0; swaps_after = whole.1.1.0; pairs_after = whole.1.1.1.0; dead_after = whole.1.1.1.1.0; toss_ups_after = whole.1.1.1.1.1 }
+
+pub returns-in-Refused : goal.returns-in-Refused
+unfolding adding_answer
+returns-in-Refused c =
+    let o = not_added _ _ _ _ c.add_column.ensures.result_value c.add_column.ensures.result_value_2 _ _ c.in-Refused.is in
+    let whole = (o.0, (c.add_column.ensures.s_after, (c.add_column.ensures.swaps_after, o.1))) in record { value = whole.0; factors_after = whole.1.0; swaps_after = whole.1.1.0; pairs_after = whole.1.1.1.0; dead_after = whole.1.1.1.1.0; toss_ups_after = whole.1.1.1.1.1 }

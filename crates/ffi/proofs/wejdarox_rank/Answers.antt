@@ -1,0 +1,8 @@
+-- The call's answer, told. Assumes nothing.
+use borrow.Author.Rules.{rules}
+use Rattle.ffi.proofs.Told.{ranks_told}
+use Rattle.ffi.proofs.wejdarox_rank.Goals as goal
+
+pub returns : goal.returns
+returns c =
+    let whole = ranks_told _ _ _ c.rank.ensures _ _ c.tell_count.ensures in record { value = whole.0; ranks_after = whole.1.0; count_after = whole.1.1 }

@@ -1,0 +1,26 @@
+-- By the case of the reason. Assumes nothing.
+use mathlib.Core.Path.{refl}
+use borrow.Author.Rules.{rules}
+use Rattle.why.specs.Why.{overflowed, told_solve}
+use Rattle.ffi_reasons.specs.Why.{spot_or}
+use Rattle.ffi_reasons.proofs.of_solving.Goals as goal
+
+pub returns-in-NoReason : goal.returns-in-NoReason
+unfolding told_solve spot_or
+returns-in-NoReason c =
+    let whole = rw c.in-NoReason.is ((c.alone.ensures.0, c.alone.ensures.1), (c.alone.ensures.2, c.alone.ensures.3)) in record { number_value = whole.0; second_value = whole.1 }
+
+pub returns-in-Refused : goal.returns-in-Refused
+unfolding told_solve spot_or
+returns-in-Refused c =
+    let whole = rw c.in-Refused.is ((c.alone-in-Refused.ensures.0, c.alone-in-Refused.ensures.1), (c.alone-in-Refused.ensures.2, c.alone-in-Refused.ensures.3)) in record { number_value = whole.0; second_value = whole.1 }
+
+pub returns-in-Singular : goal.returns-in-Singular
+unfolding told_solve spot_or
+returns-in-Singular c =
+    let whole = rw c.in-Singular.is ((refl, refl), (refl, refl)) in record { number_value = whole.0; second_value = whole.1 }
+
+pub returns-in-Overflow : goal.returns-in-Overflow
+unfolding told_solve overflowed spot_or
+returns-in-Overflow c =
+    let whole = rw c.in-Overflow.is ((refl, refl), (refl, refl)) in record { number_value = whole.0; second_value = whole.1 }

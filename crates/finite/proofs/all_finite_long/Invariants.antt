@@ -1,0 +1,19 @@
+-- Fewer than 128 entries go by eight. Else the products take a block a turn: what they tell, being finite themselves or not, and what is left from row k on
+-- give the answer. Assumes nothing.
+use Prim.Native.Nat.{◌+◌, ◌-◌, ◌≤◌}
+use mathlib.Core.Path.{◌≡◌, refl, ap₂, ◌∙◌}
+use mathlib.Core.Bool.{true, ◌&&◌}
+use native.Mathlib.Omega.{arith}
+use borrow.Author.Rules.{rules}
+use lib.ListN.{length, take, drop, length-take, length-drop}
+use lib.Ieee.{of_bits}
+use Rattle.finite.specs.Finite.{all_finite}
+use Rattle.finite.proofs.Product.{naught, calm, every, calm_all, block_more, part_first}
+use Rattle.finite.proofs.all_finite_long.Given as goal
+
+abbrev pub invariant-loop-k : goal.invariant-loop-k
+invariant-loop-k l =
+    (l.k ≤ length l.s) × (length l.products ≡ 24) × (every calm l.products ≡ true) × ((every naught l.products && all_finite (drop l.k l.s)) ≡ all_finite l.s)
+
+abbrev pub decreases-loop-k : goal.decreases-loop-k
+decreases-loop-k l = length l.s - l.k

@@ -1,0 +1,22 @@
+-- The columns of L that are left to write from column j on give all of them. Assumes nothing.
+use Prim.Native.Nat.{ℕ, ◌-◌, ◌*◌, ◌+◌, ◌≤◌}
+use mathlib.Core.Path.{sym, ap, ◌∙◌}
+use native.Mathlib.Omega.{arith}
+use lib.ListN.{length}
+use Rattle.numbers.specs.Column.{Column}
+use Rattle.store.specs.Columns.{columns}
+use Rattle.store.specs.Steps.{column}
+use Rattle.store.proofs.Columns.{sized, column_within, column_length, part_column}
+use Rattle.from_factors.specs.Triangles.{lower_of, lower_factor}
+use Rattle.from_factors.proofs.Written.{Written, written_start, written_turn, written_flat}
+use Rattle.from_factors.proofs.lower_columns.Given as goal
+
+-- what is written to column j
+abbrev pub lower : ℕ → ℕ → Column → ℕ → Column
+lower m n factors j = lower_of j (column (columns m n factors) j)
+
+abbrev pub invariant-loop-j : goal.invariant-loop-j
+invariant-loop-j l = Written (lower l.m l.n l.factors) l.m l.k l.j l.out
+
+abbrev pub decreases-loop-j : goal.decreases-loop-j
+decreases-loop-j l = l.k - l.j

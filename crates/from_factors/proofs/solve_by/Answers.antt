@@ -1,0 +1,48 @@
+-- Refused by the tests, or the solved copy of the right-hand sides, settled. Assumes nothing.
+use mathlib.Core.Path.{◌≡◌, refl, sym, ap, ◌∙◌}
+use mathlib.Core.Bool.{true}
+use borrow.Author.Rules.{rules}
+use Rattle.numbers.proofs.Choice.{and_first, and_second}
+use Rattle.blas.proofs.Rows.{copied_whole}
+use Rattle.store.specs.Columns.{columns, is_matrix}
+use Rattle.store.proofs.Columns.{sized, same_matrix}
+use Rattle.factors.specs.Held.{held_refusal}
+use Rattle.from_factors.specs.Solving.{way_of, solve_asks}
+use Rattle.refusals.proofs.Outcomes.{promise_refused}
+use Rattle.factors.proofs.Held.{Passed, passed, square_matrix, square_list}
+use Rattle.from_factors.proofs.Promises.{promise_solved}
+use Rattle.from_factors.proofs.solve_by.Goals as goal
+
+pub returns-then-number-ne0 : goal.returns-then-number-ne0
+returns-then-number-ne0 c =
+    let number_is : let g = c.args in c.held_refusal-number.result ≡ held_refusal g.factors.now g.swaps.now g.told (solve_asks g.b.now g.told.rows g.k g.x.now) = rw (c.outside-sizes.ensures, c.is_matrix.ensures, c.is_matrix-2.ensures, c.all_finite-numbers.ensures) at c.held_refusal-number.ensures in
+    let whole = promise_refused _ _ _ _ _ (number_is) c.if-number-ne0.true c.answer_for.ensures in record { result_value = whole.0; x_after = whole.1 }
+
+pub solve_mut_by-requires : goal.solve_mut_by-requires
+solve_mut_by-requires c =
+    let number_is : let g = c.args in c.held_refusal-number.result ≡ held_refusal g.factors.now g.swaps.now g.told (solve_asks g.b.now g.told.rows g.k g.x.now) = rw (c.outside-sizes.ensures, c.is_matrix.ensures, c.is_matrix-2.ensures, c.all_finite-numbers.ensures) at c.held_refusal-number.ensures in
+    let past : let g = c.args in Passed g.factors.now g.swaps.now g.told (solve_asks g.b.now g.told.rows g.k g.x.now) = passed _ _ _ _ (sym (number_is) ∙ c.if-number-ne0.false) in
+    let sides : let g = c.args in (is_matrix g.b.now g.told.rows g.k ≡ true) × (is_matrix g.x.now g.told.rows g.k ≡ true) = let g = c.args in let b = is_matrix g.b.now g.told.rows g.k in let x = is_matrix g.x.now g.told.rows g.k in (and_first b x (past).lengths, and_second b x (past).lengths) in
+    let p = past in
+    record {
+      rows_value = (
+        square_matrix _ _ _ _ refl p,
+        same_matrix c.args.told.rows c.args.k c.args.x.now _
+            c.copy.auto.dst ∙ (sides).1,
+      );
+      rows_value_2 = square_list _ _ _ _ refl p;
+    }
+
+pub returns : goal.returns
+returns c =
+    let number_is : let g = c.args in c.held_refusal-number.result ≡ held_refusal g.factors.now g.swaps.now g.told (solve_asks g.b.now g.told.rows g.k g.x.now) = rw (c.outside-sizes.ensures, c.is_matrix.ensures, c.is_matrix-2.ensures, c.all_finite-numbers.ensures) at c.held_refusal-number.ensures in
+    let past : let g = c.args in Passed g.factors.now g.swaps.now g.told (solve_asks g.b.now g.told.rows g.k g.x.now) = passed _ _ _ _ (sym (number_is) ∙ c.if-number-ne0.false) in
+    let sides : let g = c.args in (is_matrix g.b.now g.told.rows g.k ≡ true) × (is_matrix g.x.now g.told.rows g.k ≡ true) = let g = c.args in let b = is_matrix g.b.now g.told.rows g.k in let x = is_matrix g.x.now g.told.rows g.k in (and_first b x (past).lengths, and_second b x (past).lengths) in
+    let g = c.args in
+    let n = g.told.rows in
+    let fit = sides in
+    let long = (sized n g.k g.b.now fit.0).size ∙ sym (sized n g.k g.x.now fit.1).size in
+    let is = c.copy.ensures ∙ copied_whole g.b.now g.x.now long in
+    let whole = promise_solved (way_of g.transposed) g.told _ _ _ _ _ _ _ _ _ _ _ (number_is) c.if-number-ne0.false
+    c.solve_mut_by.ensures (ap (columns n g.k) is) c.settle.ensures.value c.answer_for-2.ensures
+    c.settle.ensures.res_after in record { result_value = whole.0; x_after = whole.1 }

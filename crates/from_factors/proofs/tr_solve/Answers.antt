@@ -1,0 +1,8 @@
+-- The call's own outcome, by its way to solve a column. Assumes nothing.
+use borrow.Author.Rules.{rules}
+use Rattle.from_factors.specs.Solving.{tr_solving}
+use Rattle.from_factors.proofs.tr_solve.Goals as goal
+
+pub returns : goal.returns
+unfolding tr_solving
+returns c = let whole = c.solve_by.ensures in record { result_value = whole.0; x_after = whole.1 }

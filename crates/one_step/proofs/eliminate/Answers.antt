@@ -1,0 +1,55 @@
+-- The columns that are left from column j on give the whole; column i, left of them, stays. Assumes nothing.
+use Prim.Native.Nat.{◌-◌, ◌<◌}
+use mathlib.Core.Path.{◌≡◌, refl, sym, ◌∙◌}
+use mathlib.Core.Bool.{true}
+use native.Mathlib.Omega.{arith}
+use borrow.Author.Rules.{rules}
+use borrow.Author.Tests.{not-true, not-false}
+use lib.ListN.{length}
+use Rattle.store.specs.Columns.{columns, is_matrix}
+use Rattle.store.specs.Steps.{column}
+use Rattle.one_step.specs.OneStep.{step_columns, eliminated}
+use Rattle.store.proofs.Columns.{same_matrix, column_stop, on_none, on_done}
+use Rattle.one_step.proofs.Shape.{eliminated_past}
+use Rattle.one_step.proofs.Within.{stepped_column, stepped_turn}
+use Rattle.one_step.proofs.eliminate.Goals as goal
+
+pub returns-then-not-is_matrix : goal.returns-then-not-is_matrix
+returns-then-not-is_matrix c = on_none _ _ _ _ (sym c.is_matrix.ensures ∙ c.if-not-is_matrix.true)
+
+pub returns-then-min-i : goal.returns-then-min-i
+returns-then-min-i c =
+    let fit = sym c.is_matrix.ensures ∙ c.if-not-is_matrix.false in
+    on_done _ _ _ _ _ fit refl (eliminated_past _ _ _ _ fit (rw (← c.min.ensures) c.if-min-i.true))
+
+pub loop-j-init : goal.loop-j-init
+unfolding eliminated
+loop-j-init c = (refl, omega arith, refl, refl)
+
+pub step_inner-requires : goal.step_inner-requires
+step_inner-requires c =
+    let has : let g = c.args in (is_matrix g.s.now g.m g.n ≡ true) × (g.i < g.m) × (g.i < g.n) = (sym c.is_matrix.ensures ∙ c.if-not-is_matrix.false, omega arith, omega arith) in
+    let h = has in
+    (same_matrix _ _ _ _ c.loop-j.invariant.0 ∙ h.0, h.1, h.2, c.loop-j-test.true)
+
+pub loop-j-preserved : goal.loop-j-preserved
+loop-j-preserved c =
+    let hj = c.loop-j-test.true in
+    let made = c.step_inner.ensures in (
+      c.step_inner.auto.s ∙ c.loop-j.invariant.0,
+      omega arith,
+      stepped_column _ _ _ _ _ _ hj made c.loop-j.invariant.1
+          ∙ c.loop-j.invariant.2,
+      stepped_turn _ _ _ _ _ _ hj made _ c.loop-j.invariant.2 ∙ c.loop-j.invariant.3,
+    )
+
+pub returns : goal.returns
+unfolding step_columns
+returns c =
+    let has : let g = c.args in (is_matrix g.s.now g.m g.n ≡ true) × (g.i < g.m) × (g.i < g.n) = (sym c.is_matrix.ensures ∙ c.if-not-is_matrix.false, omega arith, omega arith) in
+    on_done _ _ _ _ _ (has).0 c.loop-j.invariant.0 (sym (column_stop _ _ _ _ _ c.loop-j-test.false) ∙ c.loop-j.invariant.3)
+
+pub overflow_add-j : goal.overflow_add-j
+overflow_add-j c =
+    let has : let g = c.args in (is_matrix g.s.now g.m g.n ≡ true) × (g.i < g.m) × (g.i < g.n) = (sym c.is_matrix.ensures ∙ c.if-not-is_matrix.false, omega arith, omega arith) in
+    omega (arith, has)

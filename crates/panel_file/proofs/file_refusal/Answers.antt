@@ -1,0 +1,8 @@
+-- No store is lent besides. Assumes nothing.
+use borrow.Author.Rules.{rules}
+use Rattle.panel_file.specs.Reading.{file_refusal}
+use Rattle.panel_file.proofs.file_refusal.Goals as goal
+
+pub returns : goal.returns
+unfolding file_refusal
+returns c = c.refusal_beside.ensures

@@ -1,0 +1,20 @@
+-- What is left to write from number k on is `each_from` from k on. Assumes nothing.
+use Prim.Native.Nat.{ℕ, ◌-◌, ◌+◌}
+use mathlib.Core.Path.{◌≡◌, refl, sym, ap, ◌∙◌}
+use native.Mathlib.Omega.{arith}
+use borrow.Author.Rules.{rules}
+use lib.ListN.{length, set}
+use lib.Ieee.{Float, nan, binary64, of_bits}
+use lib.Ieee.Scale.{finite}
+use Rattle.numbers.specs.Each.{each_from, list_of}
+use Rattle.numbers.proofs.Each.{each_step, each_stop, each_list}
+use Rattle.panel_file.specs.File.{number_at}
+use Rattle.panel_file.proofs.Bits.{finite_number}
+use Rattle.panel_file.proofs.fill.Given as goal
+
+abbrev pub invariant-loop-k : goal.invariant-loop-k
+invariant-loop-k l =
+    (length l.dst ≡ length l.initial.dst) × (each_from (λ i v. number_at l.file (l.from + i)) l.k l.dst ≡ list_of (length l.initial.dst) (λ i. number_at l.file (l.from + i)))
+
+abbrev pub decreases-loop-k : goal.decreases-loop-k
+decreases-loop-k l = length l.initial.dst - l.k

@@ -1,0 +1,27 @@
+-- The word, the number, the newline. Assumes nothing.
+use native.Mathlib.Omega.{arith}
+use borrow.Author.Rules.{rules}
+use lib.ListN.{length-set}
+use Rattle.panel_text.specs.Text.{refused_word}
+use Rattle.panel_text.proofs.Lines.{FirstLine, first_line_lem, refusal_written}
+use Rattle.panel_text.proofs.put_refusal.Goals as goal
+
+pub bounds-out-end : goal.bounds-out-end
+bounds-out-end c =
+    let first_at : let g = c.args in FirstLine refused_word g.number g.out.now c.put_decimal-end.new.out c.put_decimal-end.result = first_line_lem refused_word _ _ _ _ _ _ (omega arith) c.put_word-at.ensures.out_after c.put_word-at.ensures.value c.put_decimal-end.ensures.out_after c.put_decimal-end.ensures.value in
+    (first_at).room
+
+pub overflow_add-result : goal.overflow_add-result
+overflow_add-result c =
+    let first_at : let g = c.args in FirstLine refused_word g.number g.out.now c.put_decimal-end.new.out c.put_decimal-end.result = first_line_lem refused_word _ _ _ _ _ _ (omega arith) c.put_word-at.ensures.out_after c.put_word-at.ensures.value c.put_decimal-end.ensures.out_after c.put_decimal-end.ensures.value in
+    omega (arith, (first_at).room)
+
+pub shape_of-out : goal.shape_of-out
+shape_of-out c =
+    let first_at : let g = c.args in FirstLine refused_word g.number g.out.now c.put_decimal-end.new.out c.put_decimal-end.result = first_line_lem refused_word _ _ _ _ _ _ (omega arith) c.put_word-at.ensures.out_after c.put_word-at.ensures.value c.put_decimal-end.ensures.out_after c.put_decimal-end.ensures.value in
+    simp length-set (first_at).size
+
+pub returns : goal.returns
+returns c =
+    let first_at : let g = c.args in FirstLine refused_word g.number g.out.now c.put_decimal-end.new.out c.put_decimal-end.result = first_line_lem refused_word _ _ _ _ _ _ (omega arith) c.put_word-at.ensures.out_after c.put_word-at.ensures.value c.put_decimal-end.ensures.out_after c.put_decimal-end.ensures.value in
+    let whole = refusal_written _ _ _ _ (first_at) in record { value = whole.0; out_after = whole.1 }

@@ -1,0 +1,33 @@
+-- After k pads the first k slots hold the chosen ones of them, and 0 behind (`Filling`). Assumes nothing.
+use Prim.Native.Nat.{◌-◌, ◌≤◌, ◌<◌}
+use mathlib.Core.Path.{sym, ◌∙◌}
+use mathlib.Core.Logic.{⊎_elim}
+use native.Mathlib.Omega.{arith}
+use borrow.Author.Rules.{rules}
+use lib.ListN.{length, length-set}
+use Rattle.ranking.specs.Inner.{choice_by}
+use Rattle.ranking.proofs.Listing.{Filling, held_pads, turn_with, turn_without, filling_begins, filling_ends}
+use Rattle.ranking.proofs.list.Goals as goal
+
+pub loop-k-init : goal.loop-k-init
+loop-k-init c = (omega arith, filling_begins _ _ _)
+
+pub insert-requires : goal.insert-requires
+insert-requires c =
+    let room : c.loop-k.k < length c.args.ranks.now = omega arith in
+    record { pad = ((omega arith, omega arith), simp length-set (omega (arith, c.loop-k.invariant.1.size, c.loop-k.invariant.1.few))); by_index = held_pads _ _ _ c.loop-k.ranks c.loop-k.count c.loop-k.k c.loop-k.invariant.1 room c.loop-k.invariant.0 }
+
+pub loop-k-preserved : goal.loop-k-preserved
+loop-k-preserved c =
+    let test = sym c.is_listed.ensures in
+    let room : c.loop-k.k < length c.args.ranks.now = omega arith in (
+      omega arith,
+      ⊎_elim
+          (λ w. rw (w.5, w.6) (turn_with _ _ _ c.loop-k.ranks _ c.loop-k.count c.loop-k.k c.loop-k.invariant.1 room (test ∙ w.0.taken) w.2.ensures))
+          (λ w. rw (w.1, w.2) (turn_without _ _ _ c.loop-k.ranks c.loop-k.count c.loop-k.k c.loop-k.invariant.1 room (test ∙ w.0.left)))
+          c.if-is_listed.branch,
+    )
+
+pub returns : goal.returns
+returns c =
+    let whole = filling_ends _ _ _ c.args.ranks.now c.loop-k.ranks c.loop-k.count c.loop-k.k c.loop-k.invariant.1 c.loop-k-test.false c.loop-k.invariant.0 c.requires in record { value = whole.0; ranks_after = whole.1 }

@@ -1,0 +1,16 @@
+-- After k pads the first k slots hold the chosen ones of them, and 0 behind (`Filling`). Assumes nothing.
+use Prim.Native.Nat.{◌-◌, ◌≤◌, ◌<◌}
+use mathlib.Core.Path.{sym, ◌∙◌}
+use mathlib.Core.Logic.{⊎_elim}
+use native.Mathlib.Omega.{arith}
+use borrow.Author.Rules.{rules}
+use lib.ListN.{length, length-set}
+use Rattle.ranking.specs.Inner.{choice_by}
+use Rattle.ranking.proofs.Listing.{Filling, held_pads, turn_with, turn_without, filling_begins, filling_ends}
+use Rattle.ranking.proofs.list.Given as goal
+
+abbrev pub invariant-loop-k : goal.invariant-loop-k
+invariant-loop-k l = (l.k ≤ length l.loads) × Filling (choice_by l.all l.loads) l.loads l.initial.ranks l.ranks l.count l.k
+
+abbrev pub decreases-loop-k : goal.decreases-loop-k
+decreases-loop-k l = length l.loads - l.k

@@ -1,0 +1,7 @@
+-- The tests of held factors, with what was found of the list. Assumes nothing.
+use borrow.Author.Rules.{rules}
+use Rattle.removing.proofs.Removes.{refusal_found}
+use Rattle.removing.proofs.removing_refusal.Goals as goal
+
+pub returns : goal.returns
+returns c = refusal_found _ _ _ _ _ c.is_good_to_remove.ensures c.held_refusal.ensures

@@ -1,0 +1,71 @@
+-- The turns that are left from diagonal i on give the whole product; what is made so far keeps its range, so the next turn has room. Assumes nothing.
+use mathlib.Core.Path.{◌≡◌, sym, ap, ◌∙◌, subst}
+use Prim.Native.Nat.{ℕ, suc, ◌-◌, ◌*◌, ◌+◌, ◌<◌}
+use native.Mathlib.Numerals.{add-one}
+use native.Mathlib.Omega.{arith}
+use lib.ListN.{length, get_or}
+use lib.Ieee.{nan}
+use Rattle.numbers.specs.Each.{turns_from}
+use Rattle.numbers.proofs.Each.{turns_begin, turns_next, turns_done}
+use Rattle.store.specs.Columns.{columns}
+use Rattle.store.proofs.Columns.{sized}
+use Rattle.scaled_determinant.specs.Scaled.{scaled_times}
+use Rattle.scaled_determinant.specs.Determinant.{scaled_turn, scaled_product}
+use Rattle.scaled_determinant.specs.Inner.{Parted}
+use Rattle.scaled_determinant.proofs.Exponents.{mag_within}
+use Rattle.scaled_determinant.proofs.Parts.{parted_fine}
+use Rattle.scaled_determinant.proofs.Range.{Bounded, bounded_start, bounded_step}
+use Rattle.scaled_determinant.proofs.Diagonal.{within, diagonal_is, diagonal_parted}
+use Rattle.scaled_determinant.proofs.scaled_product.Goals as goal
+
+abbrev In : Type 0
+In = tie.In-loop invariant-loop decreases-loop
+
+-- in a turn, the diagonal's number lies within the factors, and has parts
+inside : (c : In) → let s = c.before.before.before in c.before.loop.i * s.args.n + c.before.loop.i < length s.args.factors.now
+inside c = let s = c.before.before.before in within s.args.n s.args.factors.now s.requires.0 c.before.loop.i c.loop-test.true
+
+parted : (c : In) → let s = c.before.before.before in Parted (get_or s.args.factors.now (c.before.loop.i * s.args.n + c.before.loop.i) nan)
+parted c =
+    let s = c.before.before.before in
+    diagonal_parted s.args.n s.args.factors.now s.requires.0 s.requires.1 s.requires.2 c.before.loop.i c.loop-test.true
+
+pub loop-i-init : goal.loop-i-init
+unfolding scaled_product
+loop-i-init c = (turns_begin _ _ _, bounded_start)
+
+pub times-r-requires : goal.times-r-requires
+times-r-requires c =
+    let few = (sized _ _ _ c.requires.0).rows_most in
+    let i = c.loop-i.i in
+    (parted c, omega (arith, few, c.loop-i-test.true, mag_within i c.loop-i.r.exponent (omega (arith, few, c.loop-i-test.true)) c.loop-i.invariant.1.within))
+
+pub loop-i-preserved : goal.loop-i-preserved
+unfolding scaled_turn
+loop-i-preserved c =
+    let n = c.args.n in
+    let factors = c.args.factors.now in
+    let i = c.loop-i.i in
+    let h = c.loop-i-test.true in
+    let x = get_or factors (i * n + i) nan in
+    let made : c.times-r.result ≡ scaled_times c.loop-i.r x = c.times-r.ensures in (
+      turns_next (scaled_turn (columns n n factors)) i n _ _ h (made ∙ ap (scaled_times c.loop-i.r) (diagonal_is n factors c.requires.0 i h)) ∙ c.loop-i.invariant.0,
+      subst (λ (k : ℕ). Bounded k c.times-r.result) (sym (add-one i))
+          (subst (Bounded (suc i)) (sym made)
+          (bounded_step i c.loop-i.r x (c.shared_slice_known-in-loop-i-1.given (i * n + i)) (parted_fine x (parted c)) c.loop-i.invariant.1)),
+    )
+
+pub returns : goal.returns
+returns c = sym (turns_done _ _ _ _ c.loop-i-test.false) ∙ c.loop-i.invariant.0
+
+pub overflow_mul-a : goal.overflow_mul-a
+overflow_mul-a c = omega (arith, inside c)
+
+pub overflow_add-q : goal.overflow_add-q
+overflow_add-q c = omega (arith, inside c)
+
+pub offset_bounds-factors-q : goal.offset_bounds-factors-q
+offset_bounds-factors-q c = omega (arith, inside c)
+
+pub bounds-factors-q : goal.bounds-factors-q
+bounds-factors-q c = omega (arith, inside c)

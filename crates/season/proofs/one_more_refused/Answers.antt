@@ -1,0 +1,15 @@
+-- A place that is there is written; past the end nothing is. Assumes nothing.
+use Rattle.std.proofs.Common.{arith, w64, rules}
+use borrow.Kind.Array.{e_int, good_length}
+use Rattle.season.specs.Season.{one_more_at}
+use Rattle.season.proofs.Rows.{past_end}
+use Rattle.season.proofs.one_more_refused.Goals as goal
+
+pub returns-then-i-lt9 : goal.returns-then-i-lt9
+unfolding one_more_at
+returns-then-i-lt9 c = rw c.wrapping_add_usize.ensures
+
+pub returns-else-i-lt9 : goal.returns-else-i-lt9
+returns-else-i-lt9 c =
+    past_end _ c.args.t1
+    (omega (arith, good_length (e_int w64) 9 c.args.t1 _ c.well_formed.0, c.if-i-lt9.false))

@@ -1,0 +1,20 @@
+-- The factors, then the share. Assumes nothing.
+use Rattle.std.proofs.Common.{◌∙◌, rules}
+use Rattle.crossing.proofs.Factors.{Ready, filed_ready, filed_refused}
+use Rattle.season.proofs.Telling.{telling_held, telling_refused}
+use Rattle.season.proofs.tell.Goals as goal
+
+pub tell_crossing-requires : goal.tell_crossing-requires
+tell_crossing-requires c =
+    let ready : Ready c.args.file.now c.factor_file.new.matrix c.factor_file.new.readings c.factor_file.new.swaps c.in-Factors.told = filed_ready _ _ _ _ _ c.factor_file.ensures _ _ c.in-Factors.is in
+    let w = ready in
+    (w.least, w.most, search rules, search rules)
+
+pub returns-in-Factors : goal.returns-in-Factors
+returns-in-Factors c =
+    let ready : Ready c.args.file.now c.factor_file.new.matrix c.factor_file.new.readings c.factor_file.new.swaps c.in-Factors.told = filed_ready _ _ _ _ _ c.factor_file.ensures _ _ c.in-Factors.is in
+    let w = ready in
+    c.tell_crossing.ensures ∙ telling_held _ _ _ _ _ w.factors w.is_readings
+
+pub returns-in-Refused : goal.returns-in-Refused
+returns-in-Refused c = telling_refused _ _ (filed_refused _ _ _ _ _ c.factor_file.ensures _ c.in-Refused.is)

@@ -1,0 +1,58 @@
+-- The columns that are left from column j on give the whole. Assumes nothing.
+use Prim.Native.Nat.{◌-◌, ◌*◌, ◌+◌, ◌≤◌, ◌<◌, min}
+use mathlib.Core.Path.{◌≡◌, refl, sym, ◌∙◌}
+use native.Mathlib.Omega.{arith}
+use borrow.Author.Rules.{rules}
+use borrow.Author.Tests.{not-true, not-false}
+use lib.ListN.{length}
+use Rattle.store.specs.Columns.{columns}
+use Rattle.store.specs.Steps.{rows_swapped}
+use Rattle.store.proofs.Columns.{sized, column_within, on_none, on_done}
+use Rattle.store.proofs.Steps.{rows_itself, range_turn, range_stop}
+use Rattle.store.proofs.swap_rows.Goals as goal
+
+pub returns-then-not-is_matrix : goal.returns-then-not-is_matrix
+returns-then-not-is_matrix c = on_none _ _ _ _ (sym c.is_matrix.ensures ∙ c.if-not-is_matrix.true)
+
+pub loop-j-init : goal.loop-j-init
+loop-j-init c = (refl, refl)
+
+pub overflow_mul-a : goal.overflow_mul-a
+overflow_mul-a c =
+    let size : let g = c.args in length c.loop-j.s ≡ g.n * g.m = c.loop-j.invariant.0 ∙ (sized _ _ _ (sym c.is_matrix.ensures ∙ c.if-not-is_matrix.false)).size in
+    let within : let g = c.args in c.loop-j.j * g.m + g.m ≤ length c.loop-j.s = let h : c.loop-j.j < c.args.n = omega arith in column_within _ _ _ c.loop-j.s h (size) in
+    omega (arith, within)
+
+pub overflow_add-e : goal.overflow_add-e
+overflow_add-e c =
+    let size : let g = c.args in length c.loop-j.s ≡ g.n * g.m = c.loop-j.invariant.0 ∙ (sized _ _ _ (sym c.is_matrix.ensures ∙ c.if-not-is_matrix.false)).size in
+    let within : let g = c.args in c.loop-j.j * g.m + g.m ≤ length c.loop-j.s = let h : c.loop-j.j < c.args.n = omega arith in column_within _ _ _ c.loop-j.s h (size) in
+    omega (arith, within)
+
+pub offset_bounds-s-a : goal.offset_bounds-s-a
+offset_bounds-s-a c =
+    let size : let g = c.args in length c.loop-j.s ≡ g.n * g.m = c.loop-j.invariant.0 ∙ (sized _ _ _ (sym c.is_matrix.ensures ∙ c.if-not-is_matrix.false)).size in
+    let within : let g = c.args in c.loop-j.j * g.m + g.m ≤ length c.loop-j.s = let h : c.loop-j.j < c.args.n = omega arith in column_within _ _ _ c.loop-j.s h (size) in
+    omega (arith, within)
+
+pub loop-j-preserved : goal.loop-j-preserved
+loop-j-preserved c =
+    let size : let g = c.args in length c.loop-j.s ≡ g.n * g.m = c.loop-j.invariant.0 ∙ (sized _ _ _ (sym c.is_matrix.ensures ∙ c.if-not-is_matrix.false)).size in
+    let e = c.min-end.ensures in
+    (omega arith, range_turn _ _ _ _ _ _ _ _ (rw (← e) c.loop-j-test.true) (size) c.swap.auto.col c.swap.ensures ∙ c.loop-j.invariant.1)
+
+-- a row exchanged with itself
+pub returns-then-i-p : goal.returns-then-i-p
+returns-then-i-p c = on_done _ _ _ _ _ (sym c.is_matrix.ensures ∙ c.if-not-is_matrix.false) refl (rows_itself _ _ _ _ _ c.if-i-p.true)
+
+pub returns : goal.returns
+returns c =
+    let e = c.min-end.ensures in
+    on_done _ _ _ _ _ (sym c.is_matrix.ensures ∙ c.if-not-is_matrix.false) c.loop-j.invariant.0
+    (sym (range_stop _ _ _ _ _ _ _ (rw (← e) c.loop-j-test.false)) ∙ c.loop-j.invariant.1)
+
+pub slice_bounds-swap-end : goal.slice_bounds-swap-end
+slice_bounds-swap-end c =
+    let size : let g = c.args in length c.loop-j.s ≡ g.n * g.m = c.loop-j.invariant.0 ∙ (sized _ _ _ (sym c.is_matrix.ensures ∙ c.if-not-is_matrix.false)).size in
+    let within : let g = c.args in c.loop-j.j * g.m + g.m ≤ length c.loop-j.s = let h : c.loop-j.j < c.args.n = omega arith in column_within _ _ _ c.loop-j.s h (size) in
+    within

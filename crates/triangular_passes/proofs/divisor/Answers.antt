@@ -1,0 +1,13 @@
+-- The given diagonal where there is one, else the matrix's own. Assumes nothing.
+use borrow.Author.Rules.{rules}
+use Rattle.triangular_passes.proofs.Given.{own_stands}
+use Rattle.triangular_passes.proofs.divisor.Goals as goal
+
+pub returns-in-GivenDiagonal : goal.returns-in-GivenDiagonal
+returns-in-GivenDiagonal c = rw c.in-GivenDiagonal.is
+
+pub returns-in-CorrectedDiagonal : goal.returns-in-CorrectedDiagonal
+returns-in-CorrectedDiagonal c = rw c.in-CorrectedDiagonal.is
+
+pub returns-in_default : goal.returns-in_default
+returns-in_default c = own_stands c.args.pass _ _ c.in_default.keys3

@@ -1,0 +1,17 @@
+-- The loop over the right-hand columns (`InPlace`). Assumes nothing.
+use Prim.Native.Nat.{◌+◌, ◌-◌, ◌*◌, ◌≤◌}
+use mathlib.Core.Path.{◌≡◌, sym, ◌∙◌}
+use mathlib.Core.Bool.{true}
+use native.Mathlib.Omega.{arith}
+use borrow.Author.Rules.{rules}
+use borrow.Author.Tests.{not-true, not-false}
+use lib.ListN.{length}
+use Rattle.store.specs.Columns.{is_matrix}
+use Rattle.triangular_passes.proofs.InPlace.{Left, left_all, left_within, left_rows, left_turn, left_none, no_matrix, no_sides}
+use Rattle.triangular_passes.proofs.solve_in_place.Given as goal
+
+abbrev pub invariant-loop-j : goal.invariant-loop-j
+invariant-loop-j l = Left l.pass l.n l.k l.t l.initial.b l.j l.b
+
+abbrev pub decreases-loop-j : goal.decreases-loop-j
+decreases-loop-j l = l.k - l.j

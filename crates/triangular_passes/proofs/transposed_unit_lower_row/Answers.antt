@@ -1,0 +1,8 @@
+-- The difference is stored. Assumes nothing.
+use borrow.Author.Rules.{rules}
+use Rattle.triangular_passes.specs.Triangular.{transposed_unit_lower_row}
+use Rattle.triangular_passes.proofs.transposed_unit_lower_row.Goals as goal
+
+pub returns : goal.returns
+unfolding transposed_unit_lower_row
+returns c = rw c.less_below.ensures

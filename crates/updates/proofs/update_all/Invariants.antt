@@ -1,0 +1,20 @@
+-- The updates that are left from column i on give the whole; a turn makes the next four of them, or those that are left. Assumes nothing.
+use Prim.Native.Nat.{◌+◌, ◌-◌, ◌≤◌, ◌<◌, min}
+use mathlib.Core.Path.{◌≡◌, refl, sym, ap, ◌∙◌}
+use native.Mathlib.Omega.{arith}
+use borrow.Author.Rules.{rules}
+use lib.ListN.{length}
+use Rattle.numbers.specs.Each.{turns_from}
+use Rattle.numbers.proofs.Each.{turns_done}
+use Rattle.store.specs.Columns.{columns}
+use Rattle.store.proofs.Columns.{sized, same_matrix}
+use Rattle.updates.specs.Updates.{updated_at}
+use Rattle.elimination.proofs.Step.{turns_join}
+use Rattle.updates.proofs.update_all.Given as goal
+
+abbrev pub invariant-loop-i : goal.invariant-loop-i
+invariant-loop-i l =
+    (length l.s ≡ length l.initial.s) × (turns_from (updated_at l.n) l.i (l.all - l.i) (columns l.m (l.n + 1) l.s) ≡ turns_from (updated_at l.n) 0 (min l.m l.n) (columns l.m (l.n + 1) l.initial.s))
+
+abbrev pub decreases-loop-i : goal.decreases-loop-i
+decreases-loop-i l = l.all - l.i

@@ -1,0 +1,9 @@
+-- By the test. Assumes nothing.
+use borrow.Author.Rules.{rules}
+use Rattle.why.proofs.row_of.Goals as goal
+
+pub returns-then-upper : goal.returns-then-upper
+returns-then-upper c = rw c.if-upper.true
+
+pub returns-else-upper : goal.returns-else-upper
+returns-else-upper c = rw c.if-upper.false

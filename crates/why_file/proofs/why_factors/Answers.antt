@@ -1,0 +1,20 @@
+-- Reading, then why the matrix is not factored (`by_matrix`, `by_reader`). Assumes nothing.
+use mathlib.Core.Path.{◌∙◌}
+use borrow.Author.Rules.{rules}
+use lib.ListN.{length-replicate}
+use Rattle.numbers.specs.Numbers.{zero64}
+use Rattle.why_file.proofs.Filed.{was_read, by_matrix, by_reader}
+use Rattle.why_file.proofs.why_factors.Goals as goal
+
+pub why_matrix-requires : goal.why_matrix-requires
+why_matrix-requires c =
+    let w = was_read c.args.file.now _ _ _ c.read.ensures.result_value c.read.ensures.matrix_after c.read.ensures.readings_after _ c.in-Pads.is in
+    (w.good.most, c.read.auto.matrix ∙ length-replicate 4096 zero64)
+
+pub returns-in-Pads : goal.returns-in-Pads
+returns-in-Pads c =
+    by_matrix c.args.file.now _ _ _ c.read.ensures.result_value c.read.ensures.matrix_after c.read.ensures.readings_after _ _ c.in-Pads.is c.why_matrix.ensures
+
+pub returns-in-Refused : goal.returns-in-Refused
+returns-in-Refused c =
+    by_reader c.args.file.now _ _ _ c.read.ensures.result_value c.read.ensures.matrix_after c.read.ensures.readings_after _ c.in-Refused.is
