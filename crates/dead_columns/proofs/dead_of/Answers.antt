@@ -13,11 +13,15 @@ use Rattle.dead_columns.proofs.Dead.{diagonals, walk_next, walk_end, held_dead}
 use Rattle.dead_columns.proofs.dead_of.Goals.{Else-not-is_matrix, In-loop-j}
 use Rattle.dead_columns.proofs.dead_of.Goals as goal
 
+-- in a turn, column j ends within it, and row j lies in the column
+record Turn (m j size : ℕ) : Type 0 where
+  column : j * m + m ≤ size
+  row : j < m
+
 -- past the test, s holds the matrix
 matrix : (c : Else-not-is_matrix) → let g = c.args in is_matrix g.s.now g.m g.n ≡ true
 matrix c = sym c.is_matrix.ensures ∙ c.if-not-is_matrix.false
 
--- in a turn, column j ends within it, and row j lies in the column
 turn : (c : In-loop-j) → let g = c.args in
     Turn g.m c.loop-j.j (length g.s.now)
 turn c =

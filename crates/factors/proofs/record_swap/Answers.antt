@@ -10,12 +10,12 @@ use Rattle.factors.proofs.record_swap.Goals as goal
 
 pub returns-then-piv-i : goal.returns-then-piv-i
 unfolding pairs_with store_with takes_pair
-returns-then-piv-i c = let whole = rw (eq-eqb _ _ c.if-piv-i.true) (refl, refl) in record { value = whole.0; swaps_after = whole.1 }
+returns-then-piv-i c = record { value = rw (eq-eqb _ _ c.if-piv-i.true) refl; swaps_after = rw (eq-eqb _ _ c.if-piv-i.true) refl }
 
 pub returns-then-swaps-pairs : goal.returns-then-swaps-pairs
 unfolding pairs_with store_with takes_pair
 returns-then-swaps-pairs c =
-    let whole = rw (ne_eqb _ _ c.if-piv-i.false, le-ltb _ _ c.if-swaps-pairs.true) (refl, refl) in record { value = whole.0; swaps_after = whole.1 }
+    record { value = rw (ne_eqb _ _ c.if-piv-i.false, le-ltb _ _ c.if-swaps-pairs.true) refl; swaps_after = rw (ne_eqb _ _ c.if-piv-i.false, le-ltb _ _ c.if-swaps-pairs.true) refl }
 
 pub bounds-swaps-pairs-2 : goal.bounds-swaps-pairs-2
 bounds-swaps-pairs-2 c = simp length-set (omega arith)
@@ -23,4 +23,4 @@ bounds-swaps-pairs-2 c = simp length-set (omega arith)
 pub returns : goal.returns
 unfolding pairs_with store_with takes_pair with_pair
 returns c =
-    let whole = rw (ne_eqb _ _ c.if-piv-i.false, lt-ltb _ _ c.if-swaps-pairs.false) (refl, refl) in record { value = whole.0; swaps_after = whole.1 }
+    record { value = rw (ne_eqb _ _ c.if-piv-i.false, lt-ltb _ _ c.if-swaps-pairs.false) refl; swaps_after = rw (ne_eqb _ _ c.if-piv-i.false, lt-ltb _ _ c.if-swaps-pairs.false) refl }

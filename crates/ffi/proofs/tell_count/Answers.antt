@@ -8,8 +8,8 @@ use Rattle.ffi.proofs.tell_count.Goals as goal
 
 pub returns-in-Pads : goal.returns-in-Pads
 unfolding number_of pads_listed count_in
-returns-in-Pads c = let whole = rw c.in-Pads.is (refl, refl) in record { value = whole.0; count_after = whole.1 }
+returns-in-Pads c = record { value = rw c.in-Pads.is refl; count_after = rw c.in-Pads.is refl }
 
 pub returns-in-Refused : goal.returns-in-Refused
 unfolding number_of pads_listed count_in
-returns-in-Refused c = let whole = rw c.in-Refused.is (refl, refl) in record { value = whole.0; count_after = whole.1 }
+returns-in-Refused c = record { value = rw c.in-Refused.is refl; count_after = rw c.in-Refused.is refl }

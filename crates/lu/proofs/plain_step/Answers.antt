@@ -14,6 +14,12 @@ use Rattle.lu.proofs.Slices.{pivot_within, plain_none, plain_past, plain_skipped
 use Rattle.lu.proofs.plain_step.Goals.{After-icamax-found, Else-min-i}
 use Rattle.lu.proofs.plain_step.Goals as goal
 
+-- past the two tests: the matrix, and its row and column i
+record Past (m n i : ℕ) (fits : Type 0) : Type 0 where
+  matrix : fits
+  row : i < m
+  column : i < n
+
 past : (c : Else-min-i) → let g = c.args in Past g.m g.n g.i (is_matrix g.s.now g.m g.n ≡ true)
 past c =
     record { matrix = sym c.is_matrix.ensures ∙ c.if-not-is_matrix.false; row = omega arith; column = omega arith }

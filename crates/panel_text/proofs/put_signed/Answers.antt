@@ -43,4 +43,4 @@ returns c =
     let bare_is : c.bare-n.result ≡ nat_abs c.args.e = c.bare-n.ensures ∙ ap nat_abs (kept_is c.args.e c.requires.0) in
     let above = sign_is c.args.e c.requires.0 false c.if-e-lt0.false in
     let is = signed_above c.args.e above ∙ ap whole (sym (bare_is)) in
-    let whole = rw is (c.put_whole-2.ensures.value, c.put_whole-2.ensures.out_after) in record { value = whole.0; out_after = whole.1 }
+    record { value = rw is c.put_whole-2.ensures.value; out_after = rw is c.put_whole-2.ensures.out_after }

@@ -8,9 +8,9 @@ use Rattle.refusals.proofs.settle.Goals as goal
 pub returns-then-all_finite : goal.returns-then-all_finite
 unfolding seventh number_of
 returns-then-all_finite c =
-    let whole = rw (sym c.all_finite.ensures ∙ c.if-all_finite.true) (refl, refl) in record { value = whole.0; res_after = whole.1 }
+    record { value = rw (sym c.all_finite.ensures ∙ c.if-all_finite.true) refl; res_after = rw (sym c.all_finite.ensures ∙ c.if-all_finite.true) refl }
 
 pub returns : goal.returns
 unfolding seventh number_of
 returns c =
-    let whole = rw (sym c.all_finite.ensures ∙ c.if-all_finite.false) (refl, c.fill_zero.ensures) in record { value = whole.0; res_after = whole.1 }
+    record { value = rw (sym c.all_finite.ensures ∙ c.if-all_finite.false) refl; res_after = rw (sym c.all_finite.ensures ∙ c.if-all_finite.false) c.fill_zero.ensures }
