@@ -96,6 +96,8 @@ def of_all(rest, names):
         at, k = at + 1, k + 1
     if at < len(rest) and rest[at] == "0" and k < len(names):
         return names[k], at + 1
+    if k and at == len(rest) and k < len(names):
+        return names[k], at
     return None
 
 
@@ -124,7 +126,7 @@ class Turner:
         if head in ("requires", "pre"):
             names = f.info["pre"]
             names = names.get("fields") if isinstance(names, dict) else names
-            rest = parts[1:]
+            rest = [self.rows.get(p, p) for p in parts[1:]]
             if names and len(names) > 1 and rest:
                 got = nested(rest, names)
                 if got:
@@ -140,8 +142,8 @@ class Turner:
         rest = parts[1:]
         if rest and rest[0] in ("ens",):
             rest[0] = "ensures"
-        if rest and rest[0] == "inv":
-            rest[0] = "invariant"
+        if rest:
+            rest[0] = {"inv": "invariant", "last": "new", "kept": "auto"}.get(rest[0], rest[0])
         if rest and rest[0] == "ensures":
             names = f.fields(step[1], "ensures")
             if names and len(names) > 1 and len(rest) > 1:

@@ -12,20 +12,21 @@ use Rattle.triangular_passes.specs.declared.Pass.TheVariants.{TransposedLower, T
 use Rattle.triangular_passes.specs.Triangular.{given, turns_of}
 use Rattle.triangular_passes.specs.contracts.Pass.{the_type}
 
-pub own_stands : {A : Type 0} (pass : Pass) (f : Float → A) (own : A) → OneOf (0 ∷ 1 ∷ 3 ∷ 4 ∷ 6 ∷ []) (tag_of the_type pass) → own ≡ given pass f own
-own_stands Lower f own h = refl
-own_stands Upper f own h = refl
-own_stands (GivenDiagonal d) f own h = absurd (miss (0 ∷ 1 ∷ 3 ∷ 4 ∷ 6 ∷ []) 2 tt h)
-own_stands TransposedLower f own h = refl
-own_stands TransposedUpper f own h = refl
-own_stands (CorrectedDiagonal d) f own h = absurd (miss (0 ∷ 1 ∷ 3 ∷ 4 ∷ 6 ∷ []) 5 tt h)
-own_stands TransposedUnitLower f own h = refl
+pub own_stands : {A : Type 0} (pass : Pass) (f : Float → A) (own : A) → 
+    ((d : Float) → pass ≡ GivenDiagonal d → ⊥) → ((d : Float) → pass ≡ CorrectedDiagonal d → ⊥) → own ≡ given pass f own
+own_stands Lower f own h k = refl
+own_stands Upper f own h k = refl
+own_stands (GivenDiagonal d) f own h k = absurd (h d refl)
+own_stands TransposedLower f own h k = refl
+own_stands TransposedUpper f own h k = refl
+own_stands (CorrectedDiagonal d) f own h k = absurd (k d refl)
+own_stands TransposedUnitLower f own h k = refl
 
 -- and a match that names the undivided one alone: in its other arm every row has its turn
-pub all_turns : (pass : Pass) (n : ℕ) → OneOf (0 ∷ 1 ∷ 3 ∷ 4 ∷ 5 ∷ 6 ∷ []) (tag_of the_type pass) → n ≡ turns_of pass n
+pub all_turns : (pass : Pass) (n : ℕ) → ((d : Float) → pass ≡ GivenDiagonal d → ⊥) → n ≡ turns_of pass n
 all_turns Lower n h = refl
 all_turns Upper n h = refl
-all_turns (GivenDiagonal d) n h = absurd (miss (0 ∷ 1 ∷ 3 ∷ 4 ∷ 5 ∷ 6 ∷ []) 2 tt h)
+all_turns (GivenDiagonal d) n h = absurd (h d refl)
 all_turns TransposedLower n h = refl
 all_turns TransposedUpper n h = refl
 all_turns (CorrectedDiagonal d) n h = refl

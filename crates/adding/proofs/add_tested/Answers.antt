@@ -14,7 +14,7 @@ returns-then-not-all_finite c =
     _ (sym c.all_finite.ensures ∙ c.if-not-all_finite.true) c.fill_zero.auto.s c.fill_zero.ensures
 
 pub overflow_add-dead : goal.overflow_add-dead
-overflow_add-dead c = omega (arith, c.requires.few-dead)
+overflow_add-dead c = omega (arith, c.requires.few_dead)
 
 pub returns : goal.returns
 returns c =

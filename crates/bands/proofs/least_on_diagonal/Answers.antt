@@ -16,6 +16,7 @@ use Rattle.bands.proofs.Least.{less_taken, less_left}
 use Rattle.bands.proofs.least_on_diagonal.Reads as reads
 use Rattle.bands.proofs.least_on_diagonal.Lts as lts
 use Rattle.bands.proofs.least_on_diagonal.Goals.{In-loop-i}
+use Rattle.bands.proofs.least_on_diagonal.Goals.{then-x-least, else-x-least}
 use Rattle.bands.proofs.least_on_diagonal.Goals as goal
 
 -- in a turn, column i ends within the factors
@@ -38,7 +39,10 @@ loop-i-preserved c =
     let cs = columns g.n g.n g.t.now in
     let x = c.magnitude-x.ensures ∙ ap magnitude (entry_at g.n g.n c.loop-i.i c.loop-i.i g.t.now nan h h) in
     turns_next (less_at cs) _ _ _ _ h
-    (⊎_elim (λ w. w.1 ∙ less_taken cs _ _ _ x w.0.taken) (λ w. w.1 ∙ less_left cs _ _ _ x w.0.left) c.if-x-least.branch) ∙ c.loop-i.invariant
+    (elim c.if-x-least.branch [
+          then-x-least w ↦ w.least-is ∙ less_taken cs _ _ _ x w.if-x-least.true
+        | else-x-least w ↦ w.least-is ∙ less_left cs _ _ _ x w.if-x-least.false
+        ]) ∙ c.loop-i.invariant
 
 pub returns : goal.returns
 returns c = sym (turns_done _ _ _ _ c.loop-i-test.false) ∙ c.loop-i.invariant

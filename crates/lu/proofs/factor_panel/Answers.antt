@@ -34,13 +34,13 @@ pub slice_bounds-apply_to_rows-count-2 : goal.slice_bounds-apply_to_rows-count-2
 slice_bounds-apply_to_rows-count-2 c =
     let ends : ((c.args.i + 4) * c.args.m ≤ length c.args.s.now) × (c.args.m ≤ 64) × (c.args.n ≤ 64) = let fits = sized _ _ _ c.requires.n_value.0 in (front_ends _ _ _ _ c.args.swaps.now c.args.counts c.args.counts c.requires.n_value.0 c.requires.i_bound.0 c.requires.i_bound.1, fits.rows_most, fits.columns_most) in
     let pairs_within : let g = c.args in (2 * g.counts.pairs ≤ 128) × (length g.swaps.now ≡ 128) = (omega (arith, ends, c.requires.i_bound.0), c.requires.n_value.1) in
-    omega (arith, pairs_within, c.factor_steps-now.auto.1)
+    omega (arith, pairs_within, c.factor_steps-now.auto.swaps)
 
 pub returns : goal.returns
 returns c =
     let t_long : let g = c.args in length (c.factor_steps-now.new.s ++ drop ((g.i + 4) * g.m) g.s.now) ≡ length g.s.now = same_long _ _ _ _ _ _ _ c.requires.n_value.0 c.requires.i_bound.0 c.requires.i_bound.1 _ _ c.factor_steps-now.auto.s c.factor_steps-now.ensures in
-    let swapped_fits : let g = c.args in let z = (g.i + 4) * g.m in let t = c.factor_steps-now.new.s ++ drop z g.s.now in is_matrix (put_mid z (length t - z) t c.apply_to_rows.new.s) g.m g.n ≡ true = let g = c.args in let z = (g.i + 4) * g.m in let t = c.factor_steps-now.last.0 ++ drop z g.s.now in same_matrix _ _ g.s.now _ (same_len_mid z (length t - z) t c.apply_to_rows.new.s c.apply_to_rows.auto.s ∙ t_long) ∙ c.requires.n_value.0 in
-    panel_done _ _ _ _ _ _ _ c.requires.n_value.0 c.requires.i_bound.0 c.requires.i_bound.1 _ _ c.factor_steps-now.kept.0 c.factor_steps-now.ensures _ _ c.apply_to_rows.auto.s c.apply_to_rows.ensures c.update_columns.auto.s
+    let swapped_fits : let g = c.args in let z = (g.i + 4) * g.m in let t = c.factor_steps-now.new.s ++ drop z g.s.now in is_matrix (put_mid z (length t - z) t c.apply_to_rows.new.s) g.m g.n ≡ true = let g = c.args in let z = (g.i + 4) * g.m in let t = c.factor_steps-now.new.s ++ drop z g.s.now in same_matrix _ _ g.s.now _ (same_len_mid z (length t - z) t c.apply_to_rows.new.s c.apply_to_rows.auto.s ∙ t_long) ∙ c.requires.n_value.0 in
+    panel_done _ _ _ _ _ _ _ c.requires.n_value.0 c.requires.i_bound.0 c.requires.i_bound.1 _ _ c.factor_steps-now.auto.s c.factor_steps-now.ensures _ _ c.apply_to_rows.auto.s c.apply_to_rows.ensures c.update_columns.auto.s
     (updated_columns _ _ _ _ _ _ _ (swapped_fits) c.requires.i_bound.0 (omega arith) c.update_columns.ensures)
 
 pub overflow_mul-z : goal.overflow_mul-z
@@ -81,4 +81,4 @@ pub slice_bounds-apply_to_rows-start-2 : goal.slice_bounds-apply_to_rows-start-2
 slice_bounds-apply_to_rows-start-2 c =
     let ends : ((c.args.i + 4) * c.args.m ≤ length c.args.s.now) × (c.args.m ≤ 64) × (c.args.n ≤ 64) = let fits = sized _ _ _ c.requires.n_value.0 in (front_ends _ _ _ _ c.args.swaps.now c.args.counts c.args.counts c.requires.n_value.0 c.requires.i_bound.0 c.requires.i_bound.1, fits.rows_most, fits.columns_most) in
     let pairs_within : let g = c.args in (2 * g.counts.pairs ≤ 128) × (length g.swaps.now ≡ 128) = (omega (arith, ends, c.requires.i_bound.0), c.requires.n_value.1) in
-    omega (arith, pairs_within, c.factor_steps-now.auto.1)
+    omega (arith, pairs_within, c.factor_steps-now.auto.swaps)

@@ -25,7 +25,7 @@ put_signed-end-requires c =
     let kept_is : to_z w32 (of_z w32 c.args.r.exponent) ≡ c.args.r.exponent = to_z-of_z w32 c.args.r.exponent (record { sfits = omega (arith, ranged_few c.args.r c.requires.1) }) in
     let bits = to_bits binary64 c.args.r.significand in
     let out = c.args.out.now in
-    let size : length c.put_hex.last.0 ≡ 1288 =
+    let size : length c.put_hex.new.out ≡ 1288 =
     ap length c.put_hex.ensures ∙ length_written 0 (last_digits 16 16 bits) out (omega (arith, length_digits 16 16 bits, c.requires.0)) ∙ c.requires.0 in
     (rw (kept_is) (omega (arith, ranged_few c.args.r c.requires.1)), simp length-set (omega arith))
 
@@ -33,7 +33,7 @@ pub bounds-out-end : goal.bounds-out-end
 bounds-out-end c =
     let kept_is : to_z w32 (of_z w32 c.args.r.exponent) ≡ c.args.r.exponent = to_z-of_z w32 c.args.r.exponent (record { sfits = omega (arith, ranged_few c.args.r c.requires.1) }) in
     let place : c.put_signed-end.result ≡ 17 + length (signed c.args.r.exponent) = c.put_signed-end.ensures.value ∙ ap (λ (z : ℤ). 17 + length (signed z)) (kept_is) in
-    let tail : c.put_signed-end.new.out ≡ written 17 (signed c.args.r.exponent) (set c.put_hex.last.0 16 32) = c.put_signed-end.ensures.out_after ∙ ap (λ (z : ℤ). written 17 (signed z) (set c.put_hex.last.0 16 32)) (kept_is) in
+    let tail : c.put_signed-end.new.out ≡ written 17 (signed c.args.r.exponent) (set c.put_hex.new.out 16 32) = c.put_signed-end.ensures.out_after ∙ ap (λ (z : ℤ). written 17 (signed z) (set c.put_hex.new.out 16 32)) (kept_is) in
     let line : ScaledLine (last_digits 16 16 (to_bits binary64 c.args.r.significand)) c.args.r.exponent c.args.out.now c.put_signed-end.new.out c.put_signed-end.result = let bits = to_bits binary64 c.args.r.significand in scaled_line (last_digits 16 16 bits) c.args.r.exponent _ _ _ _ (length_digits 16 16 bits) c.requires.0 c.put_hex.ensures (tail) (place) in
     let l = line in omega (arith, l.size, l.room)
 
@@ -41,7 +41,7 @@ pub overflow_add-result : goal.overflow_add-result
 overflow_add-result c =
     let kept_is : to_z w32 (of_z w32 c.args.r.exponent) ≡ c.args.r.exponent = to_z-of_z w32 c.args.r.exponent (record { sfits = omega (arith, ranged_few c.args.r c.requires.1) }) in
     let place : c.put_signed-end.result ≡ 17 + length (signed c.args.r.exponent) = c.put_signed-end.ensures.value ∙ ap (λ (z : ℤ). 17 + length (signed z)) (kept_is) in
-    let tail : c.put_signed-end.new.out ≡ written 17 (signed c.args.r.exponent) (set c.put_hex.last.0 16 32) = c.put_signed-end.ensures.out_after ∙ ap (λ (z : ℤ). written 17 (signed z) (set c.put_hex.last.0 16 32)) (kept_is) in
+    let tail : c.put_signed-end.new.out ≡ written 17 (signed c.args.r.exponent) (set c.put_hex.new.out 16 32) = c.put_signed-end.ensures.out_after ∙ ap (λ (z : ℤ). written 17 (signed z) (set c.put_hex.new.out 16 32)) (kept_is) in
     let line : ScaledLine (last_digits 16 16 (to_bits binary64 c.args.r.significand)) c.args.r.exponent c.args.out.now c.put_signed-end.new.out c.put_signed-end.result = let bits = to_bits binary64 c.args.r.significand in scaled_line (last_digits 16 16 bits) c.args.r.exponent _ _ _ _ (length_digits 16 16 bits) c.requires.0 c.put_hex.ensures (tail) (place) in
     record { fits = omega (arith, (line).room) }
 
@@ -49,7 +49,7 @@ pub shape_of-out : goal.shape_of-out
 shape_of-out c =
     let kept_is : to_z w32 (of_z w32 c.args.r.exponent) ≡ c.args.r.exponent = to_z-of_z w32 c.args.r.exponent (record { sfits = omega (arith, ranged_few c.args.r c.requires.1) }) in
     let place : c.put_signed-end.result ≡ 17 + length (signed c.args.r.exponent) = c.put_signed-end.ensures.value ∙ ap (λ (z : ℤ). 17 + length (signed z)) (kept_is) in
-    let tail : c.put_signed-end.new.out ≡ written 17 (signed c.args.r.exponent) (set c.put_hex.last.0 16 32) = c.put_signed-end.ensures.out_after ∙ ap (λ (z : ℤ). written 17 (signed z) (set c.put_hex.last.0 16 32)) (kept_is) in
+    let tail : c.put_signed-end.new.out ≡ written 17 (signed c.args.r.exponent) (set c.put_hex.new.out 16 32) = c.put_signed-end.ensures.out_after ∙ ap (λ (z : ℤ). written 17 (signed z) (set c.put_hex.new.out 16 32)) (kept_is) in
     let line : ScaledLine (last_digits 16 16 (to_bits binary64 c.args.r.significand)) c.args.r.exponent c.args.out.now c.put_signed-end.new.out c.put_signed-end.result = let bits = to_bits binary64 c.args.r.significand in scaled_line (last_digits 16 16 bits) c.args.r.exponent _ _ _ _ (length_digits 16 16 bits) c.requires.0 c.put_hex.ensures (tail) (place) in
     simp length-set ((line).size ∙ sym c.requires.0)
 
@@ -58,7 +58,7 @@ unfolding scaled_text
 returns c =
     let kept_is : to_z w32 (of_z w32 c.args.r.exponent) ≡ c.args.r.exponent = to_z-of_z w32 c.args.r.exponent (record { sfits = omega (arith, ranged_few c.args.r c.requires.1) }) in
     let place : c.put_signed-end.result ≡ 17 + length (signed c.args.r.exponent) = c.put_signed-end.ensures.value ∙ ap (λ (z : ℤ). 17 + length (signed z)) (kept_is) in
-    let tail : c.put_signed-end.new.out ≡ written 17 (signed c.args.r.exponent) (set c.put_hex.last.0 16 32) = c.put_signed-end.ensures.out_after ∙ ap (λ (z : ℤ). written 17 (signed z) (set c.put_hex.last.0 16 32)) (kept_is) in
+    let tail : c.put_signed-end.new.out ≡ written 17 (signed c.args.r.exponent) (set c.put_hex.new.out 16 32) = c.put_signed-end.ensures.out_after ∙ ap (λ (z : ℤ). written 17 (signed z) (set c.put_hex.new.out 16 32)) (kept_is) in
     let line : ScaledLine (last_digits 16 16 (to_bits binary64 c.args.r.significand)) c.args.r.exponent c.args.out.now c.put_signed-end.new.out c.put_signed-end.result = let bits = to_bits binary64 c.args.r.significand in scaled_line (last_digits 16 16 bits) c.args.r.exponent _ _ _ _ (length_digits 16 16 bits) c.requires.0 c.put_hex.ensures (tail) (place) in
     let l = line in
     record { value = l.count; out_after = l.text }

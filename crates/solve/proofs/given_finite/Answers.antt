@@ -10,4 +10,4 @@ pub returns-in-CorrectedDiagonal : goal.returns-in-CorrectedDiagonal
 returns-in-CorrectedDiagonal c = rw c.in-CorrectedDiagonal.is c.is_finite-in-CorrectedDiagonal.ensures
 
 pub returns-in_default : goal.returns-in_default
-returns-in_default c = own_stands c.args.pass _ _ c.in_default.keys3
+returns-in_default c = own_stands c.args.pass _ _ c.in_default.not-GivenDiagonal c.in_default.not-CorrectedDiagonal

@@ -8,4 +8,4 @@ pub returns-in-GivenDiagonal : goal.returns-in-GivenDiagonal
 returns-in-GivenDiagonal c = rw c.in-GivenDiagonal.is (omega arith)
 
 pub returns-in_default : goal.returns-in_default
-returns-in_default c = all_turns c.args.pass _ c.in_default.keys2
+returns-in_default c = all_turns c.args.pass _ c.in_default.not-GivenDiagonal

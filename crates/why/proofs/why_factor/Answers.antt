@@ -13,11 +13,11 @@ returns-then-number-ne7 c =
 
 pub overflow_in_steps-reason-requires : goal.overflow_in_steps-reason-requires
 overflow_in_steps-reason-requires c =
-    copy_ready _ _ _ _ _ _ c.factor-answer.ensures.result_value _ c.in-Refused.is c.if-number-ne7.false _ _ c.factor-answer.kept.1.1.1.0 c.copy.ensures
+    copy_ready _ _ _ _ _ _ c.factor-answer.ensures.result_value _ c.in-Refused.is c.if-number-ne7.false _ _ c.factor-answer.auto.out c.copy.ensures
 
 pub returns : goal.returns
 returns c =
-    let kept = c.factor-answer.kept.1.1.1.0 in
+    let kept = c.factor-answer.auto.out in
     let is = c.in-Refused.is in
     record {
       result_value = overflow_told _ _ _ _ _ _ c.factor-answer.ensures.result_value _ is c.if-number-ne7.false _ _ kept c.copy.ensures _ c.overflow_in_steps-reason.ensures;

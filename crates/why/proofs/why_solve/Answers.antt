@@ -29,7 +29,7 @@ returns-then-number-ne7 c =
 pub overflow_in_solve-reason-requires : goal.overflow_in_solve-reason-requires
 overflow_in_solve-reason-requires c =
     let number_is : let g = c.args in c.number_of-number.result ≡ number_of (solving g.factors.now g.swaps.now g.told g.b.now g.k g.x.now).answer = c.number_of-number.ensures ∙ ap number_of c.solve.ensures.result_value in
-    let whole = ready _ _ _ _ _ _ _ (number_is) c.if-number-ne7.false _ _ c.solve.ensures.x_after c.solve.kept.1.1.1.1.1.0
+    let whole = ready _ _ _ _ _ _ _ (number_is) c.if-number-ne7.false _ _ c.solve.ensures.x_after c.solve.auto.x
     c.copy.ensures in record { rows_value = whole.0; rows_value_2 = whole.1 }
 
 pub returns : goal.returns
@@ -37,7 +37,7 @@ returns c =
     let number_is : let g = c.args in c.number_of-number.result ≡ number_of (solving g.factors.now g.swaps.now g.told g.b.now g.k g.x.now).answer = c.number_of-number.ensures ∙ ap number_of c.solve.ensures.result_value in
     let is = number_is in
     let left = c.solve.ensures.x_after in
-    let kept = c.solve.kept.1.1.1.1.1.0 in
+    let kept = c.solve.auto.x in
     record {
       result_value = overflow_told _ _ _ _ _ _ _ is c.if-number-ne7.false _ _ left kept c.copy.ensures _ c.overflow_in_solve-reason.ensures;
       x_after = zeroed_again _ _ _ _ _ _ _ is c.if-number-ne7.false _ _ left kept c.copy.ensures _ _ c.overflow_in_solve-reason.auto.x
