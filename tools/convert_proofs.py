@@ -150,6 +150,12 @@ class Turner:
                 got = nested(rest[1:], names)
                 if got:
                     rest = ["ensures", got[0], *rest[1 + got[1]:]]
+            elif names and len(names) > 1:
+                whole = f"c.{step[0]}.ensures."
+                pairs = whole + names[-1]
+                for name in reversed(names[:-1]):
+                    pairs = f"({whole}{name}, {pairs})"
+                return pairs
         if rest and rest[0] in ("new", "auto"):
             names = f.parameters(step[1])
             if names and len(rest) > 1:
@@ -331,10 +337,19 @@ def as_record(body, fields):
     if items is not None and len(items) == len(fields):
         inner = "; ".join(f"{f} = {i}" for f, i in zip(fields, items))
         return lets + "record { " + inner + " }"
-    m = re.match(r"((?:rw|simp) (?:\([^()]*(?:\([^()]*\)[^()]*)*\)|[^\s()]+)) (\(.*\))$", " ".join(last.split()))
-    items = m and top_items(m.group(2))
-    if items and len(items) == len(fields):
-        return lets + "record { " + "; ".join(f"{f} = {m.group(1)} {'(' + i + ')' if ' ' in i and not i.startswith('(') else i}" for f, i in zip(fields, items)) + " }"
+    flat = " ".join(last.split())
+    m = re.match(r"(rw|simp) ", flat)
+    if m:
+        depth, k = 0, m.end()
+        while k < len(flat) and not (flat[k] == " " and depth == 0):
+            depth += (flat[k] in "([{") - (flat[k] in ")]}")
+            k += 1
+        law, proof = flat[:k], flat[k:].strip()
+        if proof:
+            items = top_items(proof)
+            if not items or len(items) != len(fields):
+                items = [f"({proof}){'.1' * k}{'.0' if k < len(fields) - 1 else ''}" for k in range(len(fields))]
+            return lets + "record { " + "; ".join(f"{f} = {law} {'(' + i + ')' if ' ' in i and not i.startswith('(') else i}" for f, i in zip(fields, items)) + " }"
     parts = [f"{f} = whole{'.1' * k}{'.0' if k < len(fields) - 1 else ''}" for k, f in enumerate(fields)]
     return lets + f"let whole = {last.strip()} in record {{ " + "; ".join(parts) + " }"
 
@@ -534,10 +549,11 @@ def convert(crate, name, info, text, rows, say):
         for a, need in zip(rest, f.needs):
             if need[1] in done:
                 continue
+            own = next((split_definition(d)[1] for d in defs if "tie.spec" in "\n".join(d["lines"]) and split_definition(d)), None)
             if a.startswith("(λ"):
                 inner = a[1:-1].strip()
                 if not re.match(r"λ [^.]*\. (search rules|omega arith|tt|cc|refl)$", inner):
-                    answer(need, inner, None, [])
+                    answer(need, inner, own, [])
             elif a in by_name and split_definition(by_name[a]):
                 kind, unfolding, clauses = split_definition(by_name[a])
                 if "tie.Need" in kind:
@@ -638,7 +654,7 @@ def main(argv):
         if "Proof.antt" not in fs:
             continue
         name = os.path.relpath(folder, base).replace("/", ".")
-        if only and name not in only:
+        if (only and name not in only) or f"{crate}/{name}" in os.environ.get("KEPT", "").split():
             continue
         key = f"Rattle-{crate}-proofs.{name}.Lts"
         if key not in info:

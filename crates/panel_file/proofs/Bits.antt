@@ -93,7 +93,7 @@ odd_finite d s (suc q) k l = refl
 
 fields_finite : (s : Bool) (x t : ℕ) → finite (of_fields binary64 s x t) ≡ not (eqb x 2047)
 unfolding of_fields
-fields_finite s zero t = odd_finite _ s t 0 _
+fields_finite s zero t = odd_finite 53 s t 0 1074
 fields_finite s (suc x) t = go (eqb (suc x) 2047) (eqb t 0)
   where
     go : (a b : Bool) → finite (cond a (cond b (inf s) nan) (odd 53 s (2 ^ 52 + t) x 1074)) ≡ not a

@@ -17,7 +17,8 @@ slice_bounds-scaled_determinant-end c = taken_count _ c.args.matrix.now (omega (
 
 pub returns-in_default : goal.returns-in_default
 unfolding scaled_by
-returns-in_default c = let whole = c.scaled_determinant-answer.ensures in record { result_value = whole.0; answer_ranged = whole.1 }
+returns-in_default c =
+    record { result_value = c.scaled_determinant-answer.ensures.result_value; answer_ranged = c.scaled_determinant-answer.ensures.answer_ranged }
 
 pub returns : goal.returns
 unfolding scaled_by

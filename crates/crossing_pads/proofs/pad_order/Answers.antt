@@ -9,25 +9,25 @@ use Rattle.crossing_pads.proofs.pad_order.Goals as goal
 
 pub rank_loads-requires : goal.rank_loads-requires
 rank_loads-requires c =
-    let ready : Ready c.args.file.now c.factor_file.new.matrix c.factor_file.new.readings c.factor_file.new.swaps c.in-Factors.told = filed_ready _ _ _ _ _ c.factor_file.ensures _ _ c.in-Factors.is in
+    let ready : Ready c.args.file.now c.factor_file.new.matrix c.factor_file.new.readings c.factor_file.new.swaps c.in-Factors.told = filed_ready _ _ _ _ _ (c.factor_file.ensures.result_value, (c.factor_file.ensures.swaps_after, c.factor_file.ensures.matrix_len)) _ _ c.in-Factors.is in
     let w = ready in
     record { le_rows = (w.least, w.most, search rules, search rules); ranks_len = (search rules, search rules) }
 
 pub refuse-requires : goal.refuse-requires
 refuse-requires c =
-    let e = filed_refused _ _ _ _ _ c.factor_file.ensures _ c.in-Refused.is in
+    let e = filed_refused _ _ _ _ _ (c.factor_file.ensures.result_value, (c.factor_file.ensures.swaps_after, c.factor_file.ensures.matrix_len)) _ c.in-Refused.is in
     ((λ seven. omega (arith, c.pads_of.ensures.0, factors_seven _ _ e seven)), search rules)
 
 pub returns-in-Factors : goal.returns-in-Factors
 returns-in-Factors c =
-    let tossed : c.in-Factors.toss_ups ≡ toss_ups_in c.args.file.now = filed_tossed _ _ _ _ _ c.factor_file.ensures _ _ c.in-Factors.is in
-    let ready : Ready c.args.file.now c.factor_file.new.matrix c.factor_file.new.readings c.factor_file.new.swaps c.in-Factors.told = filed_ready _ _ _ _ _ c.factor_file.ensures _ _ c.in-Factors.is in
+    let tossed : c.in-Factors.toss_ups ≡ toss_ups_in c.args.file.now = filed_tossed _ _ _ _ _ (c.factor_file.ensures.result_value, (c.factor_file.ensures.swaps_after, c.factor_file.ensures.matrix_len)) _ _ c.in-Factors.is in
+    let ready : Ready c.args.file.now c.factor_file.new.matrix c.factor_file.new.readings c.factor_file.new.swaps c.in-Factors.told = filed_ready _ _ _ _ _ (c.factor_file.ensures.result_value, (c.factor_file.ensures.swaps_after, c.factor_file.ensures.matrix_len)) _ _ c.in-Factors.is in
     let w = ready in
     let o = ordering_held _ _ _ _ _ _ _ w.factors w.pads w.is_readings _ (tossed) _ _ _ c.rank_loads.ensures.result_value c.rank_loads.ensures.ranks_after c.rank_loads.ensures.loads_after in
     record { result_value = o.0; ranks_after = o.1.0; loads_after = o.1.1; loads_len = omega (arith, c.rank_loads.auto.loads) }
 
 pub returns-in-Refused : goal.returns-in-Refused
 returns-in-Refused c =
-    let d = filed_refused _ _ _ _ _ c.factor_file.ensures _ c.in-Refused.is in
+    let d = filed_refused _ _ _ _ _ (c.factor_file.ensures.result_value, (c.factor_file.ensures.swaps_after, c.factor_file.ensures.matrix_len)) _ c.in-Refused.is in
     let o = ordering_refused _ _ _ _ _ _ _ d c.pads_of.ensures.0 c.refuse.ensures.value c.refuse.ensures.out_after in
     record { result_value = o.0; ranks_after = o.1.0; loads_after = o.1.1; loads_len = search rules }

@@ -5,4 +5,4 @@ use Rattle.from_factors.proofs.solve.Goals as goal
 
 pub returns : goal.returns
 unfolding solving
-returns c = let whole = c.solve_by.ensures in record { result_value = whole.0; x_after = whole.1 }
+returns c = record { result_value = c.solve_by.ensures.result_value; x_after = c.solve_by.ensures.x_after }

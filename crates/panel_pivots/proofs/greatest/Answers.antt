@@ -1,12 +1,12 @@
 -- The greatest magnitude of the numbers before number k. Assumes nothing.
 use Prim.Native.Nat.{◌-◌, ◌+◌, ◌≤◌}
 use mathlib.Core.Path.{◌≡◌, sym, subst}
-use mathlib.Core.Logic.{⊎_elim}
 use native.Mathlib.Omega.{arith}
 use borrow.Author.Rules.{rules}
 use lib.ListN.{length}
 use Rattle.panel_pivots.specs.Outermost.{Greatest}
 use Rattle.panel_pivots.proofs.Outermost.{zero_outermost, greatest_taken, greatest_left}
+use Rattle.panel_pivots.proofs.greatest.Goals.{then-found-x, else-found-x}
 use Rattle.panel_pivots.proofs.greatest.Goals as goal
 
 pub loop-k-preserved : goal.loop-k-preserved
@@ -14,8 +14,10 @@ loop-k-preserved c =
     let s = c.args.numbers.now in
     let x = c.magnitude-x.ensures in
     let next = Greatest s (c.loop-k.k + 1) in (
-      ⊎_elim (λ w. subst next (sym w.1) (greatest_taken s c.loop-k.k c.loop-k.found _ x c.loop-k.invariant.0 w.0.taken))
-          (λ w. subst next (sym w.1) (greatest_left s c.loop-k.k c.loop-k.found _ x c.loop-k.invariant.0 w.0.left)) c.if-found-x.branch,
+      elim c.if-found-x.branch [
+        then-found-x w ↦ subst next (sym w.found-is) (greatest_taken s c.loop-k.k c.loop-k.found _ x c.loop-k.invariant.0 w.if-found-x.true)
+      | else-found-x w ↦ subst next (sym w.found-is) (greatest_left s c.loop-k.k c.loop-k.found _ x c.loop-k.invariant.0 w.if-found-x.false)
+      ],
       omega arith,
     )
 

@@ -1,13 +1,13 @@
 -- The least magnitude of the numbers before number k. Assumes nothing.
 use Prim.Native.Nat.{◌-◌, ◌+◌, ◌≤◌}
 use mathlib.Core.Path.{◌≡◌, sym, subst}
-use mathlib.Core.Logic.{⊎_elim}
 use native.Mathlib.Omega.{arith}
 use borrow.Author.Rules.{rules}
 use lib.ListN.{length}
 use lib.Ieee.{nan_bits}
 use Rattle.panel_pivots.specs.Outermost.{Least}
 use Rattle.panel_pivots.proofs.Outermost.{infinity_outermost, least_taken, least_left}
+use Rattle.panel_pivots.proofs.least.Goals.{then-x-found, else-x-found}
 use Rattle.panel_pivots.proofs.least.Goals as goal
 
 pub loop-k-preserved : goal.loop-k-preserved
@@ -15,8 +15,10 @@ loop-k-preserved c =
     let s = c.args.numbers.now in
     let x = c.magnitude-x.ensures in
     let next = Least s (c.loop-k.k + 1) in (
-      ⊎_elim (λ w. subst next (sym w.1) (least_taken s c.loop-k.k c.loop-k.found _ x c.loop-k.invariant.0 w.0.taken))
-          (λ w. subst next (sym w.1) (least_left s c.loop-k.k c.loop-k.found _ x c.loop-k.invariant.0 w.0.left)) c.if-x-found.branch,
+      elim c.if-x-found.branch [
+        then-x-found w ↦ subst next (sym w.found-is) (least_taken s c.loop-k.k c.loop-k.found _ x c.loop-k.invariant.0 w.if-x-found.true)
+      | else-x-found w ↦ subst next (sym w.found-is) (least_left s c.loop-k.k c.loop-k.found _ x c.loop-k.invariant.0 w.if-x-found.false)
+      ],
       omega arith,
     )
 

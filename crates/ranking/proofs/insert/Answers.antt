@@ -1,10 +1,10 @@
 -- What is left to do at place j gives the whole (`Pushing`). Assumes nothing.
 use Prim.Native.Nat.{◌-◌}
 use mathlib.Core.Path.{refl, sym, ◌∙◌}
-use mathlib.Core.Logic.{⊎_elim}
 use native.Mathlib.Omega.{arith}
 use borrow.Author.Rules.{rules}
 use Rattle.ranking.proofs.Inserting.{Pushing, turn_moves, turn_stays, turns_end}
+use Rattle.ranking.proofs.insert.Goals.{then-is_ahead, else-is_ahead}
 use Rattle.ranking.proofs.insert.Goals as goal
 
 pub loop-j-init : goal.loop-j-init
@@ -16,12 +16,12 @@ is_ahead-requires c = (c.loop-j.invariant.in_hand, c.loop-j.invariant.held c.loo
 
 pub loop-j-preserved : goal.loop-j-preserved
 loop-j-preserved c =
-    ⊎_elim
-    (λ w. rw (w.1, w.2) (turn_moves _ _ _ _ c.loop-j.ranks c.loop-j.carried c.loop-j.j c.loop-j.invariant c.requires.pad.1
-    c.loop-j-test.true (sym c.is_ahead.ensures ∙ w.0.taken)))
-    (λ w. rw (w.1, w.2) (turn_stays _ _ _ _ c.loop-j.ranks c.loop-j.carried c.loop-j.j c.loop-j.invariant c.requires.pad.1
-    c.loop-j-test.true (sym c.is_ahead.ensures ∙ w.0.left)))
-    c.if-is_ahead.branch
+    elim c.if-is_ahead.branch [
+      then-is_ahead w ↦ rw (w.ranks-is, w.carried-is) (turn_moves _ _ _ _ c.loop-j.ranks c.loop-j.carried c.loop-j.j c.loop-j.invariant c.requires.pad.1
+    c.loop-j-test.true (sym c.is_ahead.ensures ∙ w.if-is_ahead.true))
+    | else-is_ahead w ↦ rw (w.ranks-is, w.carried-is) (turn_stays _ _ _ _ c.loop-j.ranks c.loop-j.carried c.loop-j.j c.loop-j.invariant c.requires.pad.1
+    c.loop-j-test.true (sym c.is_ahead.ensures ∙ w.if-is_ahead.false))
+    ]
 
 pub returns : goal.returns
 returns c = turns_end _ _ _ _ _ _ _ c.loop-j.invariant c.requires.pad.1 c.loop-j-test.false

@@ -1,12 +1,12 @@
 -- After k pads the first k slots hold the chosen ones of them, and 0 behind (`Filling`). Assumes nothing.
 use Prim.Native.Nat.{◌-◌, ◌≤◌, ◌<◌}
 use mathlib.Core.Path.{sym, ◌∙◌}
-use mathlib.Core.Logic.{⊎_elim}
 use native.Mathlib.Omega.{arith}
 use borrow.Author.Rules.{rules}
 use lib.ListN.{length, length-set}
 use Rattle.ranking.specs.Inner.{choice_by}
 use Rattle.ranking.proofs.Listing.{Filling, held_pads, turn_with, turn_without, filling_begins, filling_ends}
+use Rattle.ranking.proofs.list.Goals.{then-is_listed, else-is_listed}
 use Rattle.ranking.proofs.list.Goals as goal
 
 pub loop-k-init : goal.loop-k-init
@@ -22,10 +22,10 @@ loop-k-preserved c =
     let test = sym c.is_listed.ensures in
     let room : c.loop-k.k < length c.args.ranks.now = omega arith in (
       omega arith,
-      ⊎_elim
-          (λ w. rw (w.5, w.6) (turn_with _ _ _ c.loop-k.ranks _ c.loop-k.count c.loop-k.k c.loop-k.invariant.1 room (test ∙ w.0.taken) w.2.ensures))
-          (λ w. rw (w.1, w.2) (turn_without _ _ _ c.loop-k.ranks c.loop-k.count c.loop-k.k c.loop-k.invariant.1 room (test ∙ w.0.left)))
-          c.if-is_listed.branch,
+      elim c.if-is_listed.branch [
+        then-is_listed w ↦ rw (w.ranks-is, w.count-is) (turn_with _ _ _ c.loop-k.ranks _ c.loop-k.count c.loop-k.k c.loop-k.invariant.1 room (test ∙ w.if-is_listed.true) w.insert.ensures)
+      | else-is_listed w ↦ rw (w.ranks-is, w.count-is) (turn_without _ _ _ c.loop-k.ranks c.loop-k.count c.loop-k.k c.loop-k.invariant.1 room (test ∙ w.if-is_listed.false))
+      ],
     )
 
 pub returns : goal.returns

@@ -18,4 +18,4 @@ pub returns : goal.returns
 returns c =
     let none : let g = c.args in ranking_refusal g.loads.now g.n g.ranks.now ≡ 0 = sym c.rank_refusal-number.ensures ∙ c.if-number-ne0.false in
     let e = none in
-    let whole = outcome_ranked _ _ _ _ _ _ e (rw (← (accepted _ _ _ e).loads_length) c.list.ensures) in record { result_value = whole.0; ranks_after = whole.1 }
+    let whole = outcome_ranked _ _ _ _ _ _ e (rw (← (accepted _ _ _ e).loads_length) (c.list.ensures.value, c.list.ensures.ranks_after)) in record { result_value = whole.0; ranks_after = whole.1 }

@@ -6,15 +6,16 @@ use Rattle.season.proofs.tell.Goals as goal
 
 pub tell_crossing-requires : goal.tell_crossing-requires
 tell_crossing-requires c =
-    let ready : Ready c.args.file.now c.factor_file.new.matrix c.factor_file.new.readings c.factor_file.new.swaps c.in-Factors.told = filed_ready _ _ _ _ _ c.factor_file.ensures _ _ c.in-Factors.is in
+    let ready : Ready c.args.file.now c.factor_file.new.matrix c.factor_file.new.readings c.factor_file.new.swaps c.in-Factors.told = filed_ready _ _ _ _ _ (c.factor_file.ensures.result_value, (c.factor_file.ensures.swaps_after, c.factor_file.ensures.matrix_len)) _ _ c.in-Factors.is in
     let w = ready in
     (w.least, w.most, search rules, search rules)
 
 pub returns-in-Factors : goal.returns-in-Factors
 returns-in-Factors c =
-    let ready : Ready c.args.file.now c.factor_file.new.matrix c.factor_file.new.readings c.factor_file.new.swaps c.in-Factors.told = filed_ready _ _ _ _ _ c.factor_file.ensures _ _ c.in-Factors.is in
+    let ready : Ready c.args.file.now c.factor_file.new.matrix c.factor_file.new.readings c.factor_file.new.swaps c.in-Factors.told = filed_ready _ _ _ _ _ (c.factor_file.ensures.result_value, (c.factor_file.ensures.swaps_after, c.factor_file.ensures.matrix_len)) _ _ c.in-Factors.is in
     let w = ready in
     c.tell_crossing.ensures ∙ telling_held _ _ _ _ _ w.factors w.is_readings
 
 pub returns-in-Refused : goal.returns-in-Refused
-returns-in-Refused c = telling_refused _ _ (filed_refused _ _ _ _ _ c.factor_file.ensures _ c.in-Refused.is)
+returns-in-Refused c =
+    telling_refused _ _ (filed_refused _ _ _ _ _ (c.factor_file.ensures.result_value, (c.factor_file.ensures.swaps_after, c.factor_file.ensures.matrix_len)) _ c.in-Refused.is)

@@ -7,17 +7,17 @@ use Rattle.why_file.proofs.why_file.Goals as goal
 
 pub why_loads-requires : goal.why_loads-requires
 why_loads-requires c =
-    let ready : Ready c.args.file.now c.factor_file.new.matrix c.factor_file.new.readings c.factor_file.new.swaps c.in-Factors.told = filed_ready _ _ _ _ _ c.factor_file.ensures _ _ c.in-Factors.is in
+    let ready : Ready c.args.file.now c.factor_file.new.matrix c.factor_file.new.readings c.factor_file.new.swaps c.in-Factors.told = filed_ready _ _ _ _ _ (c.factor_file.ensures.result_value, (c.factor_file.ensures.swaps_after, c.factor_file.ensures.matrix_len)) _ _ c.in-Factors.is in
     ((ready).most, search rules, search rules)
 
 pub returns-in-Factors : goal.returns-in-Factors
 returns-in-Factors c =
-    let ready : Ready c.args.file.now c.factor_file.new.matrix c.factor_file.new.readings c.factor_file.new.swaps c.in-Factors.told = filed_ready _ _ _ _ _ c.factor_file.ensures _ _ c.in-Factors.is in
+    let ready : Ready c.args.file.now c.factor_file.new.matrix c.factor_file.new.readings c.factor_file.new.swaps c.in-Factors.told = filed_ready _ _ _ _ _ (c.factor_file.ensures.result_value, (c.factor_file.ensures.swaps_after, c.factor_file.ensures.matrix_len)) _ _ c.in-Factors.is in
     let e = by_loads _ _ _ _ _ _ (ready) c.why_loads.ensures in
     record { result_value = e; placed = placed _ _ e }
 
 pub returns-in-Refused : goal.returns-in-Refused
 returns-in-Refused c =
-    let e = by_factors _ _ _ (filed_refused _ _ _ _ _ c.factor_file.ensures _ c.in-Refused.is)
+    let e = by_factors _ _ _ (filed_refused _ _ _ _ _ (c.factor_file.ensures.result_value, (c.factor_file.ensures.swaps_after, c.factor_file.ensures.matrix_len)) _ c.in-Refused.is)
     c.why_factors.ensures in
     record { result_value = e; placed = placed _ _ e }
