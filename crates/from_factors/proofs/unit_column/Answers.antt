@@ -8,4 +8,4 @@ use Rattle.from_factors.proofs.unit_column.Goals as goal
 
 pub returns : goal.returns
 unfolding unit_column
-returns c = ap (λ c. set c c.args.j one64) c.fill_zero.ensures
+returns c = ap (λ column. set column c.args.j one64) c.fill_zero.ensures
