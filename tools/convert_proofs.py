@@ -454,7 +454,7 @@ def convert(crate, name, info, text, rows, say):
 
     def named(h):
         """The name among the goals of the place where a helper stands, if it has one."""
-        new = f.new_place.get(t.helpers[h]["place"])
+        new = f.new_place.get(spots.get(h, t.helpers[h]["place"]))
         return new if new in asked_places else None
 
     def helper(h):
@@ -481,7 +481,7 @@ def convert(crate, name, info, text, rows, say):
                 return h
             if h not in used:
                 used.append(h)
-            if t.helpers[h]["place"] == place:
+            if spots[h] == place:
                 return f"{h} c"
             if goal_name:
                 return f"{h} (goal.at.{goal_name} c).{named(h)}"
@@ -492,10 +492,11 @@ def convert(crate, name, info, text, rows, say):
     def lets_above(calls, place, goal_name, done):
         out = ""
         for h, _ in calls:
-            if h in done or (named(h) and (t.helpers[h]["place"] == place or goal_name)):
+            if h in done or (named(h) and (spots[h] == place or goal_name)):
                 continue
             done.add(h)
             kind, body, more = helper(h)
+            opened.extend((t.helpers[h]["unfolding"] or "").split()[1:])
             out += lets_above(t.helpers[h]["calls"], place, goal_name, done)
             if more.strip():
                 body = "λ " + more.strip() + ". " + body
@@ -503,13 +504,52 @@ def convert(crate, name, info, text, rows, say):
             out += f"let {h} : {kind} = {body} in\n    "
         return out
 
+    opened = []
+
+    def unfolds(own):
+        """An unfolding line, with what the helpers that became lets unfold."""
+        names = [rows.get(n, n) for n in [*(own or "").split()[1:], *opened]]
+        opened.clear()
+        return "unfolding " + " ".join(dict.fromkeys(names)) if names else None
+
     def finish(text, calls, place, goal_name):
         return lets_above(calls, place, goal_name, set()) + settled(text, place, goal_name)
 
+    # Where a helper's place has no name, it may stand at the first named place behind it that each goal which calls it has passed.
+    callers = collections.defaultdict(set)
     args = spec_arguments(defs)
-    count_loops = len([1 for a in args if a in given])
-    rest = args[count_loops:]
+    given_count = len([1 for a in args if a in given])
+    inline_answers = args[given_count:] if len(args) - given_count == len(f.needs) else []
     by_name = {d["name"]: d for d in defs}
+
+    def note(place, calls, seen=()):
+        for h, _ in calls:
+            if h not in seen:
+                callers[h].add(place)
+                helper(h)
+                note(place, t.helpers[h]["calls"], (*seen, h))
+
+    for need, a in [*zip(f.needs, inline_answers), *[(None, d["name"]) for d in defs]]:
+        source = a[1:-1].strip() if a.startswith("(λ") else None
+        if source is None and a in by_name and split_definition(by_name[a]):
+            kind, _, clauses = split_definition(by_name[a])
+            m = re.match(r"tie\.Need-(" + NAME + r")", kind)
+            need = need or (m and f.need(m.group(1)))
+            source = clauses[len(a):] if m else None
+        m = source and re.match(r"\s*(?:λ )?((?:" + NAME + r" ?)+?)\s*(?:=|\.)\s", source)
+        if need and m:
+            note(need[2], t.flat(source[m.end():].strip(), need[2], m.group(1).split()[0])[1])
+    spots = {}
+    for h, it in t.helpers.items():
+        spots[h] = it["place"]
+        if f.new_place.get(it["place"]) not in asked_places:
+            for q in f.order:
+                if f.new_place.get(q) in asked_places and it["place"] in f.chain(q) and all(q in f.chain(g) for g in callers[h]):
+                    spots[h] = q
+                    break
+    left.clear()
+
+    rest = args[given_count:]
     done = {}
 
     def answer(need, binder_body, unfolding, comment):
@@ -520,7 +560,9 @@ def convert(crate, name, info, text, rows, say):
         flat, calls = t.flat(body, at, binders[0])
         if len(binders) > 1 and binders[1] != "κs":
             flat = "λ " + " ".join(binders[1:]) + ". " + flat
+        opened.clear()
         flat = finish(flat, calls, at, new)
+        unfolding = unfolds(unfolding)
         asked = info["asked"].get(o)
         if asked and len(asked) > 1:
             flat = as_record(flat, asked)
@@ -596,8 +638,10 @@ def convert(crate, name, info, text, rows, say):
             h = used[k]
             kind, body, more = helper(h)
             it = t.helpers[h]
-            body = finish(body, it["calls"], it["place"], None)
-            kind = settled(kind, it["place"], None)
+            opened.clear()
+            body = finish(body, it["calls"], spots[h], None)
+            it["unfolding"] = unfolds(it["unfolding"])
+            kind = settled(kind, spots[h], None)
             arrow = "" if more.strip() and kind.lstrip().startswith(("(", "{")) and False else "→ "
             shown_helpers.append((h, it, kind, body, more))
             k += 1

@@ -8,4 +8,4 @@ use Rattle.four_pads.proofs.entries.Goals as goal
 
 pub returns : goal.returns
 unfolding list_of
-returns c = named nan 4 c.args.t1 (good_length (e_float binary64) 4 c.args.t1 _ c.well_formed.0)
+returns c = named nan 4 c.args.c (good_length (e_float binary64) 4 c.args.c _ c.well_formed.0)

@@ -16,5 +16,5 @@ returns c =
     c.solved.ensures
     ∙ ap₂ (λ (m : Matrix) (b : Column). four_of (flat m) b)
     ((λ i. c.entries.ensures i ∷ c.entries-2.ensures i ∷ c.entries-3.ensures i ∷ c.entries-4.ensures i ∷ [])
-    ∙ named [] 4 c.args.t1 c.well_formed.0.1.0.1)
+    ∙ named [] 4 c.args.matrix c.well_formed.0.1.0.1)
     c.entries-5.ensures

@@ -21,7 +21,7 @@ unfolding scaled_answer scaling tested
 returns-then-number-ne0 c = record { result_value = rw (← c.held_refusal-number.ensures, ne_eqb _ _ c.if-number-ne0.true); answer_ranged = tt }
 
 pub returns-then-told-ne0 : goal.returns-then-told-ne0
-unfolding scaled_answer
+unfolding scaled_answer scaling
 returns-then-told-ne0 c =
     let held : let g = c.args in Passed g.factors.now g.swaps.now g.told square_asks = passed _ _ _ _ (sym c.held_refusal-number.ensures ∙ c.if-number-ne0.false) in
     let zero_there : let g = c.args in zero_on_diagonal g.factors.now g.told.rows ≡ not (eqb g.told.dead 0) = dead_zero _ _ _ square_asks refl (held) in
@@ -38,7 +38,7 @@ signed_product-requires c =
     (square_matrix _ _ _ _ refl p, p.finite, zero_there ∙ ap not (eq-eqb _ _ c.if-told-ne0.false))
 
 pub returns : goal.returns
-unfolding scaled_answer
+unfolding scaled_answer scaling
 returns c =
     let held : let g = c.args in Passed g.factors.now g.swaps.now g.told square_asks = passed _ _ _ _ (sym c.held_refusal-number.ensures ∙ c.if-number-ne0.false) in
     let zero_there : let g = c.args in zero_on_diagonal g.factors.now g.told.rows ≡ not (eqb g.told.dead 0) = dead_zero _ _ _ square_asks refl (held) in

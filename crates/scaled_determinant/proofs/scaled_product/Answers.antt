@@ -16,19 +16,15 @@ use Rattle.scaled_determinant.proofs.Exponents.{mag_within}
 use Rattle.scaled_determinant.proofs.Parts.{parted_fine}
 use Rattle.scaled_determinant.proofs.Range.{Bounded, bounded_start, bounded_step}
 use Rattle.scaled_determinant.proofs.Diagonal.{within, diagonal_is, diagonal_parted}
+use Rattle.scaled_determinant.proofs.scaled_product.Goals.{In-loop-i}
 use Rattle.scaled_determinant.proofs.scaled_product.Goals as goal
 
-abbrev In : Type 0
-In = tie.In-loop invariant-loop decreases-loop
-
 -- in a turn, the diagonal's number lies within the factors, and has parts
-inside : (c : In) → let s = c.before.before.before in c.before.loop.i * s.args.n + c.before.loop.i < length s.args.factors.now
-inside c = let s = c.before.before.before in within s.args.n s.args.factors.now s.requires.0 c.before.loop.i c.loop-test.true
+inside : (c : In-loop-i) → c.loop-i.i * c.args.n + c.loop-i.i < length c.args.factors.now
+inside c = within c.args.n c.args.factors.now c.requires.0 c.loop-i.i c.loop-i-test.true
 
-parted : (c : In) → let s = c.before.before.before in Parted (get_or s.args.factors.now (c.before.loop.i * s.args.n + c.before.loop.i) nan)
-parted c =
-    let s = c.before.before.before in
-    diagonal_parted s.args.n s.args.factors.now s.requires.0 s.requires.1 s.requires.2 c.before.loop.i c.loop-test.true
+parted : (c : In-loop-i) → Parted (get_or c.args.factors.now (c.loop-i.i * c.args.n + c.loop-i.i) nan)
+parted c = diagonal_parted c.args.n c.args.factors.now c.requires.0 c.requires.1 c.requires.2 c.loop-i.i c.loop-i-test.true
 
 pub loop-i-init : goal.loop-i-init
 unfolding scaled_product
@@ -38,7 +34,7 @@ pub times-r-requires : goal.times-r-requires
 times-r-requires c =
     let few = (sized _ _ _ c.requires.0).rows_most in
     let i = c.loop-i.i in
-    (parted c, omega (arith, few, c.loop-i-test.true, mag_within i c.loop-i.r.exponent (omega (arith, few, c.loop-i-test.true)) c.loop-i.invariant.1.within))
+    (parted (goal.at.times-r-requires c).In-loop-i, omega (arith, few, c.loop-i-test.true, mag_within i c.loop-i.r.exponent (omega (arith, few, c.loop-i-test.true)) c.loop-i.invariant.1.within))
 
 pub loop-i-preserved : goal.loop-i-preserved
 unfolding scaled_turn
@@ -52,7 +48,7 @@ loop-i-preserved c =
       turns_next (scaled_turn (columns n n factors)) i n _ _ h (made ∙ ap (scaled_times c.loop-i.r) (diagonal_is n factors c.requires.0 i h)) ∙ c.loop-i.invariant.0,
       subst (λ (k : ℕ). Bounded k c.times-r.result) (sym (add-one i))
           (subst (Bounded (suc i)) (sym made)
-          (bounded_step i c.loop-i.r x (c.shared_slice_known-in-loop-i-1.given (i * n + i)) (parted_fine x (parted c)) c.loop-i.invariant.1)),
+          (bounded_step i c.loop-i.r x (c.shared_slice_known-in-loop-i-1.given (i * n + i)) (parted_fine x (parted (goal.at.loop-i-preserved c).In-loop-i)) c.loop-i.invariant.1)),
     )
 
 pub returns : goal.returns
@@ -68,4 +64,4 @@ pub offset_bounds-factors-q : goal.offset_bounds-factors-q
 offset_bounds-factors-q c = omega (arith, inside c)
 
 pub bounds-factors-q : goal.bounds-factors-q
-bounds-factors-q c = omega (arith, inside c)
+bounds-factors-q c = omega (arith, inside (goal.at.bounds-factors-q c).In-loop-i)

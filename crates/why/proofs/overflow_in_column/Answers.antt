@@ -15,7 +15,7 @@ use Rattle.solve.specs.Reason.{first_row}
 use Rattle.triangular_passes.proofs.Turns.{turns_most, turn_row}
 use Rattle.why.specs.Inner.{pass_of}
 use Rattle.why.proofs.Column.{row_fine, row_spoilt, Turning, turning_begin, turning_on, turning_found, turning_end, turn_taken}
-use Rattle.why.proofs.overflow_in_column.Goals.{In-loop-k}
+use Rattle.why.proofs.overflow_in_column.Goals.{After-slice_known-in-loop-k-1, In-loop-k}
 use Rattle.why.proofs.overflow_in_column.Goals as goal
 
 -- in a turn, there is one
@@ -25,6 +25,20 @@ in_time c = rw c.turns_of-turns.ensures at c.loop-k-test.true
 below : (c : In-loop-k) → let g = c.args in row_at (pass_of g.upper) g.n c.loop-k.k < g.n
 below c = let g = c.args in turn_row (pass_of g.upper) g.n _ _ _ refl (in_time c) refl
 
+-- the column after the turn, and that it is
+taken : (c : After-slice_known-in-loop-k-1) → let g = c.args in
+    c.solve_turn.new.b ≡ turn (pass_of g.upper) g.n (columns g.n g.n g.t.now) c.loop-k.k c.loop-k.b
+taken c =
+    let in_time : let g = c.args in c.loop-k.k < turns_of (pass_of g.upper) g.n = rw c.turns_of-turns.ensures at c.loop-k-test.true in
+    let g = c.args in
+    turn_taken (pass_of g.upper) g.n c.loop-k.k g.t.now c.loop-k.b _ c.requires.0 c.loop-k.invariant.long
+    (in_time)
+    (c.solve_turn.ensures ∙ ap (λ (p : Pass). turned_by p g.t.now g.n c.loop-k.b c.loop-k.k) c.pass_of.ensures)
+
+-- the length that it keeps
+kept : (c : After-slice_known-in-loop-k-1) → length c.solve_turn.new.b ≡ length c.loop-k.b
+kept c = c.solve_turn.auto.b
+
 pub row_of-requires : goal.row_of-requires
 row_of-requires c =
     let g = c.args in
@@ -32,32 +46,29 @@ row_of-requires c =
 
 pub stored_row-row-requires : goal.stored_row-row-requires
 stored_row-row-requires c =
-    let kept : length c.solve_turn.new.b ≡ length c.loop-k.b = c.solve_turn.auto.b in
-    omega (arith, below (goal.at.stored_row-row-requires c).In-loop-k, c.row_of.ensures, kept, c.loop-k.invariant.long)
+    omega (arith, below (goal.at.stored_row-row-requires c).In-loop-k, c.row_of.ensures, kept (goal.at.stored_row-row-requires c).After-slice_known-in-loop-k-1, c.loop-k.invariant.long)
 
 pub returns-then-row-n : goal.returns-then-row-n
+unfolding first_row
 returns-then-row-n c =
-    let row_is : let g = c.args in c.Stored-row.result ≡ first_row (pass_of g.upper) g.n c.loop-k.k c.solve_turn.new.b = let b = c.solve_turn.new.b in c.Stored-row.ensures ∙ ap (λ (i : ℕ). cond (finite (entry b i)) (first_failing finite b) i) c.row_of.ensures in
-    let taken : let g = c.args in c.solve_turn.new.b ≡ turn (pass_of g.upper) g.n (columns g.n g.n g.t.now) c.loop-k.k c.loop-k.b = let g = c.args in turn_taken (pass_of g.upper) g.n c.loop-k.k g.t.now c.loop-k.b _ c.requires.0 c.loop-k.invariant.long (in_time (goal.at.returns-then-row-n c).In-loop-k) (c.solve_turn.ensures ∙ ap (λ (p : Pass). turned_by p g.t.now g.n c.loop-k.b c.loop-k.k) c.pass_of.ensures) in
-    let kept : length c.solve_turn.new.b ≡ length c.loop-k.b = c.solve_turn.auto.b in
+    let row_is : let g = c.args in c.stored_row-row.result ≡ first_row (pass_of g.upper) g.n c.loop-k.k c.solve_turn.new.b = let b = c.solve_turn.new.b in c.stored_row-row.ensures ∙ ap (λ (i : ℕ). cond (finite (entry b i)) (first_failing finite b) i) c.row_of.ensures in
     let g = c.args in
     let now = c.loop-k.invariant in
     let low = c.if-row-n.true in
-    let bad = row_spoilt (pass_of g.upper) g.n _ _ _ (kept ∙ c.loop-k.invariant.long) (below (goal.at.returns-then-row-n c).In-loop-k) (row_is) low in
+    let bad = row_spoilt (pass_of g.upper) g.n _ _ _ (kept (goal.at.returns-then-row-n c).After-slice_known-in-loop-k-1 ∙ c.loop-k.invariant.long) (below (goal.at.returns-then-row-n c).In-loop-k) (row_is) low in
     record {
       fine = λ h. absurd (let n : ⊥ = omega arith in n);
-      spoilt = λ _. (c.loop-k.k, turning_found _ _ _ _ _ _ now (in_time (goal.at.returns-then-row-n c).In-loop-k) _ (kept) (taken) _ bad (row_is));
+      spoilt = λ _. (c.loop-k.k, turning_found _ _ _ _ _ _ now (in_time (goal.at.returns-then-row-n c).In-loop-k) _ (kept (goal.at.returns-then-row-n c).After-slice_known-in-loop-k-1) (taken (goal.at.returns-then-row-n c).After-slice_known-in-loop-k-1) _ bad (row_is));
     }
 
 pub loop-k-preserved : goal.loop-k-preserved
+unfolding first_row
 loop-k-preserved c =
-    let row_is : let g = c.args in c.Stored-row.result ≡ first_row (pass_of g.upper) g.n c.loop-k.k c.solve_turn.new.b = let b = c.solve_turn.new.b in c.Stored-row.ensures ∙ ap (λ (i : ℕ). cond (finite (entry b i)) (first_failing finite b) i) c.row_of.ensures in
-    let taken : let g = c.args in c.solve_turn.new.b ≡ turn (pass_of g.upper) g.n (columns g.n g.n g.t.now) c.loop-k.k c.loop-k.b = let g = c.args in turn_taken (pass_of g.upper) g.n c.loop-k.k g.t.now c.loop-k.b _ c.requires.0 c.loop-k.invariant.long (in_time (goal.at.loop-k-preserved c).In-loop-k) (c.solve_turn.ensures ∙ ap (λ (p : Pass). turned_by p g.t.now g.n c.loop-k.b c.loop-k.k) c.pass_of.ensures) in
-    let kept : length c.solve_turn.new.b ≡ length c.loop-k.b = c.solve_turn.auto.b in
+    let row_is : let g = c.args in c.stored_row-row.result ≡ first_row (pass_of g.upper) g.n c.loop-k.k c.solve_turn.new.b = let b = c.solve_turn.new.b in c.stored_row-row.ensures ∙ ap (λ (i : ℕ). cond (finite (entry b i)) (first_failing finite b) i) c.row_of.ensures in
     let g = c.args in
     let now = c.loop-k.invariant in
-    let fine = row_fine (pass_of g.upper) g.n _ _ _ (kept ∙ c.loop-k.invariant.long) (below (goal.at.loop-k-preserved c).In-loop-k) (row_is) c.if-row-n.false in
-    turning_on _ _ _ _ _ _ now (in_time (goal.at.loop-k-preserved c).In-loop-k) _ (kept) (taken) fine
+    let fine = row_fine (pass_of g.upper) g.n _ _ _ (kept (goal.at.loop-k-preserved c).After-slice_known-in-loop-k-1 ∙ c.loop-k.invariant.long) (below (goal.at.loop-k-preserved c).In-loop-k) (row_is) c.if-row-n.false in
+    turning_on _ _ _ _ _ _ now (in_time (goal.at.loop-k-preserved c).In-loop-k) _ (kept (goal.at.loop-k-preserved c).After-slice_known-in-loop-k-1) (taken (goal.at.loop-k-preserved c).After-slice_known-in-loop-k-1) fine
 
 pub returns : goal.returns
 returns c =

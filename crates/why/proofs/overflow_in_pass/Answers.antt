@@ -15,10 +15,12 @@ use Rattle.why.proofs.Pass.{Passing, passing_begin, passing_on, passing_found, p
 use Rattle.why.proofs.overflow_in_pass.Goals.{In-loop-j}
 use Rattle.why.proofs.overflow_in_pass.Goals as goal
 
+-- the store is as long as k columns of n
+size : (c : In-loop-j) → let g = c.args in length c.loop-j.x ≡ g.k * g.n
+size c = c.loop-j.invariant.0 ∙ (sized _ _ _ c.requires.1).size
+
 within : (c : In-loop-j) → let g = c.args in c.loop-j.j * g.n + g.n ≤ length c.loop-j.x
-within c =
-    let size : let g = c.args in length c.loop-j.x ≡ g.k * g.n = c.loop-j.invariant.0 ∙ (sized _ _ _ c.requires.1).size in
-    let g = c.args in column_within g.n g.k c.loop-j.j c.loop-j.x c.loop-j-test.true (size)
+within c = let g = c.args in column_within g.n g.k c.loop-j.j c.loop-j.x c.loop-j-test.true (size c)
 
 -- the part that is lent is column j, as it is now and as it was before
 part_now : (c : In-loop-j) → let g = c.args in mid_of (c.loop-j.j * g.n) (c.loop-j.j * g.n + g.n - c.loop-j.j * g.n) c.loop-j.x ≡ column (columns g.n g.k c.loop-j.x) c.loop-j.j
@@ -32,8 +34,7 @@ part_is c =
 
 pub overflow_in_column-row-requires : goal.overflow_in_column-row-requires
 overflow_in_column-row-requires c =
-    let size : let g = c.args in length c.loop-j.x ≡ g.k * g.n = c.loop-j.invariant.0 ∙ (sized _ _ _ c.requires.1).size in
-    (c.requires.0, column_length _ _ _ c.loop-j.x c.loop-j-test.true (size), c.requires.2)
+    (c.requires.0, column_length _ _ _ c.loop-j.x c.loop-j-test.true (size (goal.at.overflow_in_column-row-requires c).In-loop-j), c.requires.2)
 
 pub returns-then-row-n : goal.returns-then-row-n
 returns-then-row-n c =
@@ -53,7 +54,6 @@ returns-then-row-n c =
 pub loop-j-preserved : goal.loop-j-preserved
 loop-j-preserved c =
     let wide_now : let g = c.args in length (columns g.n g.k c.loop-j.x) ≡ g.k = let g = c.args in length_columns g.n g.k c.loop-j.x in
-    let size : let g = c.args in length c.loop-j.x ≡ g.k * g.n = c.loop-j.invariant.0 ∙ (sized _ _ _ c.requires.1).size in
     let wide : let g = c.args in length (columns g.n g.k g.x.now) ≡ g.k = let g = c.args in length_columns g.n g.k g.x.now in
     let kept : let g = c.args in length c.overflow_in_column-row.new.b ≡ length (mid_of (c.loop-j.j * g.n) (c.loop-j.j * g.n + g.n - c.loop-j.j * g.n) c.loop-j.x) = c.overflow_in_column-row.auto.b in
     let long : let g = c.args in length (put_mid (c.loop-j.j * g.n) (c.loop-j.j * g.n + g.n - c.loop-j.j * g.n) c.loop-j.x c.overflow_in_column-row.new.b) ≡ length g.x.now = let g = c.args in same_len_mid (c.loop-j.j * g.n) (c.loop-j.j * g.n + g.n - c.loop-j.j * g.n) c.loop-j.x c.overflow_in_column-row.new.b (kept) ∙ c.loop-j.invariant.0 in
@@ -63,7 +63,7 @@ loop-j-preserved c =
     let fine = c.overflow_in_column-row.ensures.fine c.if-row-n.false in
     let now = c.loop-j.invariant.1 in
     let cs = columns g.n g.n g.t.now in
-    let put = column_lent (λ _. part) g.n g.k c.loop-j.j c.loop-j.x part h (size) (kept) refl in
+    let put = column_lent (λ _. part) g.n g.k c.loop-j.j c.loop-j.x part h (size (goal.at.loop-j-preserved c).In-loop-j) (kept) refl in
     let seen = part_is (goal.at.loop-j-preserved c).In-loop-j in (
       long,
       rw put

@@ -9,25 +9,27 @@ use Rattle.finite.specs.Finite.{all_finite}
 use Rattle.why.specs.Why.{told_factor}
 use Rattle.why.proofs.Results.{failing_all, failing_some}
 use Rattle.why.proofs.Steps.{Stepping, stepping_begin, stepping_on, stepping_found, stepping_end}
+use Rattle.why.proofs.overflow_in_steps.Goals.{After-plain_step-arg-1}
 use Rattle.why.proofs.overflow_in_steps.Goals as goal
 
+-- it is a step of the matrix
+before_end : (c : After-plain_step-arg-1) → c.loop-i.i < min c.args.m
+    c.args.n
+before_end c = let least = c.min-end.ensures in rw least at c.loop-i-test.true
+
 pub nonzero_div-result : goal.nonzero_div-result
-nonzero_div-result c =
-    let before_end : c.loop-i.i < min c.args.m c.args.n = let least = c.min-end.ensures in rw least at c.loop-i-test.true in
-    let h = before_end in omega arith
+nonzero_div-result c = let h = before_end (goal.at.nonzero_div-result c).After-plain_step-arg-1 in omega arith
 
 pub returns-then-at-s : goal.returns-then-at-s
 returns-then-at-s c =
-    let before_end : c.loop-i.i < min c.args.m c.args.n = let least = c.min-end.ensures in rw least at c.loop-i-test.true in
     let found = c.first_not_finite-at.ensures in
-    stepping_found _ _ _ c.requires.0 _ _ _ c.loop-i.invariant (before_end) c.plain_step.auto.s c.plain_step.ensures _
+    stepping_found _ _ _ c.requires.0 _ _ _ c.loop-i.invariant (before_end (goal.at.returns-then-at-s c).After-plain_step-arg-1) c.plain_step.auto.s c.plain_step.ensures _
     (failing_some _ (rw found at c.if-at-s.true)) found
 
 pub loop-i-preserved : goal.loop-i-preserved
 loop-i-preserved c =
-    let before_end : c.loop-i.i < min c.args.m c.args.n = let least = c.min-end.ensures in rw least at c.loop-i-test.true in
     let found = c.first_not_finite-at.ensures in
-    stepping_on _ _ _ c.requires.0 _ _ _ c.loop-i.invariant (before_end) c.plain_step.auto.s c.plain_step.ensures
+    stepping_on _ _ _ c.requires.0 _ _ _ c.loop-i.invariant (before_end (goal.at.loop-i-preserved c).After-plain_step-arg-1) c.plain_step.auto.s c.plain_step.ensures
     (failing_all _ (rw found at c.if-at-s.false))
 
 pub returns : goal.returns
@@ -38,16 +40,10 @@ pub loop-i-init : goal.loop-i-init
 loop-i-init c = stepping_begin _ _ _ c.requires.0 c.requires.1
 
 pub nonzero_rem-result : goal.nonzero_rem-result
-nonzero_rem-result c =
-    let before_end : c.loop-i.i < min c.args.m c.args.n = let least = c.min-end.ensures in rw least at c.loop-i-test.true in
-    let h = before_end in omega arith
+nonzero_rem-result c = let h = before_end (goal.at.nonzero_rem-result c).After-plain_step-arg-1 in omega arith
 
 pub overflow_add-i : goal.overflow_add-i
-overflow_add-i c =
-    let before_end : c.loop-i.i < min c.args.m c.args.n = let least = c.min-end.ensures in rw least at c.loop-i-test.true in
-    let h = before_end in omega arith
+overflow_add-i c = let h = before_end (goal.at.overflow_add-i c).After-plain_step-arg-1 in omega arith
 
 pub loop-i-smaller : goal.loop-i-smaller
-loop-i-smaller c =
-    let before_end : c.loop-i.i < min c.args.m c.args.n = let least = c.min-end.ensures in rw least at c.loop-i-test.true in
-    let h = before_end in omega arith
+loop-i-smaller c = let h = before_end (goal.at.loop-i-smaller c).After-plain_step-arg-1 in omega arith
