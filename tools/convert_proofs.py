@@ -56,7 +56,7 @@ class Function:
         """The new name of a step, sought from a place up, then anywhere; with the place where it stands."""
         for p in list(self.chain(place)) + self.order:
             was, now = self.places[p][2]
-            if was and was.replace("_", "-") == old.replace("_", "-"):
+            if was and was.replace("_", "-").lower() == old.replace("_", "-").lower():
                 return now, p
         return None
 

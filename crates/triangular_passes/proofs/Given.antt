@@ -12,7 +12,7 @@ use Rattle.triangular_passes.specs.declared.Pass.TheVariants.{TransposedLower, T
 use Rattle.triangular_passes.specs.Triangular.{given, turns_of}
 use Rattle.triangular_passes.specs.contracts.Pass.{the_type}
 
-pub own_stands : {A : Type 0} (pass : Pass) (f : Float → A) (own : A) → 
+pub own_stands : {A : Type 0} (pass : Pass) (f : Float → A) (own : A) →
     ((d : Float) → pass ≡ GivenDiagonal d → ⊥) → ((d : Float) → pass ≡ CorrectedDiagonal d → ⊥) → own ≡ given pass f own
 own_stands Lower f own h k = refl
 own_stands Upper f own h k = refl

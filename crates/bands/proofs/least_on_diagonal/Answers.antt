@@ -40,9 +40,9 @@ loop-i-preserved c =
     let x = c.magnitude-x.ensures ∙ ap magnitude (entry_at g.n g.n c.loop-i.i c.loop-i.i g.t.now nan h h) in
     turns_next (less_at cs) _ _ _ _ h
     (elim c.if-x-least.branch [
-          then-x-least w ↦ w.least-is ∙ less_taken cs _ _ _ x w.if-x-least.true
-        | else-x-least w ↦ w.least-is ∙ less_left cs _ _ _ x w.if-x-least.false
-        ]) ∙ c.loop-i.invariant
+      | then-x-least w ↦ w.least-is ∙ less_taken cs _ _ _ x w.if-x-least.true
+      | else-x-least w ↦ w.least-is ∙ less_left cs _ _ _ x w.if-x-least.false
+    ]) ∙ c.loop-i.invariant
 
 pub returns : goal.returns
 returns c = sym (turns_done _ _ _ _ c.loop-i-test.false) ∙ c.loop-i.invariant

@@ -16,20 +16,21 @@ use Rattle.exchanges.proofs.exchange_four.Invariants.{in_column}
 use Rattle.exchanges.proofs.exchange_four.Goals.{In-loop-j}
 use Rattle.exchanges.proofs.exchange_four.Goals as goal
 
+-- the store has its size all along, and in a turn column j ends within it
+size : (c : In-loop-j) → let g = c.args in length c.loop-j.s ≡ g.n * g.m
+size c = c.loop-j.invariant.0 ∙ (sized _ _ _ c.requires.0).size
+
 within : (c : In-loop-j) → let g = c.args in c.loop-j.j * g.m + g.m ≤ length c.loop-j.s
-within c =
-    let size : let g = c.args in length c.loop-j.s ≡ g.n * g.m = c.loop-j.invariant.0 ∙ (sized _ _ _ c.requires.0).size in
-    column_within _ _ _ c.loop-j.s c.loop-j-test.true (size)
+within c = column_within _ _ _ c.loop-j.s c.loop-j-test.true (size c)
 
 pub loop-j-init : goal.loop-j-init
 loop-j-init c = (refl, refl)
 
 pub loop-j-preserved : goal.loop-j-preserved
 loop-j-preserved c =
-    let size : let g = c.args in length c.loop-j.s ≡ g.n * g.m = c.loop-j.invariant.0 ∙ (sized _ _ _ c.requires.0).size in
     let four = c.args.four.now in (
       omega arith,
-      column_turn (in_column (pairs_of 4 four)) _ _ _ _ _ c.loop-j-test.true (size) c.swap_four.auto.col
+      column_turn (in_column (pairs_of 4 four)) _ _ _ _ _ c.loop-j-test.true (size (goal.at.loop-j-preserved c).In-loop-j) c.swap_four.auto.col
           (permute_four four _ _ c.swap_four.ensures) ∙ c.loop-j.invariant.1,
     )
 

@@ -7,10 +7,10 @@ use Rattle.four_pads_file.proofs.four_pads_of.Goals as goal
 pub returns-then-read-ne0 : goal.returns-then-read-ne0
 returns-then-read-ne0 c =
     c.refused.ensures
-    ∙ refused_end c.args.file.now c.Numbers-of.result c.Numbers-of.ensures c.if-read-ne0.true
+    ∙ refused_end c.args.file.now c.numbers_of-read.result c.numbers_of-read.ensures c.if-read-ne0.true
 
 pub returns : goal.returns
 returns c =
     c.four_pads.ensures
-    ∙ loaded_end c.args.file.now c.Numbers-of.result c.Numbers-of.ensures c.if-read-ne0.false _
+    ∙ loaded_end c.args.file.now c.numbers_of-read.result c.numbers_of-read.ensures c.if-read-ne0.false _
     c.by_columns.ensures

@@ -6,8 +6,12 @@ use lib.ListN.{length}
 use Rattle.store.proofs.Columns.{sized, column_end, column_length}
 use Rattle.from_factors.specs.Solving.{unit_column}
 use Rattle.from_factors.proofs.Written.{Written, written_start, written_turn, written_end}
-use Rattle.from_factors.proofs.fill_with_identity.Goals.{In-loop-j}
+use Rattle.from_factors.proofs.fill_with_identity.Goals.{After-slice_known-1, In-loop-j}
 use Rattle.from_factors.proofs.fill_with_identity.Goals as goal
+
+-- the slice has its size, and in a turn column j ends within it
+whole : (c : After-slice_known-1) → length c.args.x.now ≡ c.args.n * c.args.n
+whole c = (sized _ _ _ c.requires).size
 
 within : (c : In-loop-j) → c.loop-j.j * c.args.n + c.args.n ≤ c.args.n *
     c.args.n
@@ -29,44 +33,28 @@ loop-j-preserved c =
     (column_length n n c.loop-j.j c.loop-j.x t c.loop-j.invariant.size))
 
 pub shape_of-x : goal.shape_of-x
-shape_of-x c =
-    let whole : length c.args.x.now ≡ c.args.n * c.args.n = (sized _ _ _ c.requires).size in
-    c.loop-j.invariant.size ∙ sym (whole)
+shape_of-x c = c.loop-j.invariant.size ∙ sym (whole (goal.at.shape_of-x c).After-slice_known-1)
 
 pub returns : goal.returns
 returns c = written_end _ _ _ _ _ c.loop-j-test.false c.loop-j.invariant
 
 pub overflow_mul-a : goal.overflow_mul-a
-overflow_mul-a c =
-    let whole : length c.args.x.now ≡ c.args.n * c.args.n = (sized _ _ _ c.requires).size in
-    omega (arith, within c, whole)
+overflow_mul-a c = omega (arith, within c, whole (goal.at.overflow_mul-a c).After-slice_known-1)
 
 pub overflow_add-e : goal.overflow_add-e
-overflow_add-e c =
-    let whole : length c.args.x.now ≡ c.args.n * c.args.n = (sized _ _ _ c.requires).size in
-    omega (arith, within c, whole)
+overflow_add-e c = omega (arith, within c, whole (goal.at.overflow_add-e c).After-slice_known-1)
 
 pub offset_bounds-x-a : goal.offset_bounds-x-a
-offset_bounds-x-a c =
-    let whole : length c.args.x.now ≡ c.args.n * c.args.n = (sized _ _ _ c.requires).size in
-    omega (arith, within c, whole)
+offset_bounds-x-a c = omega (arith, within c, whole (goal.at.offset_bounds-x-a c).After-slice_known-1)
 
 pub slice_bounds-unit_column-count : goal.slice_bounds-unit_column-count
-slice_bounds-unit_column-count c =
-    let whole : length c.args.x.now ≡ c.args.n * c.args.n = (sized _ _ _ c.requires).size in
-    omega (arith, within c, whole)
+slice_bounds-unit_column-count c = omega (arith, within c, whole (goal.at.slice_bounds-unit_column-count c).After-slice_known-1)
 
 pub slice_bounds-unit_column-start : goal.slice_bounds-unit_column-start
-slice_bounds-unit_column-start c =
-    let whole : length c.args.x.now ≡ c.args.n * c.args.n = (sized _ _ _ c.requires).size in
-    omega (arith, within c, whole)
+slice_bounds-unit_column-start c = omega (arith, within c, whole (goal.at.slice_bounds-unit_column-start c).After-slice_known-1)
 
 pub slice_bounds-unit_column-end : goal.slice_bounds-unit_column-end
-slice_bounds-unit_column-end c =
-    let whole : length c.args.x.now ≡ c.args.n * c.args.n = (sized _ _ _ c.requires).size in
-    omega (arith, within c, whole)
+slice_bounds-unit_column-end c = omega (arith, within c, whole (goal.at.slice_bounds-unit_column-end c).After-slice_known-1)
 
 pub overflow_add-j : goal.overflow_add-j
-overflow_add-j c =
-    let whole : length c.args.x.now ≡ c.args.n * c.args.n = (sized _ _ _ c.requires).size in
-    omega (arith, within (goal.at.overflow_add-j c).In-loop-j, whole)
+overflow_add-j c = omega (arith, within (goal.at.overflow_add-j c).In-loop-j, whole (goal.at.overflow_add-j c).After-slice_known-1)

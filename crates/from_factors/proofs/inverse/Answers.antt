@@ -7,7 +7,15 @@ use Rattle.from_factors.specs.Solving.{inverse_asks, solved, inverting}
 use Rattle.refusals.proofs.Outcomes.{promise_refused}
 use Rattle.factors.proofs.Held.{Passed, passed, square_matrix, square_list}
 use Rattle.from_factors.proofs.Promises.{promise_solved}
+use Rattle.from_factors.proofs.inverse.Goals.{After-fill_with_identity-arg-1}
 use Rattle.from_factors.proofs.inverse.Goals as goal
+
+-- past the tests
+past : (c : After-fill_with_identity-arg-1) → let g = c.args in
+    Passed g.factors.now g.swaps.now g.told (inverse_asks g.x.now g.told.rows)
+past c =
+    let number_is : let g = c.args in c.held_refusal-number.result ≡ held_refusal g.factors.now g.swaps.now g.told (inverse_asks g.x.now g.told.rows) = rw c.is_matrix-lengths.ensures at c.held_refusal-number.ensures in
+    passed _ _ _ _ (sym (number_is) ∙ c.if-number-ne0.false)
 
 pub returns-then-number-ne0 : goal.returns-then-number-ne0
 unfolding inverting
@@ -16,16 +24,11 @@ returns-then-number-ne0 c =
     let whole = promise_refused _ _ _ _ _ (number_is) c.if-number-ne0.true c.answer_for.ensures in record { result_value = whole.0; x_after = whole.1 }
 
 pub fill_with_identity-requires : goal.fill_with_identity-requires
-fill_with_identity-requires c =
-    let number_is : let g = c.args in c.held_refusal-number.result ≡ held_refusal g.factors.now g.swaps.now g.told (inverse_asks g.x.now g.told.rows) = rw c.is_matrix-lengths.ensures at c.held_refusal-number.ensures in
-    let past : let g = c.args in Passed g.factors.now g.swaps.now g.told (inverse_asks g.x.now g.told.rows) = passed _ _ _ _ (sym (number_is) ∙ c.if-number-ne0.false) in
-    (past).lengths
+fill_with_identity-requires c = (past c).lengths
 
 pub solve_mut-requires : goal.solve_mut-requires
 solve_mut-requires c =
-    let number_is : let g = c.args in c.held_refusal-number.result ≡ held_refusal g.factors.now g.swaps.now g.told (inverse_asks g.x.now g.told.rows) = rw c.is_matrix-lengths.ensures at c.held_refusal-number.ensures in
-    let past : let g = c.args in Passed g.factors.now g.swaps.now g.told (inverse_asks g.x.now g.told.rows) = passed _ _ _ _ (sym (number_is) ∙ c.if-number-ne0.false) in
-    let p = past in
+    let p = past (goal.at.solve_mut-requires c).After-fill_with_identity-arg-1 in
     record {
       rows_value = (
         square_matrix _ _ _ _ refl p,

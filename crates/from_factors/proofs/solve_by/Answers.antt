@@ -11,7 +11,24 @@ use Rattle.from_factors.specs.Solving.{way_of, solve_asks}
 use Rattle.refusals.proofs.Outcomes.{promise_refused}
 use Rattle.factors.proofs.Held.{Passed, passed, square_matrix, square_list}
 use Rattle.from_factors.proofs.Promises.{promise_solved}
+use Rattle.from_factors.proofs.solve_by.Goals.{After-copy-arg-1}
 use Rattle.from_factors.proofs.solve_by.Goals as goal
+
+-- past the tests
+past : (c : After-copy-arg-1) → let g = c.args in
+    Passed g.factors.now g.swaps.now g.told (solve_asks g.b.now g.told.rows g.k g.x.now)
+past c =
+    let number_is : let g = c.args in c.held_refusal-number.result ≡ held_refusal g.factors.now g.swaps.now g.told (solve_asks g.b.now g.told.rows g.k g.x.now) = rw (c.outside-sizes.ensures, c.is_matrix.ensures, c.is_matrix-2.ensures, c.all_finite-numbers.ensures) at c.held_refusal-number.ensures in
+    passed _ _ _ _ (sym (number_is) ∙ c.if-number-ne0.false)
+
+-- the right-hand sides and the slice for the solution are matrices
+sides : (c : After-copy-arg-1) → let g = c.args in
+    (is_matrix g.b.now g.told.rows g.k ≡ true) × (is_matrix g.x.now g.told.rows g.k ≡ true)
+sides c =
+    let g = c.args in
+    let b = is_matrix g.b.now g.told.rows g.k in
+    let x = is_matrix g.x.now g.told.rows g.k in
+    (and_first b x (past c).lengths, and_second b x (past c).lengths)
 
 pub returns-then-number-ne0 : goal.returns-then-number-ne0
 returns-then-number-ne0 c =
@@ -20,15 +37,12 @@ returns-then-number-ne0 c =
 
 pub solve_mut_by-requires : goal.solve_mut_by-requires
 solve_mut_by-requires c =
-    let number_is : let g = c.args in c.held_refusal-number.result ≡ held_refusal g.factors.now g.swaps.now g.told (solve_asks g.b.now g.told.rows g.k g.x.now) = rw (c.outside-sizes.ensures, c.is_matrix.ensures, c.is_matrix-2.ensures, c.all_finite-numbers.ensures) at c.held_refusal-number.ensures in
-    let past : let g = c.args in Passed g.factors.now g.swaps.now g.told (solve_asks g.b.now g.told.rows g.k g.x.now) = passed _ _ _ _ (sym (number_is) ∙ c.if-number-ne0.false) in
-    let sides : let g = c.args in (is_matrix g.b.now g.told.rows g.k ≡ true) × (is_matrix g.x.now g.told.rows g.k ≡ true) = let g = c.args in let b = is_matrix g.b.now g.told.rows g.k in let x = is_matrix g.x.now g.told.rows g.k in (and_first b x (past).lengths, and_second b x (past).lengths) in
-    let p = past in
+    let p = past (goal.at.solve_mut_by-requires c).After-copy-arg-1 in
     record {
       rows_value = (
         square_matrix _ _ _ _ refl p,
         same_matrix c.args.told.rows c.args.k c.args.x.now _
-            c.copy.auto.dst ∙ (sides).1,
+            c.copy.auto.dst ∙ (sides (goal.at.solve_mut_by-requires c).After-copy-arg-1).1,
       );
       rows_value_2 = square_list _ _ _ _ refl p;
     }
@@ -36,11 +50,9 @@ solve_mut_by-requires c =
 pub returns : goal.returns
 returns c =
     let number_is : let g = c.args in c.held_refusal-number.result ≡ held_refusal g.factors.now g.swaps.now g.told (solve_asks g.b.now g.told.rows g.k g.x.now) = rw (c.outside-sizes.ensures, c.is_matrix.ensures, c.is_matrix-2.ensures, c.all_finite-numbers.ensures) at c.held_refusal-number.ensures in
-    let past : let g = c.args in Passed g.factors.now g.swaps.now g.told (solve_asks g.b.now g.told.rows g.k g.x.now) = passed _ _ _ _ (sym (number_is) ∙ c.if-number-ne0.false) in
-    let sides : let g = c.args in (is_matrix g.b.now g.told.rows g.k ≡ true) × (is_matrix g.x.now g.told.rows g.k ≡ true) = let g = c.args in let b = is_matrix g.b.now g.told.rows g.k in let x = is_matrix g.x.now g.told.rows g.k in (and_first b x (past).lengths, and_second b x (past).lengths) in
     let g = c.args in
     let n = g.told.rows in
-    let fit = sides in
+    let fit = sides (goal.at.returns c).After-copy-arg-1 in
     let long = (sized n g.k g.b.now fit.0).size ∙ sym (sized n g.k g.x.now fit.1).size in
     let is = c.copy.ensures ∙ copied_whole g.b.now g.x.now long in
     let whole = promise_solved (way_of g.transposed) g.told _ _ _ _ _ _ _ _ _ _ _ (number_is) c.if-number-ne0.false

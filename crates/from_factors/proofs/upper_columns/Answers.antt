@@ -10,8 +10,12 @@ use Rattle.store.proofs.Columns.{sized, column_end, column_within, column_length
 use Rattle.from_factors.specs.Triangles.{upper_of, upper_factor}
 use Rattle.from_factors.proofs.Written.{Written, written_start, written_turn, written_flat}
 use Rattle.from_factors.proofs.upper_columns.Invariants.{upper}
-use Rattle.from_factors.proofs.upper_columns.Goals.{In-loop-j}
+use Rattle.from_factors.proofs.upper_columns.Goals.{After-shared_slice_known-1, In-loop-j}
 use Rattle.from_factors.proofs.upper_columns.Goals as goal
+
+-- the slice has its size, and in a turn column j ends within it and within the factors
+whole : (c : After-shared_slice_known-1) → length c.args.out.now ≡ c.args.n * c.args.k
+whole c = (sized _ _ _ c.requires.1).size
 
 within : (c : In-loop-j) → c.loop-j.j * c.args.k + c.args.k ≤
     c.args.n * c.args.k
@@ -42,80 +46,57 @@ loop-j-preserved c =
     (part_column g.m g.n c.loop-j.j g.factors.now t))
 
 pub shape_of-out : goal.shape_of-out
-shape_of-out c =
-    let whole : length c.args.out.now ≡ c.args.n * c.args.k = (sized _ _ _ c.requires.1).size in
-    c.loop-j.invariant.size ∙ sym (whole)
+shape_of-out c = c.loop-j.invariant.size ∙ sym (whole (goal.at.shape_of-out c).After-shared_slice_known-1)
 
 pub returns : goal.returns
 unfolding upper_factor
 returns c = written_flat _ _ _ _ _ c.loop-j-test.false c.loop-j.invariant
 
 pub overflow_mul-a : goal.overflow_mul-a
-overflow_mul-a c =
-    let whole : length c.args.out.now ≡ c.args.n * c.args.k = (sized _ _ _ c.requires.1).size in
-    omega (arith, within c, within_factors c, whole)
+overflow_mul-a c = omega (arith, within c, within_factors c, whole (goal.at.overflow_mul-a c).After-shared_slice_known-1)
 
 pub overflow_add-e : goal.overflow_add-e
-overflow_add-e c =
-    let whole : length c.args.out.now ≡ c.args.n * c.args.k = (sized _ _ _ c.requires.1).size in
-    omega (arith, within c, within_factors c, whole)
+overflow_add-e c = omega (arith, within c, within_factors c, whole (goal.at.overflow_add-e c).After-shared_slice_known-1)
 
 pub overflow_mul-b : goal.overflow_mul-b
-overflow_mul-b c =
-    let whole : length c.args.out.now ≡ c.args.n * c.args.k = (sized _ _ _ c.requires.1).size in
-    omega (arith, within c, within_factors c, whole)
+overflow_mul-b c = omega (arith, within c, within_factors c, whole (goal.at.overflow_mul-b c).After-shared_slice_known-1)
 
 pub overflow_add-f : goal.overflow_add-f
-overflow_add-f c =
-    let whole : length c.args.out.now ≡ c.args.n * c.args.k = (sized _ _ _ c.requires.1).size in
-    omega (arith, within c, within_factors c, whole)
+overflow_add-f c = omega (arith, within c, within_factors c, whole (goal.at.overflow_add-f c).After-shared_slice_known-1)
 
 pub offset_bounds-out-a : goal.offset_bounds-out-a
-offset_bounds-out-a c =
-    let whole : length c.args.out.now ≡ c.args.n * c.args.k = (sized _ _ _ c.requires.1).size in
-    omega (arith, within c, within_factors c, whole)
+offset_bounds-out-a c = omega (arith, within c, within_factors c, whole (goal.at.offset_bounds-out-a c).After-shared_slice_known-1)
 
 pub slice_bounds-upper_column-count : goal.slice_bounds-upper_column-count
-slice_bounds-upper_column-count c =
-    let whole : length c.args.out.now ≡ c.args.n * c.args.k = (sized _ _ _ c.requires.1).size in
-    omega (arith, within c, within_factors c, whole)
+slice_bounds-upper_column-count c = omega (arith, within c, within_factors c, whole (goal.at.slice_bounds-upper_column-count c).After-shared_slice_known-1)
 
 pub slice_bounds-upper_column-start : goal.slice_bounds-upper_column-start
-slice_bounds-upper_column-start c =
-    let whole : length c.args.out.now ≡ c.args.n * c.args.k = (sized _ _ _ c.requires.1).size in
-    omega (arith, within c, within_factors c, whole)
+slice_bounds-upper_column-start c = omega (arith, within c, within_factors c, whole (goal.at.slice_bounds-upper_column-start c).After-shared_slice_known-1)
 
 pub slice_bounds-upper_column-end : goal.slice_bounds-upper_column-end
-slice_bounds-upper_column-end c =
-    let whole : length c.args.out.now ≡ c.args.n * c.args.k = (sized _ _ _ c.requires.1).size in
-    omega (arith, within c, within_factors c, whole)
+slice_bounds-upper_column-end c = omega (arith, within c, within_factors c, whole (goal.at.slice_bounds-upper_column-end c).After-shared_slice_known-1)
 
 pub offset_bounds-factors-b : goal.offset_bounds-factors-b
 offset_bounds-factors-b c =
-    let whole : length c.args.out.now ≡ c.args.n * c.args.k = (sized _ _ _ c.requires.1).size in
-    omega (arith, within (goal.at.offset_bounds-factors-b c).In-loop-j, within_factors (goal.at.offset_bounds-factors-b c).In-loop-j, whole)
+    omega (arith, within (goal.at.offset_bounds-factors-b c).In-loop-j, within_factors (goal.at.offset_bounds-factors-b c).In-loop-j, whole (goal.at.offset_bounds-factors-b c).After-shared_slice_known-1)
 
 pub slice_bounds-upper_column-count-in-loop-j : goal.slice_bounds-upper_column-count-in-loop-j
 slice_bounds-upper_column-count-in-loop-j c =
-    let whole : length c.args.out.now ≡ c.args.n * c.args.k = (sized _ _ _ c.requires.1).size in
-    omega (arith, within (goal.at.slice_bounds-upper_column-count-in-loop-j c).In-loop-j, within_factors (goal.at.slice_bounds-upper_column-count-in-loop-j c).In-loop-j, whole)
+    omega (arith, within (goal.at.slice_bounds-upper_column-count-in-loop-j c).In-loop-j, within_factors (goal.at.slice_bounds-upper_column-count-in-loop-j c).In-loop-j, whole (goal.at.slice_bounds-upper_column-count-in-loop-j c).After-shared_slice_known-1)
 
 pub slice_bounds-upper_column-start-in-loop-j : goal.slice_bounds-upper_column-start-in-loop-j
 slice_bounds-upper_column-start-in-loop-j c =
-    let whole : length c.args.out.now ≡ c.args.n * c.args.k = (sized _ _ _ c.requires.1).size in
-    omega (arith, within (goal.at.slice_bounds-upper_column-start-in-loop-j c).In-loop-j, within_factors (goal.at.slice_bounds-upper_column-start-in-loop-j c).In-loop-j, whole)
+    omega (arith, within (goal.at.slice_bounds-upper_column-start-in-loop-j c).In-loop-j, within_factors (goal.at.slice_bounds-upper_column-start-in-loop-j c).In-loop-j, whole (goal.at.slice_bounds-upper_column-start-in-loop-j c).After-shared_slice_known-1)
 
 pub slice_bounds-upper_column-end-in-loop-j : goal.slice_bounds-upper_column-end-in-loop-j
 slice_bounds-upper_column-end-in-loop-j c =
-    let whole : length c.args.out.now ≡ c.args.n * c.args.k = (sized _ _ _ c.requires.1).size in
-    omega (arith, within (goal.at.slice_bounds-upper_column-end-in-loop-j c).In-loop-j, within_factors (goal.at.slice_bounds-upper_column-end-in-loop-j c).In-loop-j, whole)
+    omega (arith, within (goal.at.slice_bounds-upper_column-end-in-loop-j c).In-loop-j, within_factors (goal.at.slice_bounds-upper_column-end-in-loop-j c).In-loop-j, whole (goal.at.slice_bounds-upper_column-end-in-loop-j c).After-shared_slice_known-1)
 
 pub overflow_add-j : goal.overflow_add-j
 overflow_add-j c =
-    let whole : length c.args.out.now ≡ c.args.n * c.args.k = (sized _ _ _ c.requires.1).size in
     omega (
       arith,
       within (goal.at.overflow_add-j c).In-loop-j,
       within_factors (goal.at.overflow_add-j c).In-loop-j,
-      whole,
+      whole (goal.at.overflow_add-j c).After-shared_slice_known-1,
     )

@@ -17,7 +17,15 @@ use Rattle.lu.proofs.Slices.{held_unfactored, steps_begin}
 use Rattle.elimination.proofs.Step.{turns_join}
 use Rattle.factors.proofs.Swaps.{length_store}
 use Rattle.elimination.proofs.Tossing.{toss_begin, toss_join}
+use Rattle.lu.proofs.factor_in_place.Goals.{After-factor_panel-arg-in-loop-i-1}
 use Rattle.lu.proofs.factor_in_place.Goals as goal
+
+-- more than eight steps are left
+left : (c : After-factor_panel-arg-in-loop-i-1) → let g = c.args in
+    (c.loop-i.i + 4 ≤ min g.m g.n) × (c.min-min_nrows_ncols.result ≡ min g.m g.n) × (g.m ≤ 64)
+left c =
+    let e = c.min-min_nrows_ncols.ensures in
+    (omega (arith, e, c.loop-i-test.true), e, (sized _ _ _ c.requires.0).rows_most)
 
 pub loop-i-init : goal.loop-i-init
 loop-i-init c =
@@ -42,18 +50,16 @@ overflow_sub-min_nrows_ncols c = rw c.min-min_nrows_ncols.ensures c.loop-i.invar
 
 pub factor_panel-counts-requires : goal.factor_panel-counts-requires
 factor_panel-counts-requires c =
-    let left : let g = c.args in (c.loop-i.i + 4 ≤ min g.m g.n) × (c.min-min_nrows_ncols.result ≡ min g.m g.n) × (g.m ≤ 64) = let e = c.min-min_nrows_ncols.ensures in (omega (arith, e, c.loop-i-test.true), e, (sized _ _ _ c.requires.0).rows_most) in
     let pre = c.requires in
-    let few = (left).0 in
+    let few = (left c).0 in
     record { i_bound = (omega arith, omega arith, c.loop-i.invariant.3.0, c.loop-i.invariant.3.1); n_value = (same_matrix _ _ _ _ c.loop-i.invariant.0 ∙ pre.0, c.loop-i.invariant.1 ∙ ap length pre.1 ∙ length_store [] (omega arith)) }
 
 pub loop-i-preserved : goal.loop-i-preserved
 loop-i-preserved c =
-    let left : let g = c.args in (c.loop-i.i + 4 ≤ min g.m g.n) × (c.min-min_nrows_ncols.result ≡ min g.m g.n) × (g.m ≤ 64) = let e = c.min-min_nrows_ncols.ensures in (omega (arith, e, c.loop-i-test.true), e, (sized _ _ _ c.requires.0).rows_most) in
     let g = c.args in
     let i = c.loop-i.i in
     let end = min g.m g.n in
-    let here = (left).0 in
+    let here = (left (goal.at.loop-i-preserved c).After-factor_panel-arg-in-loop-i-1).0 in
     let f = c.loop-i.invariant.4.0 in
     let h = c.loop-i.invariant.4.1.0 in
     let four = i + 4 - i in
@@ -98,11 +104,7 @@ returns c =
     record { held = subst (λ w. Held c.factor_steps.new.s g.m g.n c.factor_steps.new.swaps c.factor_steps.result.pairs w) steps (c.factor_steps.ensures.steps f h); tossed_value = c.factor_steps.ensures.toss f h ∙ ap (λ j. c.loop-i.counts.tossed + toss_from c.loop-i.i (j - c.loop-i.i) f) e ∙ c.loop-i.invariant.4.1.2 }
 
 pub overflow_add-i : goal.overflow_add-i
-overflow_add-i c =
-    let left : let g = c.args in (c.loop-i.i + 4 ≤ min g.m g.n) × (c.min-min_nrows_ncols.result ≡ min g.m g.n) × (g.m ≤ 64) = let e = c.min-min_nrows_ncols.ensures in (omega (arith, e, c.loop-i-test.true), e, (sized _ _ _ c.requires.0).rows_most) in
-    omega (arith, left)
+overflow_add-i c = omega (arith, left (goal.at.overflow_add-i c).After-factor_panel-arg-in-loop-i-1)
 
 pub loop-i-smaller : goal.loop-i-smaller
-loop-i-smaller c =
-    let left : let g = c.args in (c.loop-i.i + 4 ≤ min g.m g.n) × (c.min-min_nrows_ncols.result ≡ min g.m g.n) × (g.m ≤ 64) = let e = c.min-min_nrows_ncols.ensures in (omega (arith, e, c.loop-i-test.true), e, (sized _ _ _ c.requires.0).rows_most) in
-    omega (arith, left)
+loop-i-smaller c = omega (arith, left (goal.at.loop-i-smaller c).After-factor_panel-arg-in-loop-i-1)

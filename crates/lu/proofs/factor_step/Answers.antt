@@ -13,8 +13,12 @@ use Rattle.factors.proofs.Swaps.{recorded, few_recorded, more_recorded}
 use Rattle.elimination.specs.TossUps.{toss_at}
 use Rattle.elimination.proofs.Tossing.{toss_most, toss_skipped, toss_found}
 use Rattle.lu.proofs.Slices.{found, pivot_within, pivot_number, pivot_zero_there, step_skipped, step_done}
-use Rattle.lu.proofs.factor_step.Goals.{After-count-own, After-icamax-found}
+use Rattle.lu.proofs.factor_step.Goals.{After-count-own, After-icamax-found, After-slice_known-2-1}
 use Rattle.lu.proofs.factor_step.Goals as goal
+
+-- column i ends within the store
+within : (c : After-slice_known-2-1) → c.args.i * c.args.m + c.args.m ≤ length c.args.s.now
+within c = column_within _ _ _ c.args.s.now c.requires.i_lt_m.1 (sized _ _ _ c.requires.n_value.0).size
 
 -- the pivot row lies in it
 row : (c : After-icamax-found) → c.icamax-found.result.row < c.args.m
@@ -32,19 +36,13 @@ counted c =
     (own, rw own (toss_most g.i (column (columns g.m g.n g.s.now) g.i)), (sized _ _ _ c.requires.n_value.0).rows_most)
 
 pub overflow_add-q : goal.overflow_add-q
-overflow_add-q c =
-    let within : c.args.i * c.args.m + c.args.m ≤ length c.args.s.now = column_within _ _ _ c.args.s.now c.requires.i_lt_m.1 (sized _ _ _ c.requires.n_value.0).size in
-    omega (arith, within, row c)
+overflow_add-q c = omega (arith, within (goal.at.overflow_add-q c).After-slice_known-2-1, row c)
 
 pub offset_bounds-s-q : goal.offset_bounds-s-q
-offset_bounds-s-q c =
-    let within : c.args.i * c.args.m + c.args.m ≤ length c.args.s.now = column_within _ _ _ c.args.s.now c.requires.i_lt_m.1 (sized _ _ _ c.requires.n_value.0).size in
-    omega (arith, within, row c)
+offset_bounds-s-q c = omega (arith, within (goal.at.offset_bounds-s-q c).After-slice_known-2-1, row c)
 
 pub bounds-s-q : goal.bounds-s-q
-bounds-s-q c =
-    let within : c.args.i * c.args.m + c.args.m ≤ length c.args.s.now = column_within _ _ _ c.args.s.now c.requires.i_lt_m.1 (sized _ _ _ c.requires.n_value.0).size in
-    omega (arith, within, row (goal.at.bounds-s-q c).After-icamax-found)
+bounds-s-q c = omega (arith, within (goal.at.bounds-s-q c).After-slice_known-2-1, row (goal.at.bounds-s-q c).After-icamax-found)
 
 pub returns-then-is_zero : goal.returns-then-is_zero
 returns-then-is_zero c =
@@ -85,34 +83,22 @@ returns c =
     }
 
 pub overflow_mul-a : goal.overflow_mul-a
-overflow_mul-a c =
-    let within : c.args.i * c.args.m + c.args.m ≤ length c.args.s.now = column_within _ _ _ c.args.s.now c.requires.i_lt_m.1 (sized _ _ _ c.requires.n_value.0).size in
-    omega (arith, within)
+overflow_mul-a c = omega (arith, within c)
 
 pub overflow_add-e : goal.overflow_add-e
-overflow_add-e c =
-    let within : c.args.i * c.args.m + c.args.m ≤ length c.args.s.now = column_within _ _ _ c.args.s.now c.requires.i_lt_m.1 (sized _ _ _ c.requires.n_value.0).size in
-    omega (arith, within)
+overflow_add-e c = omega (arith, within c)
 
 pub offset_bounds-s-a : goal.offset_bounds-s-a
-offset_bounds-s-a c =
-    let within : c.args.i * c.args.m + c.args.m ≤ length c.args.s.now = column_within _ _ _ c.args.s.now c.requires.i_lt_m.1 (sized _ _ _ c.requires.n_value.0).size in
-    omega (arith, within)
+offset_bounds-s-a c = omega (arith, within c)
 
 pub slice_bounds-icamax-count : goal.slice_bounds-icamax-count
-slice_bounds-icamax-count c =
-    let within : c.args.i * c.args.m + c.args.m ≤ length c.args.s.now = column_within _ _ _ c.args.s.now c.requires.i_lt_m.1 (sized _ _ _ c.requires.n_value.0).size in
-    omega (arith, within)
+slice_bounds-icamax-count c = omega (arith, within c)
 
 pub slice_bounds-icamax-start : goal.slice_bounds-icamax-start
-slice_bounds-icamax-start c =
-    let within : c.args.i * c.args.m + c.args.m ≤ length c.args.s.now = column_within _ _ _ c.args.s.now c.requires.i_lt_m.1 (sized _ _ _ c.requires.n_value.0).size in
-    omega (arith, within)
+slice_bounds-icamax-start c = omega (arith, within c)
 
 pub slice_bounds-icamax-end : goal.slice_bounds-icamax-end
-slice_bounds-icamax-end c =
-    let within : c.args.i * c.args.m + c.args.m ≤ length c.args.s.now = column_within _ _ _ c.args.s.now c.requires.i_lt_m.1 (sized _ _ _ c.requires.n_value.0).size in
-    omega (arith, within)
+slice_bounds-icamax-end c = omega (arith, within c)
 
 pub overflow_add-result : goal.overflow_add-result
 overflow_add-result c = omega (arith, (counted c).1)

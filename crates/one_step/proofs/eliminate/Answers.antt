@@ -12,7 +12,13 @@ use Rattle.one_step.specs.OneStep.{step_columns, eliminated}
 use Rattle.store.proofs.Columns.{same_matrix, column_stop, on_none, on_done}
 use Rattle.one_step.proofs.Shape.{eliminated_past}
 use Rattle.one_step.proofs.Within.{stepped_column, stepped_turn}
+use Rattle.one_step.proofs.eliminate.Goals.{Else-min-i}
 use Rattle.one_step.proofs.eliminate.Goals as goal
+
+-- past the tests the slice is a matrix that has row and column i
+has : (c : Else-min-i) → let g = c.args in
+    (is_matrix g.s.now g.m g.n ≡ true) × (g.i < g.m) × (g.i < g.n)
+has c = (sym c.is_matrix.ensures ∙ c.if-not-is_matrix.false, omega arith, omega arith)
 
 pub returns-then-not-is_matrix : goal.returns-then-not-is_matrix
 returns-then-not-is_matrix c = on_none _ _ _ _ (sym c.is_matrix.ensures ∙ c.if-not-is_matrix.true)
@@ -28,8 +34,7 @@ loop-j-init c = (refl, omega arith, refl, refl)
 
 pub step_inner-requires : goal.step_inner-requires
 step_inner-requires c =
-    let has : let g = c.args in (is_matrix g.s.now g.m g.n ≡ true) × (g.i < g.m) × (g.i < g.n) = (sym c.is_matrix.ensures ∙ c.if-not-is_matrix.false, omega arith, omega arith) in
-    let h = has in
+    let h = has (goal.at.step_inner-requires c).Else-min-i in
     (same_matrix _ _ _ _ c.loop-j.invariant.0 ∙ h.0, h.1, h.2, c.loop-j-test.true)
 
 pub loop-j-preserved : goal.loop-j-preserved
@@ -46,10 +51,7 @@ loop-j-preserved c =
 pub returns : goal.returns
 unfolding step_columns
 returns c =
-    let has : let g = c.args in (is_matrix g.s.now g.m g.n ≡ true) × (g.i < g.m) × (g.i < g.n) = (sym c.is_matrix.ensures ∙ c.if-not-is_matrix.false, omega arith, omega arith) in
-    on_done _ _ _ _ _ (has).0 c.loop-j.invariant.0 (sym (column_stop _ _ _ _ _ c.loop-j-test.false) ∙ c.loop-j.invariant.3)
+    on_done _ _ _ _ _ (has (goal.at.returns c).Else-min-i).0 c.loop-j.invariant.0 (sym (column_stop _ _ _ _ _ c.loop-j-test.false) ∙ c.loop-j.invariant.3)
 
 pub overflow_add-j : goal.overflow_add-j
-overflow_add-j c =
-    let has : let g = c.args in (is_matrix g.s.now g.m g.n ≡ true) × (g.i < g.m) × (g.i < g.n) = (sym c.is_matrix.ensures ∙ c.if-not-is_matrix.false, omega arith, omega arith) in
-    omega (arith, has)
+overflow_add-j c = omega (arith, has c)

@@ -11,23 +11,28 @@ use Rattle.store.specs.Steps.{column}
 use Rattle.one_step.specs.OneStep.{step_column}
 use Rattle.store.proofs.Columns.{sized, column_within, column_length}
 use Rattle.one_step.proofs.Within.{updating, within_start, within_turn, within_stop}
+use Rattle.one_step.proofs.step_inner.Goals.{After-slice_known-1}
 use Rattle.one_step.proofs.step_inner.Goals as goal
 
+size : (c : After-slice_known-1) → length c.args.s.now ≡ c.args.n * c.args.m
+size c = (sized _ _ _ c.requires.0).size
+
+-- both columns end within the store
+within : (c : After-slice_known-1) → let g = c.args in (g.i * g.m + g.m ≤ length g.s.now) × (g.j * g.m + g.m ≤ length g.s.now)
+within c =
+    (column_within _ _ _ c.args.s.now c.requires.2 (size c), column_within _ _ _ c.args.s.now c.requires.3 (size c))
+
 pub loop-k-init : goal.loop-k-init
-loop-k-init c =
-    let size : length c.args.s.now ≡ c.args.n * c.args.m = (sized _ _ _ c.requires.0).size in
-    (refl, within_start _ _ _ _ _ c.requires.2 c.requires.3 (size) c.requires.1)
+loop-k-init c = (refl, within_start _ _ _ _ _ c.requires.2 c.requires.3 (size (goal.at.loop-k-init c).After-slice_known-1) c.requires.1)
 
 pub step_entry-requires : goal.step_entry-requires
 step_entry-requires c =
-    let size : length c.args.s.now ≡ c.args.n * c.args.m = (sized _ _ _ c.requires.0).size in
-    let sized_at : length c.loop-k.s ≡ c.args.n * c.args.m = c.loop-k.invariant.0 ∙ size in
+    let sized_at : length c.loop-k.s ≡ c.args.n * c.args.m = c.loop-k.invariant.0 ∙ size (goal.at.step_entry-requires c).After-slice_known-1 in
     rw (column_length _ _ _ c.loop-k.s c.requires.3 (sized_at)) c.loop-k-test.true
 
 pub loop-k-preserved : goal.loop-k-preserved
 loop-k-preserved c =
-    let size : length c.args.s.now ≡ c.args.n * c.args.m = (sized _ _ _ c.requires.0).size in
-    let sized_at : length c.loop-k.s ≡ c.args.n * c.args.m = c.loop-k.invariant.0 ∙ size in
+    let sized_at : length c.loop-k.s ≡ c.args.n * c.args.m = c.loop-k.invariant.0 ∙ size (goal.at.loop-k-preserved c).After-slice_known-1 in
     let g = c.args in (
       same_len_mid {X = Float} (g.j * g.m) (g.j * g.m + g.m - g.j * g.m) _ c.step_entry.new.c c.step_entry.auto.c
           ∙ c.loop-k.invariant.0,
@@ -37,90 +42,47 @@ loop-k-preserved c =
 
 pub returns : goal.returns
 returns c =
-    let size : length c.args.s.now ≡ c.args.n * c.args.m = (sized _ _ _ c.requires.0).size in
-    let sized_at : length c.loop-k.s ≡ c.args.n * c.args.m = c.loop-k.invariant.0 ∙ size in
+    let sized_at : length c.loop-k.s ≡ c.args.n * c.args.m = c.loop-k.invariant.0 ∙ size (goal.at.returns c).After-slice_known-1 in
     sym (within_stop _ _ _ _ _ c.requires.2 c.requires.3 (sized_at) _ _ c.loop-k-test.false) ∙ c.loop-k.invariant.1
 
 pub overflow_mul-a : goal.overflow_mul-a
-overflow_mul-a c =
-    let size : length c.args.s.now ≡ c.args.n * c.args.m = (sized _ _ _ c.requires.0).size in
-    let within : let g = c.args in (g.i * g.m + g.m ≤ length g.s.now) × (g.j * g.m + g.m ≤ length g.s.now) = (column_within _ _ _ c.args.s.now c.requires.2 (size), column_within _ _ _ c.args.s.now c.requires.3 (size)) in
-    omega (arith, within)
+overflow_mul-a c = omega (arith, within c)
 
 pub overflow_mul-b : goal.overflow_mul-b
-overflow_mul-b c =
-    let size : length c.args.s.now ≡ c.args.n * c.args.m = (sized _ _ _ c.requires.0).size in
-    let within : let g = c.args in (g.i * g.m + g.m ≤ length g.s.now) × (g.j * g.m + g.m ≤ length g.s.now) = (column_within _ _ _ c.args.s.now c.requires.2 (size), column_within _ _ _ c.args.s.now c.requires.3 (size)) in
-    omega (arith, within)
+overflow_mul-b c = omega (arith, within c)
 
 pub overflow_add-e : goal.overflow_add-e
-overflow_add-e c =
-    let size : length c.args.s.now ≡ c.args.n * c.args.m = (sized _ _ _ c.requires.0).size in
-    let within : let g = c.args in (g.i * g.m + g.m ≤ length g.s.now) × (g.j * g.m + g.m ≤ length g.s.now) = (column_within _ _ _ c.args.s.now c.requires.2 (size), column_within _ _ _ c.args.s.now c.requires.3 (size)) in
-    omega (arith, within)
+overflow_add-e c = omega (arith, within c)
 
 pub overflow_add-u : goal.overflow_add-u
-overflow_add-u c =
-    let size : length c.args.s.now ≡ c.args.n * c.args.m = (sized _ _ _ c.requires.0).size in
-    let within : let g = c.args in (g.i * g.m + g.m ≤ length g.s.now) × (g.j * g.m + g.m ≤ length g.s.now) = (column_within _ _ _ c.args.s.now c.requires.2 (size), column_within _ _ _ c.args.s.now c.requires.3 (size)) in
-    omega (arith, within)
+overflow_add-u c = omega (arith, within c)
 
 pub offset_bounds-s-b : goal.offset_bounds-s-b
-offset_bounds-s-b c =
-    let size : length c.args.s.now ≡ c.args.n * c.args.m = (sized _ _ _ c.requires.0).size in
-    let within : let g = c.args in (g.i * g.m + g.m ≤ length g.s.now) × (g.j * g.m + g.m ≤ length g.s.now) = (column_within _ _ _ c.args.s.now c.requires.2 (size), column_within _ _ _ c.args.s.now c.requires.3 (size)) in
-    omega (arith, within)
+offset_bounds-s-b c = omega (arith, within c)
 
 pub bounds-s-b : goal.bounds-s-b
-bounds-s-b c =
-    let size : length c.args.s.now ≡ c.args.n * c.args.m = (sized _ _ _ c.requires.0).size in
-    let within : let g = c.args in (g.i * g.m + g.m ≤ length g.s.now) × (g.j * g.m + g.m ≤ length g.s.now) = (column_within _ _ _ c.args.s.now c.requires.2 (size), column_within _ _ _ c.args.s.now c.requires.3 (size)) in
-    omega (arith, within)
+bounds-s-b c = omega (arith, within (goal.at.bounds-s-b c).After-slice_known-1)
 
 pub overflow_add-k : goal.overflow_add-k
-overflow_add-k c =
-    let size : length c.args.s.now ≡ c.args.n * c.args.m = (sized _ _ _ c.requires.0).size in
-    let within : let g = c.args in (g.i * g.m + g.m ≤ length g.s.now) × (g.j * g.m + g.m ≤ length g.s.now) = (column_within _ _ _ c.args.s.now c.requires.2 (size), column_within _ _ _ c.args.s.now c.requires.3 (size)) in
-    omega (arith, within)
+overflow_add-k c = omega (arith, within (goal.at.overflow_add-k c).After-slice_known-1)
 
 pub overflow_add-p : goal.overflow_add-p
-overflow_add-p c =
-    let size : length c.args.s.now ≡ c.args.n * c.args.m = (sized _ _ _ c.requires.0).size in
-    let within : let g = c.args in (g.i * g.m + g.m ≤ length g.s.now) × (g.j * g.m + g.m ≤ length g.s.now) = (column_within _ _ _ c.args.s.now c.requires.2 (size), column_within _ _ _ c.args.s.now c.requires.3 (size)) in
-    omega (arith, within)
+overflow_add-p c = omega (arith, within (goal.at.overflow_add-p c).After-slice_known-1)
 
 pub offset_bounds-s-a : goal.offset_bounds-s-a
-offset_bounds-s-a c =
-    let size : length c.args.s.now ≡ c.args.n * c.args.m = (sized _ _ _ c.requires.0).size in
-    let within : let g = c.args in (g.i * g.m + g.m ≤ length g.s.now) × (g.j * g.m + g.m ≤ length g.s.now) = (column_within _ _ _ c.args.s.now c.requires.2 (size), column_within _ _ _ c.args.s.now c.requires.3 (size)) in
-    omega (arith, within)
+offset_bounds-s-a c = omega (arith, within (goal.at.offset_bounds-s-a c).After-slice_known-1)
 
 pub bounds-s-a : goal.bounds-s-a
-bounds-s-a c =
-    let size : length c.args.s.now ≡ c.args.n * c.args.m = (sized _ _ _ c.requires.0).size in
-    let within : let g = c.args in (g.i * g.m + g.m ≤ length g.s.now) × (g.j * g.m + g.m ≤ length g.s.now) = (column_within _ _ _ c.args.s.now c.requires.2 (size), column_within _ _ _ c.args.s.now c.requires.3 (size)) in
-    omega (arith, within)
+bounds-s-a c = omega (arith, within (goal.at.bounds-s-a c).After-slice_known-1)
 
 pub offset_bounds-s-b-in-loop-k : goal.offset_bounds-s-b-in-loop-k
-offset_bounds-s-b-in-loop-k c =
-    let size : length c.args.s.now ≡ c.args.n * c.args.m = (sized _ _ _ c.requires.0).size in
-    let within : let g = c.args in (g.i * g.m + g.m ≤ length g.s.now) × (g.j * g.m + g.m ≤ length g.s.now) = (column_within _ _ _ c.args.s.now c.requires.2 (size), column_within _ _ _ c.args.s.now c.requires.3 (size)) in
-    omega (arith, within)
+offset_bounds-s-b-in-loop-k c = omega (arith, within (goal.at.offset_bounds-s-b-in-loop-k c).After-slice_known-1)
 
 pub slice_bounds-step_entry-count : goal.slice_bounds-step_entry-count
-slice_bounds-step_entry-count c =
-    let size : length c.args.s.now ≡ c.args.n * c.args.m = (sized _ _ _ c.requires.0).size in
-    let within : let g = c.args in (g.i * g.m + g.m ≤ length g.s.now) × (g.j * g.m + g.m ≤ length g.s.now) = (column_within _ _ _ c.args.s.now c.requires.2 (size), column_within _ _ _ c.args.s.now c.requires.3 (size)) in
-    omega (arith, within)
+slice_bounds-step_entry-count c = omega (arith, within (goal.at.slice_bounds-step_entry-count c).After-slice_known-1)
 
 pub slice_bounds-step_entry-start : goal.slice_bounds-step_entry-start
-slice_bounds-step_entry-start c =
-    let size : length c.args.s.now ≡ c.args.n * c.args.m = (sized _ _ _ c.requires.0).size in
-    let within : let g = c.args in (g.i * g.m + g.m ≤ length g.s.now) × (g.j * g.m + g.m ≤ length g.s.now) = (column_within _ _ _ c.args.s.now c.requires.2 (size), column_within _ _ _ c.args.s.now c.requires.3 (size)) in
-    omega (arith, within)
+slice_bounds-step_entry-start c = omega (arith, within (goal.at.slice_bounds-step_entry-start c).After-slice_known-1)
 
 pub slice_bounds-step_entry-end : goal.slice_bounds-step_entry-end
-slice_bounds-step_entry-end c =
-    let size : length c.args.s.now ≡ c.args.n * c.args.m = (sized _ _ _ c.requires.0).size in
-    let within : let g = c.args in (g.i * g.m + g.m ≤ length g.s.now) × (g.j * g.m + g.m ≤ length g.s.now) = (column_within _ _ _ c.args.s.now c.requires.2 (size), column_within _ _ _ c.args.s.now c.requires.3 (size)) in
-    omega (arith, within)
+slice_bounds-step_entry-end c = omega (arith, within (goal.at.slice_bounds-step_entry-end c).After-slice_known-1)

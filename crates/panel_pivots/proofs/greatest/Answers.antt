@@ -15,8 +15,8 @@ loop-k-preserved c =
     let x = c.magnitude-x.ensures in
     let next = Greatest s (c.loop-k.k + 1) in (
       elim c.if-found-x.branch [
-        then-found-x w ↦ subst next (sym w.found-is) (greatest_taken s c.loop-k.k c.loop-k.found _ x c.loop-k.invariant.0 w.if-found-x.true)
-      | else-found-x w ↦ subst next (sym w.found-is) (greatest_left s c.loop-k.k c.loop-k.found _ x c.loop-k.invariant.0 w.if-found-x.false)
+        | then-found-x w ↦ subst next (sym w.found-is) (greatest_taken s c.loop-k.k c.loop-k.found _ x c.loop-k.invariant.0 w.if-found-x.true)
+        | else-found-x w ↦ subst next (sym w.found-is) (greatest_left s c.loop-k.k c.loop-k.found _ x c.loop-k.invariant.0 w.if-found-x.false)
       ],
       omega arith,
     )

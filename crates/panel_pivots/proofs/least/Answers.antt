@@ -16,8 +16,8 @@ loop-k-preserved c =
     let x = c.magnitude-x.ensures in
     let next = Least s (c.loop-k.k + 1) in (
       elim c.if-x-found.branch [
-        then-x-found w ↦ subst next (sym w.found-is) (least_taken s c.loop-k.k c.loop-k.found _ x c.loop-k.invariant.0 w.if-x-found.true)
-      | else-x-found w ↦ subst next (sym w.found-is) (least_left s c.loop-k.k c.loop-k.found _ x c.loop-k.invariant.0 w.if-x-found.false)
+        | then-x-found w ↦ subst next (sym w.found-is) (least_taken s c.loop-k.k c.loop-k.found _ x c.loop-k.invariant.0 w.if-x-found.true)
+        | else-x-found w ↦ subst next (sym w.found-is) (least_left s c.loop-k.k c.loop-k.found _ x c.loop-k.invariant.0 w.if-x-found.false)
       ],
       omega arith,
     )

@@ -8,22 +8,25 @@ use borrow.Author.Rules.{rules}
 use Rattle.crossing.proofs.Factors.{taken_count}
 use Rattle.panel_text.specs.Text.{written}
 use Rattle.panel_text.proofs.Printed.{Moved, moved, text_not_moved, not_moved_few, text_counts}
+use Rattle.panel_text.proofs.moves_text.Goals.{After-put_moves-arg-1}
 use Rattle.panel_text.proofs.moves_text.Goals as goal
 
+-- what the slice holds where there are moves
+moved_at : (c : After-put_moves-arg-1) → let g = c.args in
+    Moved g.file.now g.pad c.in-Pads.n c.moves.new.out
+moved_at c =
+    moved _ _ _ c.moves.ensures.result_value _ _ _ c.in-Pads.is c.moves.ensures.out_after c.moves.ensures.out_len
+
 pub slice_bounds-moves-end : goal.slice_bounds-moves-end
-slice_bounds-moves-end c =
-    let moved_at : let g = c.args in Moved g.file.now g.pad c.in-Pads.n c.moves.new.out = moved _ _ _ c.moves.ensures.result_value _ _ _ c.in-Pads.is c.moves.ensures.out_after c.moves.ensures.out_len in
-    omega (arith, (moved_at).few)
+slice_bounds-moves-end c = omega (arith, (moved_at c).few)
 
 pub slice_bounds-put_moves-end-in-Pads : goal.slice_bounds-put_moves-end-in-Pads
 slice_bounds-put_moves-end-in-Pads c =
-    let moved_at : let g = c.args in Moved g.file.now g.pad c.in-Pads.n c.moves.new.out = moved _ _ _ c.moves.ensures.result_value _ _ _ c.in-Pads.is c.moves.ensures.out_after c.moves.ensures.out_len in
-    taken_count _ c.moves.new.out (omega (arith, (moved_at).few, c.moves.ensures.out_len))
+    taken_count _ c.moves.new.out (omega (arith, (moved_at (goal.at.slice_bounds-put_moves-end-in-Pads c).After-put_moves-arg-1).few, c.moves.ensures.out_len))
 
 pub put_moves-requires : goal.put_moves-requires
 put_moves-requires c =
-    let moved_at : let g = c.args in Moved g.file.now g.pad c.in-Pads.n c.moves.new.out = moved _ _ _ c.moves.ensures.result_value _ _ _ c.in-Pads.is c.moves.ensures.out_after c.moves.ensures.out_len in
-    let w = moved_at in
+    let w = moved_at (goal.at.put_moves-requires c).After-put_moves-arg-1 in
     let a = taken_count c.in-Pads.n c.moves.new.out (omega (arith, w.few, c.moves.ensures.out_len)) in
     (omega (arith, a, w.few), search rules, w.finite)
 
@@ -32,8 +35,7 @@ put_refusal-requires c = (not_moved_few _ _ _ c.moves.ensures.result_value _ c.i
 
 pub returns-in-Pads : goal.returns-in-Pads
 returns-in-Pads c =
-    let moved_at : let g = c.args in Moved g.file.now g.pad c.in-Pads.n c.moves.new.out = moved _ _ _ c.moves.ensures.result_value _ _ _ c.in-Pads.is c.moves.ensures.out_after c.moves.ensures.out_len in
-    let t = (moved_at).text in
+    let t = (moved_at (goal.at.returns-in-Pads c).After-put_moves-arg-1).text in
     let r = c.put_moves.ensures.value ∙ ap length t in
     let o = c.put_moves.ensures.out_after ∙ ap (λ (l : List ℕ). written 0 l c.args.out.now) t in
     record { prefix_len = text_counts _ _ _ _ r o; value = r; out_after = o }

@@ -8,33 +8,32 @@ use borrow.Author.Rules.{rules}
 use Rattle.crossing.proofs.Factors.{taken_count}
 use Rattle.panel_text.specs.Text.{written}
 use Rattle.panel_text.proofs.Printed.{Shown, shown, text_refused, refusal_few, text_counts, lines_asks}
+use Rattle.panel_text.proofs.text.Goals.{After-put_pads-arg-1}
 use Rattle.panel_text.proofs.text.Goals as goal
 
+-- what the slices hold where pads are ranked
+shown_at : (c : After-put_pads-arg-1) → Shown c.args.file.now c.in-Pads.n c.pad_order.new.ranks c.pad_order.new.loads
+shown_at c =
+    shown _ _ c.pad_order.ensures.result_value _ _ _ _ c.in-Pads.is c.pad_order.ensures.ranks_after c.pad_order.ensures.loads_after c.pad_order.ensures.loads_len
+
 pub slice_bounds-ranks-end : goal.slice_bounds-ranks-end
-slice_bounds-ranks-end c =
-    let shown_at : Shown c.args.file.now c.in-Pads.n c.pad_order.new.ranks c.pad_order.new.loads = shown _ _ c.pad_order.ensures.result_value _ _ _ _ c.in-Pads.is c.pad_order.ensures.ranks_after c.pad_order.ensures.loads_after c.pad_order.ensures.loads_len in
-    let w = shown_at in omega (arith, w.few, w.ranks_count)
+slice_bounds-ranks-end c = let w = shown_at c in omega (arith, w.few, w.ranks_count)
 
 pub slice_bounds-put_pads-end-in-Pads : goal.slice_bounds-put_pads-end-in-Pads
 slice_bounds-put_pads-end-in-Pads c =
-    let shown_at : Shown c.args.file.now c.in-Pads.n c.pad_order.new.ranks c.pad_order.new.loads = shown _ _ c.pad_order.ensures.result_value _ _ _ _ c.in-Pads.is c.pad_order.ensures.ranks_after c.pad_order.ensures.loads_after c.pad_order.ensures.loads_len in
-    let w = shown_at in
+    let w = shown_at (goal.at.slice_bounds-put_pads-end-in-Pads c).After-put_pads-arg-1 in
     taken_count _ _ (omega (arith, w.few, w.ranks_count))
 
 pub slice_bounds-loads-end : goal.slice_bounds-loads-end
-slice_bounds-loads-end c =
-    let shown_at : Shown c.args.file.now c.in-Pads.n c.pad_order.new.ranks c.pad_order.new.loads = shown _ _ c.pad_order.ensures.result_value _ _ _ _ c.in-Pads.is c.pad_order.ensures.ranks_after c.pad_order.ensures.loads_after c.pad_order.ensures.loads_len in
-    omega (arith, (shown_at).few)
+slice_bounds-loads-end c = omega (arith, (shown_at (goal.at.slice_bounds-loads-end c).After-put_pads-arg-1).few)
 
 pub slice_bounds-put_pads-end-in-Pads-2 : goal.slice_bounds-put_pads-end-in-Pads-2
 slice_bounds-put_pads-end-in-Pads-2 c =
-    let shown_at : Shown c.args.file.now c.in-Pads.n c.pad_order.new.ranks c.pad_order.new.loads = shown _ _ c.pad_order.ensures.result_value _ _ _ _ c.in-Pads.is c.pad_order.ensures.ranks_after c.pad_order.ensures.loads_after c.pad_order.ensures.loads_len in
-    taken_count _ c.pad_order.new.loads (omega (arith, (shown_at).few, c.pad_order.ensures.loads_len))
+    taken_count _ c.pad_order.new.loads (omega (arith, (shown_at (goal.at.slice_bounds-put_pads-end-in-Pads-2 c).After-put_pads-arg-1).few, c.pad_order.ensures.loads_len))
 
 pub put_pads-requires : goal.put_pads-requires
 put_pads-requires c =
-    let shown_at : Shown c.args.file.now c.in-Pads.n c.pad_order.new.ranks c.pad_order.new.loads = shown _ _ c.pad_order.ensures.result_value _ _ _ _ c.in-Pads.is c.pad_order.ensures.ranks_after c.pad_order.ensures.loads_after c.pad_order.ensures.loads_len in
-    let w = shown_at in
+    let w = shown_at (goal.at.put_pads-requires c).After-put_pads-arg-1 in
     let loads-count = c.pad_order.ensures.loads_len in
     let a = taken_count c.in-Pads.n c.pad_order.new.ranks (omega (arith, w.few, w.ranks_count)) in
     let b = taken_count c.in-Pads.n c.pad_order.new.loads (omega (arith, w.few, loads-count)) in
@@ -45,8 +44,7 @@ put_refusal-requires c = (refusal_few _ _ c.pad_order.ensures.result_value _ c.i
 
 pub returns-in-Pads : goal.returns-in-Pads
 returns-in-Pads c =
-    let shown_at : Shown c.args.file.now c.in-Pads.n c.pad_order.new.ranks c.pad_order.new.loads = shown _ _ c.pad_order.ensures.result_value _ _ _ _ c.in-Pads.is c.pad_order.ensures.ranks_after c.pad_order.ensures.loads_after c.pad_order.ensures.loads_len in
-    let t = (shown_at).text in
+    let t = (shown_at (goal.at.returns-in-Pads c).After-put_pads-arg-1).text in
     let r = c.put_pads.ensures.value ∙ ap length t in
     let o = c.put_pads.ensures.out_after ∙ ap (λ (l : List ℕ). written 0 l c.args.out.now) t in
     record { prefix_len = text_counts _ _ _ _ r o; value = r; out_after = o }

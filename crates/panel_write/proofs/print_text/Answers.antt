@@ -5,14 +5,14 @@ use native.Mathlib.Omega.{arith}
 use borrow.Author.Rules.{rules}
 use lib.Seq.{length-take-le}
 use Rattle.panel_write.proofs.Written.{text_fits}
+use Rattle.panel_write.proofs.print_text.Goals.{In-Bytes}
 use Rattle.panel_write.proofs.print_text.Goals as goal
 
+fits : (c : In-Bytes) → c.in-Bytes.count ≤ 33286
+fits c = text_fits _ _ _ _ (rw c.in-Bytes.is at c.write_text.ensures)
+
 pub slice_bounds-file-end : goal.slice_bounds-file-end
-slice_bounds-file-end c =
-    let fits : c.in-Bytes.count ≤ 33286 = text_fits _ _ _ _ (rw c.in-Bytes.is at c.write_text.ensures) in
-    omega (arith, fits)
+slice_bounds-file-end c = omega (arith, fits c)
 
 pub slice_bounds-write_all-end : goal.slice_bounds-write_all-end
-slice_bounds-write_all-end c =
-    let fits : c.in-Bytes.count ≤ 33286 = text_fits _ _ _ _ (rw c.in-Bytes.is at c.write_text.ensures) in
-    sym (length-take-le _ _ (omega (arith, fits)))
+slice_bounds-write_all-end c = sym (length-take-le _ _ (omega (arith, fits (goal.at.slice_bounds-write_all-end c).In-Bytes)))

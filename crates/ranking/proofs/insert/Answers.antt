@@ -17,10 +17,10 @@ is_ahead-requires c = (c.loop-j.invariant.in_hand, c.loop-j.invariant.held c.loo
 pub loop-j-preserved : goal.loop-j-preserved
 loop-j-preserved c =
     elim c.if-is_ahead.branch [
-      then-is_ahead w ↦ rw (w.ranks-is, w.carried-is) (turn_moves _ _ _ _ c.loop-j.ranks c.loop-j.carried c.loop-j.j c.loop-j.invariant c.requires.pad.1
-    c.loop-j-test.true (sym c.is_ahead.ensures ∙ w.if-is_ahead.true))
-    | else-is_ahead w ↦ rw (w.ranks-is, w.carried-is) (turn_stays _ _ _ _ c.loop-j.ranks c.loop-j.carried c.loop-j.j c.loop-j.invariant c.requires.pad.1
-    c.loop-j-test.true (sym c.is_ahead.ensures ∙ w.if-is_ahead.false))
+      | then-is_ahead w ↦ rw (w.ranks-is, w.carried-is) (turn_moves _ _ _ _ c.loop-j.ranks c.loop-j.carried c.loop-j.j c.loop-j.invariant c.requires.pad.1
+          c.loop-j-test.true (sym c.is_ahead.ensures ∙ w.if-is_ahead.true))
+      | else-is_ahead w ↦ rw (w.ranks-is, w.carried-is) (turn_stays _ _ _ _ c.loop-j.ranks c.loop-j.carried c.loop-j.j c.loop-j.invariant c.requires.pad.1
+          c.loop-j-test.true (sym c.is_ahead.ensures ∙ w.if-is_ahead.false))
     ]
 
 pub returns : goal.returns

@@ -23,8 +23,8 @@ loop-k-preserved c =
     let room : c.loop-k.k < length c.args.ranks.now = omega arith in (
       omega arith,
       elim c.if-is_listed.branch [
-        then-is_listed w ↦ rw (w.ranks-is, w.count-is) (turn_with _ _ _ c.loop-k.ranks _ c.loop-k.count c.loop-k.k c.loop-k.invariant.1 room (test ∙ w.if-is_listed.true) w.insert.ensures)
-      | else-is_listed w ↦ rw (w.ranks-is, w.count-is) (turn_without _ _ _ c.loop-k.ranks c.loop-k.count c.loop-k.k c.loop-k.invariant.1 room (test ∙ w.if-is_listed.false))
+        | then-is_listed w ↦ rw (w.ranks-is, w.count-is) (turn_with _ _ _ c.loop-k.ranks _ c.loop-k.count c.loop-k.k c.loop-k.invariant.1 room (test ∙ w.if-is_listed.true) w.insert.ensures)
+        | else-is_listed w ↦ rw (w.ranks-is, w.count-is) (turn_without _ _ _ c.loop-k.ranks c.loop-k.count c.loop-k.k c.loop-k.invariant.1 room (test ∙ w.if-is_listed.false))
       ],
     )
 

@@ -9,8 +9,12 @@ use Rattle.store.proofs.Columns.{sized, column_within}
 use Rattle.solve_by_rows.specs.Rows.{row_sums}
 use Rattle.solve_by_rows.proofs.Rows.{row_below}
 use Rattle.solve_by_rows.proofs.Blocks.{sums_begin, sums_next, length_sums}
-use Rattle.solve_by_rows.proofs.row_sums.Goals.{After-row_of-c}
+use Rattle.solve_by_rows.proofs.row_sums.Goals.{After-row_of-c, After-slice_known-1}
 use Rattle.solve_by_rows.proofs.row_sums.Goals as goal
+
+-- the rows lie in the column, which is short
+inside : (c : After-slice_known-1) → let g = c.args in (g.n ≤ 64) × (length g.b.now ≡ g.n) × (g.r + length g.v.now ≤ g.n) × (g.turns ≤ g.n)
+inside c = ((sized _ _ _ c.requires.0).rows_most, c.requires.1, c.requires.2, c.requires.3)
 
 -- in a turn, its row is below n, and that row's column ends within the matrix
 below : (c : After-row_of-c) → c.row_of-c.result < c.args.n
@@ -60,19 +64,13 @@ pub shape_of-v : goal.shape_of-v
 shape_of-v c = ap length (returns c) ∙ length_sums _ _ _ _ _ _ _
 
 pub overflow_add-e : goal.overflow_add-e
-overflow_add-e c =
-    let inside : let g = c.args in (g.n ≤ 64) × (length g.b.now ≡ g.n) × (g.r + length g.v.now ≤ g.n) × (g.turns ≤ g.n) = ((sized _ _ _ c.requires.0).rows_most, c.requires.1, c.requires.2, c.requires.3) in
-    omega (arith, inside)
+overflow_add-e c = omega (arith, inside c)
 
 pub offset_bounds-b-r : goal.offset_bounds-b-r
-offset_bounds-b-r c =
-    let inside : let g = c.args in (g.n ≤ 64) × (length g.b.now ≡ g.n) × (g.r + length g.v.now ≤ g.n) × (g.turns ≤ g.n) = ((sized _ _ _ c.requires.0).rows_most, c.requires.1, c.requires.2, c.requires.3) in
-    omega (arith, inside)
+offset_bounds-b-r c = omega (arith, inside (goal.at.offset_bounds-b-r c).After-slice_known-1)
 
 pub slice_bounds-copy-end : goal.slice_bounds-copy-end
-slice_bounds-copy-end c =
-    let inside : let g = c.args in (g.n ≤ 64) × (length g.b.now ≡ g.n) × (g.r + length g.v.now ≤ g.n) × (g.turns ≤ g.n) = ((sized _ _ _ c.requires.0).rows_most, c.requires.1, c.requires.2, c.requires.3) in
-    omega (arith, inside)
+slice_bounds-copy-end c = omega (arith, inside (goal.at.slice_bounds-copy-end c).After-slice_known-1)
 
 pub overflow_mul-a : goal.overflow_mul-a
 overflow_mul-a c = omega (arith, within c)

@@ -9,7 +9,17 @@ use Rattle.store.specs.Columns.{columns}
 use Rattle.store.specs.Steps.{rows_swapped}
 use Rattle.store.proofs.Columns.{sized, column_within, on_none, on_done}
 use Rattle.store.proofs.Steps.{rows_itself, range_turn, range_stop}
+use Rattle.store.proofs.swap_rows.Goals.{In-loop-j}
 use Rattle.store.proofs.swap_rows.Goals as goal
+
+-- the store has its size all along, and in a turn column j ends within it
+size : (c : In-loop-j) → let g = c.args in length c.loop-j.s ≡ g.n * g.m
+size c = c.loop-j.invariant.0 ∙ (sized _ _ _ (sym c.is_matrix.ensures ∙ c.if-not-is_matrix.false)).size
+
+within : (c : In-loop-j) → let g = c.args in c.loop-j.j * g.m + g.m ≤ length c.loop-j.s
+within c =
+    let h : c.loop-j.j < c.args.n = omega arith in
+    column_within _ _ _ c.loop-j.s h (size c)
 
 pub returns-then-not-is_matrix : goal.returns-then-not-is_matrix
 returns-then-not-is_matrix c = on_none _ _ _ _ (sym c.is_matrix.ensures ∙ c.if-not-is_matrix.true)
@@ -18,28 +28,18 @@ pub loop-j-init : goal.loop-j-init
 loop-j-init c = (refl, refl)
 
 pub overflow_mul-a : goal.overflow_mul-a
-overflow_mul-a c =
-    let size : let g = c.args in length c.loop-j.s ≡ g.n * g.m = c.loop-j.invariant.0 ∙ (sized _ _ _ (sym c.is_matrix.ensures ∙ c.if-not-is_matrix.false)).size in
-    let within : let g = c.args in c.loop-j.j * g.m + g.m ≤ length c.loop-j.s = let h : c.loop-j.j < c.args.n = omega arith in column_within _ _ _ c.loop-j.s h (size) in
-    omega (arith, within)
+overflow_mul-a c = omega (arith, within c)
 
 pub overflow_add-e : goal.overflow_add-e
-overflow_add-e c =
-    let size : let g = c.args in length c.loop-j.s ≡ g.n * g.m = c.loop-j.invariant.0 ∙ (sized _ _ _ (sym c.is_matrix.ensures ∙ c.if-not-is_matrix.false)).size in
-    let within : let g = c.args in c.loop-j.j * g.m + g.m ≤ length c.loop-j.s = let h : c.loop-j.j < c.args.n = omega arith in column_within _ _ _ c.loop-j.s h (size) in
-    omega (arith, within)
+overflow_add-e c = omega (arith, within c)
 
 pub offset_bounds-s-a : goal.offset_bounds-s-a
-offset_bounds-s-a c =
-    let size : let g = c.args in length c.loop-j.s ≡ g.n * g.m = c.loop-j.invariant.0 ∙ (sized _ _ _ (sym c.is_matrix.ensures ∙ c.if-not-is_matrix.false)).size in
-    let within : let g = c.args in c.loop-j.j * g.m + g.m ≤ length c.loop-j.s = let h : c.loop-j.j < c.args.n = omega arith in column_within _ _ _ c.loop-j.s h (size) in
-    omega (arith, within)
+offset_bounds-s-a c = omega (arith, within c)
 
 pub loop-j-preserved : goal.loop-j-preserved
 loop-j-preserved c =
-    let size : let g = c.args in length c.loop-j.s ≡ g.n * g.m = c.loop-j.invariant.0 ∙ (sized _ _ _ (sym c.is_matrix.ensures ∙ c.if-not-is_matrix.false)).size in
     let e = c.min-end.ensures in
-    (omega arith, range_turn _ _ _ _ _ _ _ _ (rw (← e) c.loop-j-test.true) (size) c.swap.auto.col c.swap.ensures ∙ c.loop-j.invariant.1)
+    (omega arith, range_turn _ _ _ _ _ _ _ _ (rw (← e) c.loop-j-test.true) (size (goal.at.loop-j-preserved c).In-loop-j) c.swap.auto.col c.swap.ensures ∙ c.loop-j.invariant.1)
 
 -- a row exchanged with itself
 pub returns-then-i-p : goal.returns-then-i-p
@@ -52,7 +52,4 @@ returns c =
     (sym (range_stop _ _ _ _ _ _ _ (rw (← e) c.loop-j-test.false)) ∙ c.loop-j.invariant.1)
 
 pub slice_bounds-swap-end : goal.slice_bounds-swap-end
-slice_bounds-swap-end c =
-    let size : let g = c.args in length c.loop-j.s ≡ g.n * g.m = c.loop-j.invariant.0 ∙ (sized _ _ _ (sym c.is_matrix.ensures ∙ c.if-not-is_matrix.false)).size in
-    let within : let g = c.args in c.loop-j.j * g.m + g.m ≤ length c.loop-j.s = let h : c.loop-j.j < c.args.n = omega arith in column_within _ _ _ c.loop-j.s h (size) in
-    within
+slice_bounds-swap-end c = within c

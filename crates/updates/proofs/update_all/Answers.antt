@@ -10,7 +10,18 @@ use Rattle.store.specs.Columns.{columns}
 use Rattle.store.proofs.Columns.{sized, same_matrix}
 use Rattle.updates.specs.Updates.{updated_at}
 use Rattle.elimination.proofs.Step.{turns_join}
+use Rattle.updates.proofs.update_all.Goals.{After-update_new-arg-1}
 use Rattle.updates.proofs.update_all.Goals as goal
+
+-- a turn makes some of the steps that are left, and there are few
+some : (c : After-update_new-arg-1) → let g = c.args in
+    (c.loop-i.i < c.min-to.result) × (c.min-to.result ≤ c.min-all.result) × (c.min-all.result ≤
+    g.m) × (c.min-all.result ≤ g.n)
+some c =
+    let left = c.loop-i-test.true in
+    let to = c.min-to.ensures in
+    let all = c.min-all.ensures in
+    (omega (arith, to, left), omega (arith, to), omega (arith, all), omega (arith, all))
 
 pub loop-i-init : goal.loop-i-init
 loop-i-init c =
@@ -20,24 +31,20 @@ loop-i-init c =
 
 pub update_new-requires : goal.update_new-requires
 update_new-requires c =
-    let some : let g = c.args in (c.loop-i.i < c.min-to.result) × (c.min-to.result ≤ c.min-all.result) × (c.min-all.result ≤ g.m) × (c.min-all.result ≤ g.n) = let left = c.loop-i-test.true in let to = c.min-to.ensures in let all = c.min-all.ensures in (omega (arith, to, left), omega (arith, to), omega (arith, all), omega (arith, all)) in
-    let few = some in
+    let few = some c in
     (same_matrix _ _ _ _ c.loop-i.invariant.0 ∙ c.requires, omega (arith, few), omega (arith, few), omega (arith, few))
 
 pub loop-i-smaller : goal.loop-i-smaller
-loop-i-smaller c =
-    let some : let g = c.args in (c.loop-i.i < c.min-to.result) × (c.min-to.result ≤ c.min-all.result) × (c.min-all.result ≤ g.m) × (c.min-all.result ≤ g.n) = let left = c.loop-i-test.true in let to = c.min-to.ensures in let all = c.min-all.ensures in (omega (arith, to, left), omega (arith, to), omega (arith, all), omega (arith, all)) in
-    omega (arith, some, c.loop-i-test.true)
+loop-i-smaller c = omega (arith, some (goal.at.loop-i-smaller c).After-update_new-arg-1, c.loop-i-test.true)
 
 pub loop-i-preserved : goal.loop-i-preserved
 loop-i-preserved c =
-    let some : let g = c.args in (c.loop-i.i < c.min-to.result) × (c.min-to.result ≤ c.min-all.result) × (c.min-all.result ≤ g.m) × (c.min-all.result ≤ g.n) = let left = c.loop-i-test.true in let to = c.min-to.ensures in let all = c.min-all.ensures in (omega (arith, to, left), omega (arith, to), omega (arith, all), omega (arith, all)) in
     let g = c.args in
     let f = updated_at g.n in
     let cs = columns g.m (g.n + 1) c.loop-i.s in
     let to = c.min-to.result in
     let rest = c.min-all.result - to in
-    let few = some in
+    let few = some (goal.at.loop-i-preserved c).After-update_new-arg-1 in
     let behind : to ≡ c.loop-i.i + (to - c.loop-i.i) = omega (arith, few) in
     let left : to - c.loop-i.i + rest ≡ c.min-all.result - c.loop-i.i = omega (arith, few) in (
       c.update_new.auto.s ∙ c.loop-i.invariant.0,
