@@ -106,6 +106,11 @@ class Turner:
         self.f, self.rows, self.left = function, rows, left
         self.aliases, self.helpers = {}, {}
 
+    def field(self, name):
+        """What stands behind a dot: a name of the source keeps its underscores."""
+        new = self.rows.get(name, name)
+        return name.replace("-", "_") if new.endswith("_lem") else new
+
     def respelled(self, text):
         return re.sub(NAME, lambda w: self.rows.get(w.group(), w.group()), text)
 
@@ -122,11 +127,11 @@ class Turner:
         if head == "well-formed":
             return ".".join([out, "well_formed", *parts[1:]])
         if head in ("args", "lifetimes", "type_inv", "ranges", "auto"):
-            return ".".join([out, head, *[self.rows.get(p, p) for p in parts[1:]]])
+            return ".".join([out, head, *[self.field(p) for p in parts[1:]]])
         if head in ("requires", "pre"):
             names = f.info["pre"]
             names = names.get("fields") if isinstance(names, dict) else names
-            rest = [self.rows.get(p, p) for p in parts[1:]]
+            rest = [self.field(p) for p in parts[1:]]
             if names and len(names) > 1 and rest:
                 got = nested(rest, names)
                 if got:
@@ -134,7 +139,7 @@ class Turner:
             return ".".join([out, fixed.get(head, head), *rest])
         arm = f.arm(place, head, parts[1:])
         if arm:
-            return ".".join([out, arm[0], *[self.rows.get(p, p) for p in parts[1 + arm[1]:]]])
+            return ".".join([out, arm[0], *[self.field(p) for p in parts[1 + arm[1]:]]])
         step = f.step(place, head)
         if not step:
             self.left.append(f"no step '{head}' in c.{'.'.join(parts)}")
@@ -162,7 +167,7 @@ class Turner:
                 got = of_all(rest[1:], names)
                 if got:
                     rest = [rest[0], got[0], *rest[1 + got[1]:]]
-        return ".".join([out, step[0], *[self.rows.get(p, p) if p not in ("new", "auto", "ensures", "result", "true", "false") else p for p in rest]])
+        return ".".join([out, step[0], *[self.field(p) if p not in ("new", "auto", "ensures", "result", "true", "false") else p for p in rest]])
 
     def flat(self, body, place, binder, goal=None, within=None):
         """A body whose binder stands at a place, over the flat record; helpers that it calls, with their places."""
@@ -200,7 +205,7 @@ class Turner:
                 text, at = text[: m.start()] + rest, m.start()
         kept = re.split(r"(⟪[^⟫]*⟫(?:\.[\w'-]+)*)", text)
         for k in range(0, len(kept), 2):
-            kept[k] = re.sub(r"(?<=\.)[A-Za-z][\w'-]*", lambda w: self.rows.get(w.group(), w.group()), kept[k])
+            kept[k] = re.sub(r"(?<=\.)[A-Za-z][\w'-]*", lambda w: self.field(w.group()), kept[k])
         text = "".join(kept)
         calls = []
 

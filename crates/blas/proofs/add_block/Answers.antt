@@ -1,11 +1,7 @@
 -- Each running sum takes the product at its own place: what is left to do from place k on is `each_from` from k on. Assumes nothing.
-use Prim.Native.Nat.{◌-◌}
-use mathlib.Core.Path.{◌≡◌, refl, sym, ◌∙◌}
-use native.Mathlib.Omega.{arith}
+use mathlib.Core.Path.{refl, sym, ◌∙◌}
 use borrow.Author.Rules.{rules}
-use lib.ListN.{length}
 use lib.Ieee.{nan}
-use Rattle.numbers.specs.Each.{each_from}
 use Rattle.blas.specs.Dot.{add_product}
 use Rattle.numbers.proofs.Each.{each_step, each_stop}
 use Rattle.blas.proofs.add_block.Goals as goal

@@ -1,10 +1,6 @@
 -- What is left to add from row k on are the turns from k on. Assumes nothing.
-use Prim.Native.Nat.{◌-◌}
-use mathlib.Core.Path.{◌≡◌, refl, sym, ◌∙◌}
-use native.Mathlib.Omega.{arith}
+use mathlib.Core.Path.{refl, sym, ◌∙◌}
 use borrow.Author.Rules.{rules}
-use lib.ListN.{length}
-use Rattle.numbers.specs.Each.{turns_from}
 use Rattle.blas.specs.Dot.{add_product}
 use Rattle.numbers.proofs.Each.{turns_next, turns_done}
 use Rattle.blas.proofs.add_rest.Goals as goal

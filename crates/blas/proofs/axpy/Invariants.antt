@@ -1,15 +1,10 @@
 -- What is left to do from row k on is the same change of each entry from k on. Assumes nothing.
 use Prim.Native.Nat.{ℕ, ◌-◌}
-use mathlib.Core.Path.{◌≡◌, refl, sym, ◌∙◌}
-use native.Mathlib.Omega.{arith}
-use borrow.Author.Rules.{rules}
-use borrow.Author.Tests.{eq-eqb, ne_eqb}
+use mathlib.Core.Path.{◌≡◌}
 use lib.ListN.{length}
-use lib.Ieee.{Float, nan, add, mul, binary64}
+use lib.Ieee.{Float, add, mul, binary64}
 use Rattle.numbers.specs.Each.{each_from}
 use Rattle.numbers.specs.Column.{Column, entry}
-use Rattle.blas.specs.Blas.{axpy_from}
-use Rattle.numbers.proofs.Each.{each_step, each_stop}
 use Rattle.blas.proofs.axpy.Given as goal
 
 -- what becomes of entry k

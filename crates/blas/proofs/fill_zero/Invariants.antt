@@ -1,14 +1,10 @@
 -- What is left to fill from row k on is `each_from` from k on. Assumes nothing.
 use Prim.Native.Nat.{◌-◌}
-use mathlib.Core.Path.{◌≡◌, refl, sym, ◌∙◌}
-use native.Mathlib.Omega.{arith}
-use borrow.Author.Rules.{rules}
+use mathlib.Core.Path.{◌≡◌}
 use lib.ListN.{length}
-use lib.Ieee.{nan}
 use Rattle.numbers.specs.Each.{each_from}
 use Rattle.numbers.specs.Numbers.{zero64}
 use Rattle.numbers.specs.Column.{zeros}
-use Rattle.numbers.proofs.Each.{each_step, each_stop, each_fill}
 use Rattle.blas.proofs.fill_zero.Given as goal
 
 abbrev pub invariant-loop-k : goal.invariant-loop-k

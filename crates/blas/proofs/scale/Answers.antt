@@ -1,9 +1,6 @@
 -- What is left to scale from row k on is `scale_from` from k on. Assumes nothing.
-use Prim.Native.Nat.{◌-◌}
-use mathlib.Core.Path.{◌≡◌, refl, sym, ◌∙◌}
-use native.Mathlib.Omega.{arith}
+use mathlib.Core.Path.{refl, sym, ◌∙◌}
 use borrow.Author.Rules.{rules}
-use lib.ListN.{length}
 use lib.Ieee.{nan}
 use Rattle.blas.specs.Blas.{scale_from}
 use Rattle.numbers.proofs.Each.{each_step, each_stop}

@@ -1,12 +1,8 @@
 -- What is left to scale from row k on is `scale_from` from k on. Assumes nothing.
 use Prim.Native.Nat.{◌-◌}
-use mathlib.Core.Path.{◌≡◌, refl, sym, ◌∙◌}
-use native.Mathlib.Omega.{arith}
-use borrow.Author.Rules.{rules}
+use mathlib.Core.Path.{◌≡◌}
 use lib.ListN.{length}
-use lib.Ieee.{nan}
 use Rattle.blas.specs.Blas.{scale_from}
-use Rattle.numbers.proofs.Each.{each_step, each_stop}
 use Rattle.blas.proofs.scale.Given as goal
 
 abbrev pub invariant-loop-k : goal.invariant-loop-k

@@ -1,5 +1,4 @@
 -- Two stores, by the tests of both places. Assumes nothing.
-use borrow.Author.Rules.{rules}
 use borrow.Author.Tests.{lt-ltb, le-ltb}
 use Rattle.blas.specs.Blas.{exchanged}
 use Rattle.blas.proofs.swap.Goals as goal

@@ -7,6 +7,6 @@ use Rattle.crossing_pads.proofs.move_pad.Goals as goal
 
 pub returns : goal.returns
 returns c =
-    let e = (c.solve_front.ensures.result_value, c.solve_front.ensures.x_after) in
     let g = c.args in
-    record { result_value = rw (← unit_front g.told.rows (g.pad - 1) c.requires.2 (omega arith)) (e).0; out_after = rw (← unit_front g.told.rows (g.pad - 1) c.requires.2 (omega arith)) (e).1 }
+    let front = unit_front g.told.rows (g.pad - 1) c.requires.2 (omega arith) in
+    record { result_value = rw (← front) c.solve_front.ensures.result_value; out_after = rw (← front) c.solve_front.ensures.x_after }

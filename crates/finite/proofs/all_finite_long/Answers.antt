@@ -1,13 +1,11 @@
 -- Fewer than 128 entries go by eight. Else the products take a block a turn: what they tell, being finite themselves or not, and what is left from row k on
 -- give the answer. Assumes nothing.
-use Prim.Native.Nat.{◌+◌, ◌-◌, ◌≤◌}
+use Prim.Native.Nat.{◌+◌, ◌-◌}
 use mathlib.Core.Path.{◌≡◌, refl, ap₂, ◌∙◌}
-use mathlib.Core.Bool.{true, ◌&&◌}
+use mathlib.Core.Bool.{◌&&◌}
 use native.Mathlib.Omega.{arith}
-use borrow.Author.Rules.{rules}
 use lib.ListN.{length, take, drop, length-take, length-drop}
 use lib.Ieee.{of_bits}
-use Rattle.finite.specs.Finite.{all_finite}
 use Rattle.finite.proofs.Product.{naught, calm, every, calm_all, block_more, part_first}
 use Rattle.finite.proofs.all_finite_long.Goals as goal
 

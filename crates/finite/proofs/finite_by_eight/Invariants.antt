@@ -1,15 +1,11 @@
 -- Fewer than eight entries are all rest. Else eight products take eight entries a turn: what they tell and what is left from row k on give the
 -- answer. Assumes nothing.
 use Prim.Native.Nat.{◌-◌, ◌≤◌}
-use mathlib.Core.Path.{◌≡◌, refl, ap₂, ◌∙◌}
+use mathlib.Core.Path.{◌≡◌}
 use mathlib.Core.Bool.{true, ◌&&◌}
-use native.Mathlib.Omega.{arith}
-use borrow.Author.Rules.{rules}
 use lib.ListN.{length, drop}
-use lib.Ieee.{of_bits}
-use Rattle.numbers.specs.Each.{each_from}
 use Rattle.finite.specs.Finite.{all_finite}
-use Rattle.finite.proofs.Product.{naught, calm, every, eight, block_more, eight_tell, entries, eight_first}
+use Rattle.finite.proofs.Product.{naught, calm, every, eight}
 use Rattle.finite.proofs.finite_by_eight.Given as goal
 
 abbrev pub invariant-loop-k : goal.invariant-loop-k

@@ -1,11 +1,6 @@
 -- What is left to test from row k on gives the whole answer. Assumes nothing.
-use Prim.Native.Nat.{◌-◌}
-use mathlib.Core.Path.{◌≡◌, refl, sym, ◌∙◌}
+use mathlib.Core.Path.{refl, sym, ◌∙◌}
 use mathlib.Core.Bool.{true, false}
-use native.Mathlib.Omega.{arith}
-use borrow.Author.Rules.{rules}
-use lib.ListN.{length, drop}
-use Rattle.finite.specs.Finite.{all_finite}
 use Rattle.finite.proofs.Finite.{finite_next, finite_end}
 use Rattle.finite.proofs.rest_finite.Goals as goal
 

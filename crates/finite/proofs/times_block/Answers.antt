@@ -1,11 +1,7 @@
 -- Each product takes the factor at its own place: what is left to do from place k on is `each_from` from k on. Assumes nothing.
-use Prim.Native.Nat.{◌-◌}
-use mathlib.Core.Path.{◌≡◌, refl, sym, ◌∙◌}
-use native.Mathlib.Omega.{arith}
+use mathlib.Core.Path.{refl, sym, ◌∙◌}
 use borrow.Author.Rules.{rules}
-use lib.ListN.{length}
 use lib.Ieee.{nan}
-use Rattle.numbers.specs.Each.{each_from}
 use Rattle.numbers.proofs.Each.{each_step, each_stop}
 use Rattle.finite.proofs.Product.{by_entry}
 use Rattle.finite.proofs.times_block.Goals as goal
