@@ -7,7 +7,7 @@ use native.Mathlib.Omega.{arith}
 use borrow.Author.Tests.{eqb-true, eqb-false, ne_eqb, not-true}
 use lib.Dec.{eqb}
 use lib.ListN.{length, drop}
-use lib.Ieee.{Float, up, eq}
+use lib.Ieee.{Float, eq}
 use lib.Ieee.Scale.{finite}
 use Rattle.numbers.specs.Numbers.{magnitude, is_zero}
 use Rattle.numbers.specs.Column.{Column, entry}

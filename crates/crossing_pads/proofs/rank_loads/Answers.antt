@@ -13,7 +13,7 @@ use Rattle.crossing_pads.proofs.rank_loads.Goals.{In-Pads}
 use Rattle.crossing_pads.proofs.rank_loads.Goals as goal
 
 solved_at : (c : In-Pads) → let g = c.args in
-    Solved g.told.rows g.toss_ups_lem (solution_in false g.matrix.now g.swaps.now g.told g.readings.now) c.in-Pads.n
+    Solved g.told.rows g.toss_ups (solution_in false g.matrix.now g.swaps.now g.told g.readings.now) c.in-Pads.n
     c.solve_front.new.x
 solved_at c =
     solved c.args.told.rows _ _ c.solve_front.result c.solve_front.ensures.result_value _ _ c.args.loads.now _ c.in-Pads.is c.solve_front.ensures.x_after

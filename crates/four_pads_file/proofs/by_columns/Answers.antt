@@ -9,4 +9,4 @@ use Rattle.four_pads_file.proofs.by_columns.Goals as goal
 
 pub returns : goal.returns
 unfolding flat list_of
-returns c = named nan 16 c.args.t1 (good_length (e_float binary64) 16 c.args.t1 _ c.well_formed.0)
+returns c = named nan 16 c.args.a (good_length (e_float binary64) 16 c.args.a _ c.well_formed.0)

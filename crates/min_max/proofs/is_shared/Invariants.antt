@@ -1,11 +1,8 @@
 -- What is left at row k gives the whole. Assumes nothing.
 use Prim.Native.Nat.{◌+◌, ◌-◌, ◌<◌}
-use mathlib.Core.Path.{◌≡◌, refl, sym, ◌∙◌}
-use native.Mathlib.Omega.{arith}
-use borrow.Author.Rules.{rules}
+use mathlib.Core.Path.{◌≡◌}
 use lib.ListN.{length, drop}
 use Rattle.min_max.specs.TossUp.{shared_from}
-use Rattle.min_max.proofs.TossUp.{shared_here, shared_not_here, shared_end}
 use Rattle.min_max.proofs.is_shared.Given as goal
 
 abbrev pub invariant-loop-k : goal.invariant-loop-k

@@ -1,10 +1,6 @@
 -- What is left at row k gives the whole. Assumes nothing.
-use Prim.Native.Nat.{◌-◌, ◌≤◌}
-use mathlib.Core.Path.{◌≡◌, refl, ◌∙◌}
+use mathlib.Core.Path.{refl, ◌∙◌}
 use native.Mathlib.Omega.{arith}
-use borrow.Author.Rules.{rules}
-use lib.ListN.{length, drop}
-use Rattle.min_max.specs.TossUp.{above_from}
 use Rattle.min_max.proofs.Walk.{above_here, above_next, above_end}
 use Rattle.min_max.proofs.next_above.Goals as goal
 

@@ -17,7 +17,7 @@ read_at c =
 
 pub returns-in-Pads : goal.returns-in-Pads
 returns-in-Pads c =
-    λ _. subst (λ (p : Column). Greatest p (length p) c.greatest.result) (read_at (goal.at.returns-in-Pads c).In-Pads).is_matrix_lem c.greatest.ensures
+    λ _. subst (λ (p : Column). Greatest p (length p) c.greatest.result) (read_at (goal.at.returns-in-Pads c).In-Pads).is_matrix c.greatest.ensures
 
 pub returns-in-Refused : goal.returns-in-Refused
 returns-in-Refused c = λ z. absurd (never_refused _ _ c.read.ensures.result_value _ c.in-Refused.is z)

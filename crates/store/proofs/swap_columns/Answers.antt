@@ -1,8 +1,6 @@
 -- By the tests; the scratch are arrays of 64, and m is at most that. Assumes nothing.
 use mathlib.Core.Path.{refl, sym, ◌∙◌}
 use native.Mathlib.Omega.{arith}
-use borrow.Author.Rules.{rules}
-use borrow.Author.Tests.{not-true, not-false}
 use Rattle.store.proofs.Columns.{sized, column_within, scratch_length, on_none, on_done}
 use Rattle.store.proofs.Steps.{swapped_none}
 use Rattle.store.proofs.swap_columns.Goals as goal

@@ -1,7 +1,6 @@
 -- Both columns are copied out, and each is written over the other. Assumes nothing.
 use Prim.Native.Nat.{◌*◌, ◌+◌, ◌-◌}
 use mathlib.Core.Path.{◌∙◌}
-use borrow.Author.Rules.{rules}
 use borrow.Rule.Slice.PartMut.{same_len_mid}
 use lib.Ieee.{Float}
 use Rattle.store.proofs.Steps.{columns_exchanged}

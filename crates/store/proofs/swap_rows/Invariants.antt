@@ -1,14 +1,9 @@
 -- The columns that are left from column j on give the whole. Assumes nothing.
-use Prim.Native.Nat.{◌-◌, ◌*◌, ◌+◌, ◌≤◌, ◌<◌, min}
-use mathlib.Core.Path.{◌≡◌, refl, sym, ◌∙◌}
-use native.Mathlib.Omega.{arith}
-use borrow.Author.Rules.{rules}
-use borrow.Author.Tests.{not-true, not-false}
+use Prim.Native.Nat.{◌-◌}
+use mathlib.Core.Path.{◌≡◌}
 use lib.ListN.{length}
 use Rattle.store.specs.Columns.{columns}
 use Rattle.store.specs.Steps.{rows_swapped}
-use Rattle.store.proofs.Columns.{sized, column_within, on_none, on_done}
-use Rattle.store.proofs.Steps.{rows_itself, range_turn, range_stop}
 use Rattle.store.proofs.swap_rows.Given as goal
 
 abbrev pub invariant-loop-j : goal.invariant-loop-j
