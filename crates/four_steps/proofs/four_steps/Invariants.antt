@@ -1,17 +1,11 @@
 -- The columns that are left from column j on give the whole (`onward_turn`); the four columns stay. Assumes nothing.
 use Prim.Native.Nat.{ℕ, ◌+◌, ◌-◌, ◌≤◌, ◌<◌}
-use mathlib.Core.Path.{◌≡◌, refl, sym, ◌∙◌}
-use mathlib.Core.Bool.{true}
-use native.Mathlib.Omega.{arith}
-use borrow.Author.Rules.{rules}
-use borrow.Author.Tests.{not-true, not-false}
+use mathlib.Core.Path.{◌≡◌}
 use lib.ListN.{length}
 use Rattle.numbers.specs.Each.{each_from}
-use Rattle.store.specs.Columns.{columns, is_matrix}
+use Rattle.store.specs.Columns.{columns}
 use Rattle.store.specs.Steps.{column}
-use Rattle.store.proofs.Columns.{sized, same_matrix, column_stop, on_none, on_done}
 use Rattle.four_steps.specs.FourSteps.{four_steps}
-use Rattle.four_steps.proofs.Within.{onward_turn, stepped_is, not_stepped}
 use Rattle.four_steps.proofs.four_steps.Given as goal
 
 abbrev pub invariant-loop-j : goal.invariant-loop-j

@@ -2,7 +2,6 @@
 use Prim.Native.Nat.{◌*◌, ◌+◌, ◌≤◌}
 use mathlib.Core.Path.{refl}
 use native.Mathlib.Omega.{arith}
-use borrow.Author.Rules.{rules}
 use lib.ListN.{length}
 use Rattle.store.proofs.Columns.{sized, column_within}
 use Rattle.four_steps.proofs.Places.{minus_read}

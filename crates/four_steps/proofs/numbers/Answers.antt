@@ -1,6 +1,5 @@
 -- Row by row, by its number. Assumes nothing.
 use native.Mathlib.Omega.{arith}
-use borrow.Author.Rules.{rules}
 use Rattle.four_steps.proofs.Places.{four_read}
 use Rattle.four_steps.proofs.numbers.Goals as goal
 

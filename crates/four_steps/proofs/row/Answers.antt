@@ -1,7 +1,6 @@
 -- The number is the row's after the steps (`row_left`), and it lies below those that the steps multiply by (`row_minus`). Assumes nothing.
 use Prim.Native.Nat.{◌*◌, ◌+◌, ◌≤◌, ◌<◌}
 use native.Mathlib.Omega.{arith}
-use borrow.Author.Rules.{rules}
 use lib.ListN.{length}
 use Rattle.store.proofs.Columns.{sized, column_within, written_at}
 use Rattle.four_steps.proofs.Left.{row_left, row_minus}

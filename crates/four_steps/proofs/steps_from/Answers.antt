@@ -1,6 +1,5 @@
 -- One column or two (`one_onward`, `two_onward`). Assumes nothing.
 use native.Mathlib.Omega.{arith}
-use borrow.Author.Rules.{rules}
 use Rattle.four_steps.proofs.Within.{one_onward, two_onward}
 use Rattle.four_steps.proofs.steps_from.Goals as goal
 

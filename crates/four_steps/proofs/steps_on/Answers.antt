@@ -1,6 +1,5 @@
 -- The head, then the rows below it, are the four steps (`one_made`). Assumes nothing.
 use mathlib.Core.Path.{◌∙◌}
-use borrow.Author.Rules.{rules}
 use Rattle.store.proofs.Columns.{sized, same_matrix}
 use Rattle.four_steps.proofs.Places.{reaches}
 use Rattle.four_steps.proofs.Within.{one_made}

@@ -2,7 +2,6 @@
 use mathlib.Core.Path.{◌∙◌}
 use Prim.Native.Nat.{◌<◌}
 use native.Mathlib.Omega.{arith}
-use borrow.Author.Rules.{rules}
 use Rattle.store.proofs.Columns.{sized, same_matrix}
 use Rattle.four_steps.proofs.Places.{reaches}
 use Rattle.four_steps.proofs.Within.{two_made}

@@ -1,13 +1,7 @@
 -- What is left of column j, the rows from row k on, gives the whole; behind the last row nothing is (`none_left`). Assumes nothing.
-use Prim.Native.Nat.{◌-◌, ◌+◌, ◌≤◌}
-use mathlib.Core.Path.{◌≡◌, refl, ◌∙◌}
+use mathlib.Core.Path.{refl, ◌∙◌}
 use native.Mathlib.Omega.{arith}
-use borrow.Author.Rules.{rules}
-use lib.ListN.{length}
-use Rattle.store.specs.Columns.{columns}
-use Rattle.store.specs.Steps.{column}
 use Rattle.store.proofs.Columns.{sized, same_matrix}
-use Rattle.four_steps.specs.FourSteps.{minus_of, tail_left}
 use Rattle.four_steps.proofs.Left.{none_left}
 use Rattle.four_steps.proofs.tail.Goals as goal
 

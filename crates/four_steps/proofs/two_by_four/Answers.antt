@@ -1,13 +1,8 @@
 -- What is left of the two columns, the rows from row k on, gives the whole (`fours_left`); what the steps multiply by stays. Assumes nothing.
-use Prim.Native.Nat.{◌-◌, ◌+◌, ◌≤◌}
-use mathlib.Core.Path.{◌≡◌, refl, ◌∙◌}
+use Prim.Native.Nat.{◌≤◌}
+use mathlib.Core.Path.{refl, ◌∙◌}
 use native.Mathlib.Omega.{arith}
-use borrow.Author.Rules.{rules}
-use lib.ListN.{length}
-use Rattle.store.specs.Columns.{columns}
-use Rattle.store.specs.Steps.{column}
 use Rattle.store.proofs.Columns.{sized, same_matrix}
-use Rattle.four_steps.specs.FourSteps.{minus_of, tails_left}
 use Rattle.four_steps.proofs.Left.{fours_first, fours_second, fours_left}
 use Rattle.four_steps.proofs.two_by_four.Goals.{At-loop-k}
 use Rattle.four_steps.proofs.two_by_four.Goals as goal

@@ -1,7 +1,6 @@
 -- Nothing is left behind the last row (`none_left`), first of one column, then of the other (`both_left`). Assumes nothing.
 use mathlib.Core.Path.{◌∙◌}
 use native.Mathlib.Omega.{arith}
-use borrow.Author.Rules.{rules}
 use Rattle.store.proofs.Columns.{sized, same_matrix}
 use Rattle.four_steps.proofs.Left.{none_left, both_left, rows_made}
 use Rattle.four_steps.proofs.two_by_one.Goals as goal

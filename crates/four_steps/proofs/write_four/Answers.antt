@@ -1,7 +1,6 @@
 -- The four numbers one after another (`written_four_lem`). Assumes nothing.
 use Prim.Native.Nat.{◌*◌, ◌+◌, ◌≤◌}
 use native.Mathlib.Omega.{arith}
-use borrow.Author.Rules.{rules}
 use lib.ListN.{length, length-set}
 use Rattle.store.proofs.Columns.{sized, column_within}
 use Rattle.four_steps.proofs.Places.{written_four_lem}

@@ -1,6 +1,5 @@
 -- One after the other. Assumes nothing.
 use native.Mathlib.Omega.{arith}
-use borrow.Author.Rules.{rules}
 use lib.ListN.{length-set}
 use Rattle.four_steps.proofs.write_two.Goals as goal
 

@@ -1,13 +1,9 @@
 -- The columns that are left from column j on give the whole; column i, left of them, stays. Assumes nothing.
-use Prim.Native.Nat.{◌-◌, ◌<◌}
+use Prim.Native.Nat.{◌<◌}
 use mathlib.Core.Path.{◌≡◌, refl, sym, ◌∙◌}
 use mathlib.Core.Bool.{true}
 use native.Mathlib.Omega.{arith}
-use borrow.Author.Rules.{rules}
-use borrow.Author.Tests.{not-true, not-false}
-use lib.ListN.{length}
-use Rattle.store.specs.Columns.{columns, is_matrix}
-use Rattle.store.specs.Steps.{column}
+use Rattle.store.specs.Columns.{is_matrix}
 use Rattle.one_step.specs.OneStep.{step_columns, eliminated}
 use Rattle.store.proofs.Columns.{same_matrix, column_stop, on_none, on_done}
 use Rattle.one_step.proofs.Shape.{eliminated_past}

@@ -2,15 +2,11 @@
 use Prim.Native.Nat.{◌-◌, ◌*◌, ◌+◌, ◌≤◌}
 use mathlib.Core.Path.{◌≡◌, refl, sym, ◌∙◌}
 use native.Mathlib.Omega.{arith}
-use borrow.Author.Rules.{rules}
 use borrow.Rule.Slice.PartMut.{same_len_mid}
-use lib.ListN.{length, set}
+use lib.ListN.{length}
 use lib.Ieee.{Float}
-use Rattle.store.specs.Columns.{columns}
-use Rattle.store.specs.Steps.{column}
-use Rattle.one_step.specs.OneStep.{step_column}
 use Rattle.store.proofs.Columns.{sized, column_within, column_length}
-use Rattle.one_step.proofs.Within.{updating, within_start, within_turn, within_stop}
+use Rattle.one_step.proofs.Within.{within_start, within_turn, within_stop}
 use Rattle.one_step.proofs.step_inner.Goals.{After-slice_known-1}
 use Rattle.one_step.proofs.step_inner.Goals as goal
 

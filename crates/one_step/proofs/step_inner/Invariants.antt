@@ -1,16 +1,11 @@
 -- What is left of the update from row k on gives the whole; column j is lent as its part, an entry a turn. Assumes nothing.
-use Prim.Native.Nat.{◌-◌, ◌*◌, ◌+◌, ◌≤◌}
-use mathlib.Core.Path.{◌≡◌, refl, sym, ◌∙◌}
-use native.Mathlib.Omega.{arith}
-use borrow.Author.Rules.{rules}
-use borrow.Rule.Slice.PartMut.{same_len_mid}
+use Prim.Native.Nat.{◌-◌}
+use mathlib.Core.Path.{◌≡◌}
 use lib.ListN.{length, set}
-use lib.Ieee.{Float}
 use Rattle.store.specs.Columns.{columns}
 use Rattle.store.specs.Steps.{column}
 use Rattle.one_step.specs.OneStep.{step_column}
-use Rattle.store.proofs.Columns.{sized, column_within, column_length}
-use Rattle.one_step.proofs.Within.{updating, within_start, within_turn, within_stop}
+use Rattle.one_step.proofs.Within.{updating}
 use Rattle.one_step.proofs.step_inner.Given as goal
 
 abbrev pub invariant-loop-k : goal.invariant-loop-k

@@ -3,8 +3,6 @@ use Prim.Native.Nat.{◌<◌}
 use mathlib.Core.Path.{◌≡◌, refl, sym, ◌∙◌}
 use mathlib.Core.Bool.{true}
 use native.Mathlib.Omega.{arith}
-use borrow.Author.Rules.{rules}
-use borrow.Author.Tests.{not-true, not-false}
 use Rattle.store.specs.Columns.{is_matrix}
 use Rattle.store.proofs.Columns.{on_none, on_done}
 use Rattle.one_step.proofs.Within.{within_no_column, within_no_row}

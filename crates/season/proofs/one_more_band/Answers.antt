@@ -11,5 +11,5 @@ returns-then-i-lt5 c = rw c.wrapping_add_usize.ensures
 
 pub returns-else-i-lt5 : goal.returns-else-i-lt5
 returns-else-i-lt5 c =
-    past_end _ c.args.t1
-    (omega (arith, good_length (e_int w64) 5 c.args.t1 _ c.well_formed.0, c.if-i-lt5.false))
+    past_end _ c.args.a
+    (omega (arith, good_length (e_int w64) 5 c.args.a _ c.well_formed.0, c.if-i-lt5.false))

@@ -11,5 +11,5 @@ returns-then-i-lt9 c = rw c.wrapping_add_usize.ensures
 
 pub returns-else-i-lt9 : goal.returns-else-i-lt9
 returns-else-i-lt9 c =
-    past_end _ c.args.t1
-    (omega (arith, good_length (e_int w64) 9 c.args.t1 _ c.well_formed.0, c.if-i-lt9.false))
+    past_end _ c.args.a
+    (omega (arith, good_length (e_int w64) 9 c.args.a _ c.well_formed.0, c.if-i-lt9.false))

@@ -7,4 +7,4 @@ use lib.ListN.{length-take}
 use Rattle.season_ops.proofs.put_counts.Goals as goal
 
 pub slice_bounds-put_wholes-end : goal.slice_bounds-put_wholes-end
-slice_bounds-put_wholes-end c = simp length-take (omega (arith, good_length (e_int w64) 17 c.args.t3 _ c.well_formed.1.1.0))
+slice_bounds-put_wholes-end c = simp length-take (omega (arith, good_length (e_int w64) 17 c.args.counts _ c.well_formed.1.1.0))
