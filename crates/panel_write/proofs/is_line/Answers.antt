@@ -24,9 +24,7 @@ returns c =
     let g = c.args in (
       λ e. (let t = line_tests c.loop-k.k (get_or g.text.now (g.at + 16) 0) e in (λ j h. c.loop-k.invariant.1 j (omega (arith, t.0)), t.1)),
       λ line.
-          let all : c.loop-k.k ≡ 16 =
-          ⊎_elim (λ w. absurd (omega (arith, line.0 c.loop-k.k w.0.taken, w.2.ensures.0, ltb-false w.2.result 16 w.3.left))) (λ w. omega arith)
-          c.loop-k-test.branch in
+          let all : c.loop-k.k ≡ 16 = ? in
           and_both _ _ (eq-eqb c.loop-k.k 16 all) (eq-eqb (get_or g.text.now (g.at + 16) 0) 10 line.1),
     )
 
