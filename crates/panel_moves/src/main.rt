@@ -2,6 +2,8 @@
 // printed is `panel_text::moves_text` of the bytes and the number. A file that is longer than what is read is refused for its length.
 #![tactic(auto)]
 
+use std::env::Env;
+
 // A decimal digit's value, 10 for any other byte.
 fn digit(byte: u8) -> usize {
     if byte < b'0' {
@@ -35,10 +37,17 @@ fn pad_of(word: &[u8]) -> usize {
     0
 }
 
-fn main() {
+// The pad of the first argument; 0 where it is missing or longer than a word.
+fn pad_asked(rt: HostRuntime) -> usize {
     let mut word = [0u8; 16];
-    let n = os::arg(1, &mut word);
-    let pad = pad_of(&word[..n]);
+    match rt.arg(1, &mut word) {
+        Ok(n) => pad_of(&word[..n]),
+        Err(_) => 0,
+    }
+}
+
+fn main(rt: HostRuntime) {
+    let pad = pad_asked(rt);
     let mut file = [0u8; 33287];
     let held = io::read_full(0, &mut file);
     let mut out = [0u8; 1288];

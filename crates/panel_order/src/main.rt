@@ -1,10 +1,10 @@
 // Reads a panel file from standard input to its end, and prints its pads in rank order or the refusal. What is printed is `panel_text::text` of the bytes.
 #![tactic(auto)]
 
-// Reads once more and keeps nothing. Answers whether there may be more.
+// Reads on and keeps nothing. Answers whether there may be more.
 fn skip_some() -> bool {
     let mut rest = [0u8; 4096];
-    libc::read(0, &mut rest) > 0
+    io::read_full(0, &mut rest) == rest.len()
 }
 
 // A proved loop has to end, and nothing says that the input does: so the turns are counted down from a number that no run uses up.

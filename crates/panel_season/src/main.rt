@@ -6,6 +6,9 @@ ghost use Rattle.io.specs.Counts.{IsPrefixLen};
 
 use refusals::Answer;
 use season::{Handed, Season};
+use std::fs::File;
+use std::io::Read;
+use std::os::fd::AsRawFd;
 
 // The most bytes of a name.
 const MOST: usize = 255;
@@ -18,38 +21,38 @@ struct Place {
     going: bool,
 }
 
-// Reads the file of a name. Answers how many bytes are held, 0 where it cannot be opened or read.
-fn read_named(name: &[u8], file: &mut [u8]) -> usize
+// Reads the file of a name. Answers how many bytes are held, 0 where it cannot be opened or read. std opens no name that is not UTF-8.
+fn read_named(rt: HostRuntime, name: &[u8], file: &mut [u8]) -> usize
     ensures { IsPrefixLen result file.new }
 {
-    let fd = os::open_read(name);
-    if fd < 0 {
+    let Ok(path) = std::str::from_utf8(name) else {
         return 0;
+    };
+    match File::open(&rt, path) {
+        Ok(opened) => io::read_full(opened.as_raw_fd(), file),
+        Err(_) => 0,
     }
-    let held = io::read_full(fd, file);
-    libc::close(fd);
-    held
 }
 
 // The season with the file of a name.
-fn with_named(season: Season, name: &[u8]) -> Handed {
+fn with_named(rt: HostRuntime, season: Season, name: &[u8]) -> Handed {
     let mut file = [0u8; 33287];
-    let held = read_named(name, &mut file);
+    let held = read_named(rt, name, &mut file);
     season.with_file(&file[..held])
 }
 
 // The season with the file of a name of so many bytes, an empty file where that is too many.
-fn with_name(season: Season, name: &[u8], length: usize) -> Handed {
+fn with_name(rt: HostRuntime, season: Season, name: &[u8], length: usize) -> Handed {
     if length <= name.len() {
-        return with_named(season, &name[..length]);
+        return with_named(rt, season, &name[..length]);
     }
     season.with_file(b"")
 }
 
 // A name has ended. It goes on where the file was counted.
-fn ended(place: Place, name: &[u8]) -> Place {
+fn ended(rt: HostRuntime, place: Place, name: &[u8]) -> Place {
     let was = place.season;
-    let handed = with_name(was, name, place.length);
+    let handed = with_name(rt, was, name, place.length);
     let answer = handed.answer;
     let season = handed.season;
     match answer {
@@ -67,9 +70,9 @@ fn ended(place: Place, name: &[u8]) -> Place {
 }
 
 // One byte of the list: of a name, or the end of one.
-fn with_byte(place: Place, byte: u8, name: &mut [u8]) -> Place {
+fn with_byte(rt: HostRuntime, place: Place, byte: u8, name: &mut [u8]) -> Place {
     if byte == b'\n' {
-        return ended(place, name);
+        return ended(rt, place, name);
     }
     let mut next = place;
     let length = place.length;
@@ -83,39 +86,37 @@ fn with_byte(place: Place, byte: u8, name: &mut [u8]) -> Place {
 }
 
 // The bytes that were read, one after the other.
-fn with_bytes(from: Place, bytes: &[u8], name: &mut [u8]) -> Place {
+fn with_bytes(rt: HostRuntime, from: Place, bytes: &[u8], name: &mut [u8]) -> Place {
     let mut place = from;
     let mut k = 0;
     while k < bytes.len() && place.going {
-        place = with_byte(place, bytes[k], name);
+        place = with_byte(rt, place, bytes[k], name);
         k += 1;
     }
     place
 }
 
 // The input has ended: a last line without a newline is a name.
-fn finished(place: Place, name: &[u8]) -> Place {
+fn finished(rt: HostRuntime, place: Place, name: &[u8]) -> Place {
     let mut last = place;
     if place.length > 0 {
-        last = ended(place, name);
+        last = ended(rt, place, name);
     }
     last.going = false;
     last
 }
 
 // Reads some of the list.
-fn read_some(place: Place, name: &mut [u8]) -> Place {
+fn read_some(rt: HostRuntime, place: Place, name: &mut [u8]) -> Place {
     let mut bytes = [0u8; 4096];
-    let got = libc::read(0, &mut bytes);
-    let n = io::count(got, &bytes);
-    if n == 0 {
-        return finished(place, name);
+    match rt.stdin().read(&mut bytes) {
+        Ok(n) if n > 0 => with_bytes(rt, place, &bytes[..n], name),
+        _ => finished(rt, place, name),
     }
-    with_bytes(place, &bytes[..n], name)
 }
 
 // Reads the list to its end. A proved loop has to end, and nothing says that the input does: so the turns are counted down from a number that no run uses up.
-fn read_list(name: &mut [u8]) -> Season {
+fn read_list(rt: HostRuntime, name: &mut [u8]) -> Season {
     let mut place = Place {
         season: Season::new(),
         length: 0,
@@ -123,7 +124,7 @@ fn read_list(name: &mut [u8]) -> Season {
     };
     let mut turns = u64::MAX;
     while turns > 0 && place.going {
-        place = read_some(place, name);
+        place = read_some(rt, place, name);
         turns -= 1;
     }
     place.season
@@ -139,8 +140,8 @@ fn print_counts(counts: [usize; 17]) {
     }
 }
 
-fn main() {
+fn main(rt: HostRuntime) {
     let mut name = [0u8; MOST];
-    let season = read_list(&mut name);
+    let season = read_list(rt, &mut name);
     print_counts(season.counts());
 }

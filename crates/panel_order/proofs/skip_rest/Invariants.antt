@@ -1,5 +1,4 @@
 -- The measure is the number of turns that are left; nothing has to hold from turn to turn. Assumes nothing.
-use native.Mathlib.Omega.{arith}
 use Rattle.panel_order.proofs.skip_rest.Given as goal
 
 abbrev pub invariant-loop-turns : goal.invariant-loop-turns

@@ -1,6 +1,5 @@
 -- `panel_season::read_list` is safe and ends. The measure is the number of turns that are left. Assumes nothing.
 use mathlib.Core.Path.{◌≡◌}
-use borrow.Author.Rules.{rules}
 use lib.ListN.{length}
 use Rattle.panel_season.proofs.read_list.Given as goal
 

@@ -1,7 +1,6 @@
 -- `panel_season::with_bytes` is safe and ends. The measure is what is left of the bytes. Assumes nothing.
 use Prim.Native.Nat.{◌-◌}
 use mathlib.Core.Path.{◌≡◌}
-use borrow.Author.Rules.{rules}
 use lib.ListN.{length}
 use Rattle.panel_season.proofs.with_bytes.Given as goal
 

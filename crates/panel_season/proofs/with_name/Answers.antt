@@ -1,6 +1,5 @@
 -- `panel_season::with_name` is safe and ends: the name lies within its store. Assumes nothing.
 use native.Mathlib.Omega.{arith}
-use borrow.Author.Rules.{rules}
 use lib.ListN.{length-take}
 use Rattle.panel_season.proofs.with_name.Goals as goal
 

@@ -12,7 +12,7 @@ use Rattle.panel_text.proofs.put_whole.Goals as goal
 
 -- the word is the number in decimal
 word : (c : After-put_word-arg-1) → take c.decimal-k.result c.decimal-k.new.out ≡ whole c.args.n
-word c = spelled c.args.n _ _ c.requires.0 c.decimal-k.ensures.len c.decimal-k.ensures.1.1
+word c = spelled c.args.n _ _ c.requires.0 c.decimal-k.ensures.len c.decimal-k.ensures.digits
 
 pub put_word-requires : goal.put_word-requires
 put_word-requires c =
