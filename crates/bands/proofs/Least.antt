@@ -1,13 +1,13 @@
 -- The least magnitude on a diagonal: each turn as the loop makes it; it is no NaN; and it is the magnitude of one of the diagonal's numbers, none being
 -- smaller. By the turns. Assumes nothing.
-use mathlib.Core.Path.{◌≡◌, refl, sym, ap, ◌∙◌}
-use mathlib.Core.Bool.{true, false, not, cond, false≢true, true≢false}
+use mathlib.Core.Path.{◌≡◌, refl, sym, ◌∙◌}
+use mathlib.Core.Bool.{true, false, not, false≢true, true≢false}
 use Prim.Native.Nat.{ℕ, zero, suc, ◌+◌, ◌≤◌, ◌<◌}
 use native.Mathlib.Nat.{eq-or-lt_of_le, le_of_suc-le-suc, not-suc-le-zero, zero-add}
 use native.Mathlib.Omega.{arith}
-use mathlib.Core.Logic.{◌⊎◌, inl, inr}
+use mathlib.Core.Logic.{inl, inr}
 use lib.Dec.{T}
-use lib.Ieee.{Float, nan, inf, fin, neg, lt, is_nan, of_bits}
+use lib.Ieee.{Float, nan, inf, fin, lt, is_nan, of_bits}
 use lib.Ieee.Scale.{finite}
 use Rattle.numbers.specs.Each.{turns_from}
 use Rattle.numbers.specs.Numbers.{zero64, magnitude}

@@ -1,15 +1,15 @@
 -- How the number of dead columns goes: along a walk of the diagonal, with one column more, and under an exchange of rows that no diagonal reaches. By
 -- induction on the columns. Assumes nothing.
 use mathlib.Core.Path.{◌≡◌, refl, sym, ap, ap₂, ◌∙◌}
-use mathlib.Core.Bool.{true, false, not}
+use mathlib.Core.Bool.{true}
 use mathlib.Core.List.{[], ◌∷◌, ◌++◌}
-use Prim.Native.Nat.{ℕ, zero, suc, ◌+◌, ◌*◌, ◌≤◌, ◌<◌, min}
+use Prim.Native.Nat.{ℕ, suc, ◌+◌, ◌*◌, ◌≤◌, ◌<◌, min}
 use native.Mathlib.Nat.{add-zero, zero-add}
 use native.Mathlib.Numerals.{add-one}
 use native.Mathlib.Omega.{arith}
 use borrow.Author.Tests.{ltb-true, ltb-false}
-use lib.Dec.{ltb, eqb}
-use lib.ListN.{length, get_or, take, drop, length-append, length-take, drop_of_length-le, get_or-eq_default}
+use lib.Dec.{ltb}
+use lib.ListN.{length, take, drop, length-append, length-take, drop_of_length-le, get_or-eq_default}
 use lib.Seq.{take_all, take-append-le, get_or-take}
 use lib.Ieee.{Float, nan, eq}
 use Rattle.numbers.specs.Numbers.{is_zero}

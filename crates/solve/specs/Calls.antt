@@ -1,5 +1,5 @@
 -- Document 01, "Refusal numbers", for the triangular solves: what each call answers and leaves, on every input.
-use Rattle.std.specs.Prelude.{Bool, true, false, not, ◌&&◌, ◌||◌, [], ◌∷◌, ℕ, eqb}
+use Rattle.std.specs.Prelude.{Bool, true, not, ◌&&◌, ◌||◌, [], ◌∷◌, ℕ, eqb}
 use Rattle.std.specs.Float.Ieee.Scale.{finite}
 use Rattle.numbers.specs.Numbers.{is_zero}
 use Rattle.numbers.specs.Column.{Column}

@@ -1,16 +1,12 @@
 -- A match that names the given diagonals alone: in its other arm no diagonal is given, and the matrix's own stands. By cases on the kind of
 -- solve. Assumes nothing.
 use mathlib.Core.Path.{◌≡◌, refl}
-use mathlib.Core.List.{[], ◌∷◌}
-use types.Run.{OneOf, miss}
-use denote.Enum.Declared.{tag_of}
 use Prim.Native.Nat.{ℕ}
 use lib.Ieee.{Float}
 use Rattle.triangular_passes.specs.declared.Pass.{Pass}
 use Rattle.triangular_passes.specs.declared.Pass.TheVariants.{Lower, Upper, GivenDiagonal, CorrectedDiagonal}
 use Rattle.triangular_passes.specs.declared.Pass.TheVariants.{TransposedLower, TransposedUpper, TransposedUnitLower}
 use Rattle.triangular_passes.specs.Triangular.{given, turns_of}
-use Rattle.triangular_passes.specs.contracts.Pass.{the_type}
 
 pub own_stands : {A : Type 0} (pass : Pass) (f : Float → A) (own : A) →
     ((d : Float) → pass ≡ GivenDiagonal d → ⊥) → ((d : Float) → pass ≡ CorrectedDiagonal d → ⊥) → own ≡ given pass f own

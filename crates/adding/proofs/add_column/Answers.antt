@@ -1,6 +1,5 @@
 -- Refused by its tests, or added past them. Assumes nothing.
 use mathlib.Core.Path.{sym, ◌∙◌}
-use borrow.Author.Rules.{rules}
 use Rattle.adding.proofs.Adds.{ready, refused_by}
 use Rattle.adding.proofs.add_column.Goals as goal
 

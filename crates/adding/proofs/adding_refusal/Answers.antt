@@ -1,6 +1,5 @@
 -- The tests of held factors, made in place: with room for the new column the older ones are a matrix, and without it they are not looked at. Assumes nothing.
 use mathlib.Core.Path.{sym}
-use borrow.Author.Rules.{rules}
 use lib.Seq.{length-take-le}
 use Rattle.adding.proofs.Adds.{refusal_found}
 use Rattle.adding.proofs.adding_refusal.Goals as goal

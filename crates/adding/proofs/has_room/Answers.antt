@@ -1,7 +1,6 @@
 -- A store of more than 64 columns is none. Assumes nothing.
 use Prim.Native.Nat.{◌+◌}
 use native.Mathlib.Omega.{arith}
-use borrow.Author.Rules.{rules}
 use borrow.Author.Tests.{lt-leb}
 use lib.Dec.{leb}
 use Rattle.numbers.proofs.Choice.{test_cases}

@@ -1,7 +1,6 @@
 -- What the two calls leave. Assumes nothing.
 use mathlib.Core.Path.{ap}
 use Prim.Native.Nat.{ℕ, ◌+◌}
-use borrow.Author.Rules.{rules}
 use Rattle.factors.specs.Factors.{record_of}
 use Rattle.adding.proofs.join.Goals as goal
 

@@ -2,7 +2,6 @@
 use Prim.Native.Nat.{◌<◌}
 use mathlib.Core.Path.{sym, ◌∙◌}
 use native.Mathlib.Omega.{arith}
-use borrow.Author.Rules.{rules}
 use lib.ListN.{length}
 use Rattle.min_max.proofs.Pivot.{pivot_to}
 use Rattle.min_max.proofs.TossUp.{none_toss_up, zero_toss_up, found_row, found_tossed}

@@ -1,7 +1,6 @@
 -- The raw column is copied to the slot, permuted there as a matrix of one column, and updated. Assumes nothing.
 use mathlib.Core.Path.{◌∙◌}
 use native.Mathlib.Omega.{arith}
-use borrow.Author.Rules.{rules}
 use Rattle.store.proofs.Columns.{same_matrix}
 use Rattle.updates.proofs.Updates.{last_columns}
 use Rattle.adding.specs.Inner.{with_reduced}

@@ -1,6 +1,5 @@
 -- The band of the least number's exponent, or none. Assumes nothing.
 use mathlib.Core.Path.{sym, ap, ◌∙◌}
-use borrow.Author.Rules.{rules}
 use Rattle.bands.specs.Bands.{biased, band_of, band_on}
 use Rattle.bands.proofs.Least.{least_number}
 use Rattle.bands.proofs.band.Goals as goal

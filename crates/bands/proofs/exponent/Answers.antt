@@ -1,6 +1,5 @@
 -- The bits without those below and above. Assumes nothing.
 use mathlib.Core.Path.{refl}
-use borrow.Author.Rules.{rules}
 use Rattle.bands.specs.Bands.{biased}
 use Rattle.bands.proofs.exponent.Goals as goal
 

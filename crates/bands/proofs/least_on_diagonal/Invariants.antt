@@ -1,20 +1,9 @@
 -- The numbers that are left from row i on give the least of all. Assumes nothing.
-use Prim.Native.Nat.{◌-◌, ◌*◌, ◌+◌, ◌≤◌}
-use mathlib.Core.Path.{◌≡◌, sym, ap, ◌∙◌}
-use mathlib.Core.Logic.{⊎_elim}
-use native.Mathlib.Omega.{arith}
-use borrow.Author.Rules.{rules}
-use lib.ListN.{length}
-use lib.Ieee.{nan, nan_bits}
-use Rattle.numbers.specs.Numbers.{magnitude}
+use Prim.Native.Nat.{◌-◌}
+use mathlib.Core.Path.{◌≡◌}
 use Rattle.numbers.specs.Each.{turns_from}
-use Rattle.numbers.proofs.Each.{turns_begin, turns_next, turns_done}
 use Rattle.store.specs.Columns.{columns}
-use Rattle.store.proofs.Columns.{sized, column_within, entry_at}
 use Rattle.bands.specs.Bands.{less_at, least_on_diagonal}
-use Rattle.bands.proofs.Least.{less_taken, less_left}
-use Rattle.bands.proofs.least_on_diagonal.Reads as reads
-use Rattle.bands.proofs.least_on_diagonal.Lts as lts
 use Rattle.bands.proofs.least_on_diagonal.Given as goal
 
 abbrev pub invariant-loop-i : goal.invariant-loop-i

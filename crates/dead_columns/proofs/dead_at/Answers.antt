@@ -1,7 +1,6 @@
 -- A column that ends before the row has no diagonal. Assumes nothing.
 use mathlib.Core.Path.{sym}
 use native.Mathlib.Omega.{arith}
-use borrow.Author.Rules.{rules}
 use Rattle.dead_columns.proofs.Dead.{past_last}
 use Rattle.dead_columns.proofs.dead_at.Goals as goal
 

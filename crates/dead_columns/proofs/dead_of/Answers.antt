@@ -1,15 +1,13 @@
 -- The dead columns so far, and those from column j on, are all of them. Assumes nothing.
-use Prim.Native.Nat.{ℕ, ◌+◌, ◌-◌, ◌*◌, ◌≤◌, ◌<◌, min}
-use mathlib.Core.Path.{◌≡◌, refl, sym, ◌∙◌}
+use Prim.Native.Nat.{ℕ, ◌+◌, ◌*◌, ◌≤◌, ◌<◌}
+use mathlib.Core.Path.{◌≡◌, sym, ◌∙◌}
 use mathlib.Core.Bool.{true}
 use native.Mathlib.Omega.{arith}
-use borrow.Author.Rules.{rules}
-use borrow.Author.Tests.{not-true, not-false}
-use lib.ListN.{length, drop}
-use Rattle.store.specs.Columns.{columns, is_matrix}
+use lib.ListN.{length}
+use Rattle.store.specs.Columns.{is_matrix}
 use Rattle.store.proofs.Columns.{column_within, sized}
-use Rattle.dead_columns.specs.Dead.{dead_from, dead_in, dead_of}
-use Rattle.dead_columns.proofs.Dead.{diagonals, walk_next, walk_end, held_dead}
+use Rattle.dead_columns.specs.Dead.{dead_in, dead_of}
+use Rattle.dead_columns.proofs.Dead.{walk_next, walk_end, held_dead}
 use Rattle.dead_columns.proofs.dead_of.Goals.{Else-not-is_matrix, In-loop-j}
 use Rattle.dead_columns.proofs.dead_of.Goals as goal
 

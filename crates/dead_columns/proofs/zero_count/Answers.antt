@@ -1,7 +1,6 @@
 -- By the test. Assumes nothing.
 use mathlib.Core.Path.{sym, ◌∙◌}
 use native.Mathlib.Omega.{arith}
-use borrow.Author.Rules.{rules}
 use Rattle.dead_columns.specs.Dead.{zero_count}
 use Rattle.dead_columns.proofs.zero_count.Goals as goal
 

@@ -1,17 +1,10 @@
 -- The pairs that are left from turn k on give the whole. Assumes nothing.
-use Prim.Native.Nat.{ℕ, ◌-◌}
-use mathlib.Core.Path.{◌≡◌, refl, ◌∙◌}
-use mathlib.Core.Bool.{Bool}
-use mathlib.Core.List.{List}
+use mathlib.Core.Path.{refl, ◌∙◌}
 use native.Mathlib.Omega.{arith}
 use borrow.Author.Rules.{rules}
-use lib.ListN.{length, drop}
-use Rattle.numbers.specs.Column.{Column}
-use Rattle.swap_list.specs.SwapList.{pairs_of}
-use Rattle.exchanges.specs.Permute.{permuted_by, exchange_of, in_order}
+use Rattle.exchanges.specs.Permute.{exchange_of}
 use Rattle.exchanges.proofs.Permute.{permuted_turn}
 use Rattle.exchanges.proofs.OnColumns.{exchange_keeps, on_slice, applied_none, applied}
-use Rattle.exchanges.proofs.apply.Invariants.{turns_left}
 use Rattle.exchanges.proofs.apply.Goals as goal
 
 pub returns-then-swaps-pairs : goal.returns-then-swaps-pairs

@@ -1,16 +1,13 @@
 -- The pairs that are left from turn k on give the whole. Assumes nothing.
 use Prim.Native.Nat.{ℕ, ◌-◌}
-use mathlib.Core.Path.{◌≡◌, refl, ◌∙◌}
+use mathlib.Core.Path.{◌≡◌}
 use mathlib.Core.Bool.{Bool}
 use mathlib.Core.List.{List}
-use native.Mathlib.Omega.{arith}
-use borrow.Author.Rules.{rules}
 use lib.ListN.{length, drop}
 use Rattle.numbers.specs.Column.{Column}
 use Rattle.swap_list.specs.SwapList.{pairs_of}
 use Rattle.exchanges.specs.Permute.{permuted_by, exchange_of, in_order}
-use Rattle.exchanges.proofs.Permute.{permuted_turn}
-use Rattle.exchanges.proofs.OnColumns.{exchange_keeps, on_slice, applied_none, applied}
+use Rattle.exchanges.proofs.OnColumns.{on_slice}
 use Rattle.exchanges.proofs.apply.Given as goal
 
 -- the turns from turn k on

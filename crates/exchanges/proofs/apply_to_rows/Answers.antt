@@ -2,8 +2,6 @@
 use mathlib.Core.Path.{sym, ◌∙◌}
 use mathlib.Core.Bool.{false}
 use native.Mathlib.Omega.{arith}
-use borrow.Author.Rules.{rules}
-use borrow.Author.Tests.{not-true, not-false}
 use Rattle.store.specs.Steps.{swap_in_all}
 use Rattle.store.proofs.Columns.{on_none}
 use Rattle.exchanges.proofs.OnColumns.{exchange_keeps, applied_none, one_applied, fours_applied}

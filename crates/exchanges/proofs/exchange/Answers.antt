@@ -1,6 +1,5 @@
 -- By what is exchanged. Assumes nothing.
 use mathlib.Core.Path.{◌∙◌}
-use borrow.Author.Rules.{rules}
 use Rattle.exchanges.proofs.OnColumns.{on_all}
 use Rattle.exchanges.proofs.exchange.Goals as goal
 

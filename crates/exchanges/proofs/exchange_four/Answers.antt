@@ -1,16 +1,10 @@
 -- The columns that are left from column j on give the whole. Assumes nothing.
-use denote.Slice.{shr_slice_at}
-use Prim.Native.Nat.{ℕ, ◌-◌, ◌*◌, ◌+◌, ◌≤◌}
+use Prim.Native.Nat.{◌*◌, ◌+◌, ◌≤◌}
 use mathlib.Core.Path.{◌≡◌, refl, sym, ◌∙◌}
 use native.Mathlib.Omega.{arith}
-use borrow.Author.Rules.{rules}
 use lib.ListN.{length}
-use Rattle.numbers.specs.Each.{each_from}
-use Rattle.numbers.specs.Column.{Column}
-use Rattle.store.specs.Columns.{columns}
 use Rattle.store.proofs.Columns.{sized, column_within, column_turn, column_stop, on_done}
-use Rattle.swap_list.specs.SwapList.{Swaps, pairs_of}
-use Rattle.exchanges.specs.Permute.{permute}
+use Rattle.swap_list.specs.SwapList.{pairs_of}
 use Rattle.exchanges.proofs.Permute.{permute_four, rows_each}
 use Rattle.exchanges.proofs.exchange_four.Invariants.{in_column}
 use Rattle.exchanges.proofs.exchange_four.Goals.{In-loop-j}

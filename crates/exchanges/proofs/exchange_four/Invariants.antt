@@ -1,17 +1,12 @@
 -- The columns that are left from column j on give the whole. Assumes nothing.
-use denote.Slice.{shr_slice_at}
-use Prim.Native.Nat.{ℕ, ◌-◌, ◌*◌, ◌+◌, ◌≤◌}
-use mathlib.Core.Path.{◌≡◌, refl, sym, ◌∙◌}
-use native.Mathlib.Omega.{arith}
-use borrow.Author.Rules.{rules}
+use Prim.Native.Nat.{ℕ, ◌-◌}
+use mathlib.Core.Path.{◌≡◌}
 use lib.ListN.{length}
 use Rattle.numbers.specs.Each.{each_from}
 use Rattle.numbers.specs.Column.{Column}
 use Rattle.store.specs.Columns.{columns}
-use Rattle.store.proofs.Columns.{sized, column_within, column_turn, column_stop, on_done}
 use Rattle.swap_list.specs.SwapList.{Swaps, pairs_of}
 use Rattle.exchanges.specs.Permute.{permute}
-use Rattle.exchanges.proofs.Permute.{permute_four, rows_each}
 use Rattle.exchanges.proofs.exchange_four.Given as goal
 
 -- what becomes of a column

@@ -1,10 +1,9 @@
 -- Before turn k the first k times four pairs are exchanged. Assumes nothing.
-use Prim.Native.Nat.{ℕ, ◌+◌, ◌-◌, ◌*◌, ◌≤◌}
+use Prim.Native.Nat.{ℕ, ◌+◌, ◌*◌}
 use mathlib.Core.Path.{◌≡◌, refl, ap, ◌∙◌}
 use mathlib.Core.Bool.{false}
 use native.Mathlib.Omega.{arith}
-use borrow.Author.Rules.{rules}
-use lib.ListN.{length, length-take, length-drop}
+use lib.ListN.{length-take, length-drop}
 use Rattle.store.specs.Columns.{on_columns}
 use Rattle.store.specs.Steps.{swap_in_all}
 use Rattle.store.proofs.Columns.{same_matrix}

@@ -1,17 +1,10 @@
 -- Before turn k the first k times four pairs are exchanged. Assumes nothing.
-use Prim.Native.Nat.{ℕ, ◌+◌, ◌-◌, ◌*◌, ◌≤◌}
-use mathlib.Core.Path.{◌≡◌, refl, ap, ◌∙◌}
-use mathlib.Core.Bool.{false}
-use native.Mathlib.Omega.{arith}
-use borrow.Author.Rules.{rules}
-use lib.ListN.{length, length-take, length-drop}
+use Prim.Native.Nat.{◌-◌, ◌*◌, ◌≤◌}
+use mathlib.Core.Path.{◌≡◌}
+use lib.ListN.{length}
 use Rattle.store.specs.Columns.{on_columns}
-use Rattle.store.specs.Steps.{swap_in_all}
-use Rattle.store.proofs.Columns.{same_matrix}
-use Rattle.swap_list.specs.SwapList.{Swaps, pairs_of}
+use Rattle.swap_list.specs.SwapList.{pairs_of}
 use Rattle.exchanges.specs.Permute.{rows_permuted}
-use Rattle.swap_list.proofs.SwapList.{part_pairs}
-use Rattle.exchanges.proofs.OnColumns.{exchange_keeps, pairs_none, pairs_more}
 use Rattle.exchanges.proofs.exchange_in_fours.Given as goal
 
 abbrev pub invariant-loop-k : goal.invariant-loop-k

@@ -1,5 +1,4 @@
 -- The four exchanges one after the other. Assumes nothing.
-use borrow.Author.Rules.{rules}
 use Rattle.exchanges.specs.Permute.{permuted_by}
 use Rattle.exchanges.proofs.swap_four.Goals as goal
 

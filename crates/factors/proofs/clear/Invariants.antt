@@ -1,11 +1,8 @@
 -- What is left to fill from place k on is `each_from` from k on. Assumes nothing.
 use Prim.Native.Nat.{◌-◌}
-use mathlib.Core.Path.{◌≡◌, refl, sym, ◌∙◌}
-use native.Mathlib.Omega.{arith}
-use borrow.Author.Rules.{rules}
+use mathlib.Core.Path.{◌≡◌}
 use lib.ListN.{length, replicate}
 use Rattle.numbers.specs.Each.{each_from}
-use Rattle.numbers.proofs.Each.{each_step, each_stop, each_fill}
 use Rattle.factors.proofs.clear.Given as goal
 
 abbrev pub invariant-loop-k : goal.invariant-loop-k

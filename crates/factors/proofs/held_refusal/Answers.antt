@@ -1,5 +1,4 @@
 -- The tests one within the other, as the definition has them. Assumes nothing.
-use borrow.Author.Rules.{rules}
 use Rattle.refusals.specs.Outcome.{first_holding}
 use Rattle.factors.specs.Held.{held_refusal}
 use Rattle.factors.proofs.held_refusal.Goals as goal

@@ -1,7 +1,6 @@
 -- By the test for one row and the test for room. Assumes nothing.
 use mathlib.Core.Path.{refl}
 use native.Mathlib.Omega.{arith}
-use borrow.Author.Rules.{rules}
 use borrow.Author.Tests.{eq-eqb, ne_eqb, lt-ltb, le-ltb}
 use lib.ListN.{length-set}
 use Rattle.swap_list.specs.SwapList.{with_pair}

@@ -1,6 +1,5 @@
 -- Refused by its tests, or the copy factored: each by its law (`Told`). Assumes nothing.
-use mathlib.Core.Path.{◌≡◌, sym, ◌∙◌}
-use borrow.Author.Rules.{rules}
+use mathlib.Core.Path.{sym, ◌∙◌}
 use Rattle.blas.proofs.Rows.{copied_whole}
 use Rattle.store.proofs.Columns.{sized, same_matrix}
 use Rattle.lu.proofs.Told.{Passed, passed, promise_refused, promise_settled}

@@ -9,10 +9,9 @@ use lib.ListN.{length}
 use Rattle.numbers.specs.Each.{turns_from}
 use Rattle.store.specs.Columns.{columns}
 use Rattle.store.proofs.Columns.{sized, same_matrix}
-use Rattle.factors.specs.Factors.{Factors}
 use Rattle.elimination.specs.Elimination.{step, unfactored, eliminate}
 use Rattle.lu.specs.Inner.{Held}
-use Rattle.elimination.specs.TossUps.{toss_from, toss_ups}
+use Rattle.elimination.specs.TossUps.{toss_from}
 use Rattle.lu.proofs.Slices.{held_unfactored, steps_begin}
 use Rattle.elimination.proofs.Step.{turns_join}
 use Rattle.factors.proofs.Swaps.{length_store}

@@ -1,22 +1,13 @@
 -- After each panel the slices hold the factors of its last step; the steps that are left give the elimination. Assumes nothing.
 use Prim.Native.Nat.{◌+◌, ◌-◌, ◌≤◌, min}
-use native.Mathlib.Nat.{zero-add, add_assoc}
-use mathlib.Core.Path.{◌≡◌, refl, sym, ap, subst, ◌∙◌}
-use mathlib.Core.List.{[]}
-use native.Mathlib.Omega.{arith}
-use borrow.Author.Rules.{rules}
+use mathlib.Core.Path.{◌≡◌}
 use lib.ListN.{length}
 use Rattle.numbers.specs.Each.{turns_from}
 use Rattle.store.specs.Columns.{columns}
-use Rattle.store.proofs.Columns.{sized, same_matrix}
 use Rattle.factors.specs.Factors.{Factors}
-use Rattle.elimination.specs.Elimination.{step, unfactored, eliminate}
+use Rattle.elimination.specs.Elimination.{step, eliminate}
 use Rattle.lu.specs.Inner.{Held}
 use Rattle.elimination.specs.TossUps.{toss_from, toss_ups}
-use Rattle.lu.proofs.Slices.{held_unfactored, steps_begin}
-use Rattle.elimination.proofs.Step.{turns_join}
-use Rattle.factors.proofs.Swaps.{length_store}
-use Rattle.elimination.proofs.Tossing.{toss_begin, toss_join}
 use Rattle.lu.proofs.factor_in_place.Given as goal
 
 abbrev pub invariant-loop-i : goal.invariant-loop-i

@@ -1,6 +1,5 @@
 -- Refused by its tests, or factored: each by its law (`Told`). Assumes nothing.
-use mathlib.Core.Path.{◌≡◌, refl, sym, ◌∙◌}
-use borrow.Author.Rules.{rules}
+use mathlib.Core.Path.{refl, sym, ◌∙◌}
 use Rattle.lu.proofs.Told.{Passed, passed, promise_refused, promise_settled}
 use Rattle.lu.proofs.factor_mut.Goals.{After-factor_tested-arg-2-1}
 use Rattle.lu.proofs.factor_mut.Goals as goal

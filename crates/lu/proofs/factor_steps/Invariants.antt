@@ -1,20 +1,12 @@
 -- After each step the slices hold the factors of that step, whatever was held before; the steps that are left give the whole. Assumes nothing.
-use Prim.Native.Nat.{ℕ, ◌+◌, ◌-◌, ◌≤◌}
-use native.Mathlib.Nat.{add-zero, add_assoc}
-use mathlib.Core.Path.{◌≡◌, refl, sym, ap, subst, ◌∙◌}
-use native.Mathlib.Omega.{arith}
-use borrow.Author.Rules.{rules}
+use Prim.Native.Nat.{◌+◌, ◌-◌, ◌≤◌}
+use mathlib.Core.Path.{◌≡◌}
 use lib.ListN.{length}
 use Rattle.numbers.specs.Each.{turns_from}
-use Rattle.numbers.proofs.Each.{turns_next, turns_done}
-use Rattle.store.specs.Columns.{columns}
-use Rattle.store.specs.Steps.{Matrix, column}
-use Rattle.store.proofs.Columns.{sized, same_matrix}
 use Rattle.factors.specs.Factors.{Factors}
 use Rattle.elimination.specs.Elimination.{step}
 use Rattle.lu.specs.Inner.{Held}
-use Rattle.elimination.specs.TossUps.{toss_at, toss_from}
-use Rattle.elimination.proofs.Tossing.{toss_turn, toss_done}
+use Rattle.elimination.specs.TossUps.{toss_from}
 use Rattle.lu.proofs.factor_steps.Given as goal
 
 abbrev pub invariant-loop-i : goal.invariant-loop-i

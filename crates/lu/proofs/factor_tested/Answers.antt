@@ -1,6 +1,5 @@
 -- Accepted, or an overflow: each by its law (`Told`). Assumes nothing.
 use mathlib.Core.Path.{sym, ap, ◌∙◌}
-use borrow.Author.Rules.{rules}
 use lib.ListN.{replicate}
 use Rattle.factors.specs.Factors.{numbers_of, store_of}
 use Rattle.lu.proofs.Told.{settled_accepted, settled_overflow}

@@ -1,7 +1,6 @@
 -- Rows swapped, column i scaled, the columns to the right updated (`gauss_done`). Assumes nothing.
 use Prim.Native.Nat.{◌*◌, ◌+◌, ◌≤◌}
 use native.Mathlib.Omega.{arith}
-use borrow.Author.Rules.{rules}
 use lib.ListN.{length}
 use Rattle.store.proofs.Columns.{sized, column_within}
 use Rattle.lu.proofs.Slices.{gauss_done}

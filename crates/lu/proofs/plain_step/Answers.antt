@@ -1,15 +1,12 @@
 -- No matrix, no such step, a skipped step, or the step: each by its law (`Slices`). Assumes nothing.
-use mathlib.Core.Path.{◌≡◌, refl, sym, ◌∙◌}
-use Prim.Native.Nat.{ℕ, ◌+◌, ◌*◌, ◌≤◌, ◌<◌, min}
+use mathlib.Core.Path.{◌≡◌, sym, ◌∙◌}
+use Prim.Native.Nat.{ℕ, ◌+◌, ◌*◌, ◌≤◌, ◌<◌}
 use native.Mathlib.Omega.{arith}
-use borrow.Author.Rules.{rules}
-use borrow.Author.Tests.{not-true, not-false, le-ltb}
 use mathlib.Core.Bool.{true}
 use lib.ListN.{length}
 use Rattle.store.specs.Columns.{is_matrix}
 use Rattle.store.proofs.Columns.{sized, column_within}
 use Rattle.min_max.proofs.TossUp.{found_row}
-use Rattle.lu.specs.PlainStep.{plain_step}
 use Rattle.lu.proofs.Slices.{pivot_within, plain_none, plain_past, plain_skipped, plain_done}
 use Rattle.lu.proofs.plain_step.Goals.{After-icamax-found, Else-min-i}
 use Rattle.lu.proofs.plain_step.Goals as goal

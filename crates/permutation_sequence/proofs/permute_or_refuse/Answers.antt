@@ -1,6 +1,5 @@
 -- By the refusal. Assumes nothing.
 use mathlib.Core.Path.{sym, ◌∙◌}
-use borrow.Author.Rules.{rules}
 use Rattle.exchanges.specs.Permute.{exchange_of}
 use Rattle.permutation_sequence.proofs.Permuting.{permuting_refused, permuting_done}
 use Rattle.permutation_sequence.proofs.permute_or_refuse.Goals as goal

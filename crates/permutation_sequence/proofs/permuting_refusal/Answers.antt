@@ -1,5 +1,4 @@
 -- The tests one within the other, as the definition has them. Assumes nothing.
-use borrow.Author.Rules.{rules}
 use Rattle.refusals.specs.Outcome.{first_holding}
 use Rattle.permutation_sequence.specs.Calls.{permuting_refusal}
 use Rattle.permutation_sequence.proofs.permuting_refusal.Goals as goal

@@ -1,5 +1,4 @@
 -- Case by case. Assumes nothing.
-use borrow.Author.Rules.{rules}
 use Rattle.refusals.specs.Outcome.{number_of}
 use Rattle.refusals.specs.Refusals.{answered}
 use Rattle.refusals.proofs.number_of.Goals as goal

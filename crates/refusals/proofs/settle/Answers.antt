@@ -1,6 +1,5 @@
 -- By the finite test. Assumes nothing.
 use mathlib.Core.Path.{refl, sym, ◌∙◌}
-use borrow.Author.Rules.{rules}
 use Rattle.refusals.specs.Outcome.{number_of}
 use Rattle.refusals.specs.Refusals.{seventh}
 use Rattle.refusals.proofs.settle.Goals as goal

@@ -7,7 +7,7 @@ use Rattle.season.proofs.one_more_band.Goals as goal
 
 pub returns-then-i-lt5 : goal.returns-then-i-lt5
 unfolding one_more_at
-returns-then-i-lt5 c = rw c.wrapping_add_usize.ensures
+returns-then-i-lt5 c = rw c.wrapping_add_usize.ensures.value
 
 pub returns-else-i-lt5 : goal.returns-else-i-lt5
 returns-else-i-lt5 c =

@@ -7,7 +7,7 @@ use Rattle.season.proofs.one_more_refused.Goals as goal
 
 pub returns-then-i-lt9 : goal.returns-then-i-lt9
 unfolding one_more_at
-returns-then-i-lt9 c = rw c.wrapping_add_usize.ensures
+returns-then-i-lt9 c = rw c.wrapping_add_usize.ensures.value
 
 pub returns-else-i-lt9 : goal.returns-else-i-lt9
 returns-else-i-lt9 c =

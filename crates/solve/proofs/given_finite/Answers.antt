@@ -1,5 +1,4 @@
 -- The given diagonal's test where there is one. Assumes nothing.
-use borrow.Author.Rules.{rules}
 use Rattle.triangular_passes.proofs.Given.{own_stands}
 use Rattle.solve.proofs.given_finite.Goals as goal
 

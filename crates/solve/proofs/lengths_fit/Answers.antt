@@ -1,7 +1,5 @@
 -- The three tests in turn. Assumes nothing.
 use mathlib.Core.Path.{sym, ◌∙◌}
-use borrow.Author.Rules.{rules}
-use borrow.Author.Tests.{not-true, not-false}
 use Rattle.solve.specs.Calls.{lengths_fit}
 use Rattle.solve.proofs.lengths_fit.Goals as goal
 

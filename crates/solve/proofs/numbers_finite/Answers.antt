@@ -1,7 +1,5 @@
 -- The three tests in turn. Assumes nothing.
 use mathlib.Core.Path.{sym, ◌∙◌}
-use borrow.Author.Rules.{rules}
-use borrow.Author.Tests.{not-true, not-false}
 use Rattle.solve.specs.Calls.{numbers_finite}
 use Rattle.solve.proofs.numbers_finite.Goals as goal
 

@@ -1,5 +1,4 @@
 -- The tests in document 01's order, each with the later ones behind it. Assumes nothing.
-use borrow.Author.Rules.{rules}
 use Rattle.refusals.specs.Outcome.{first_holding}
 use Rattle.solve.specs.Calls.{refusal_of}
 use Rattle.solve.proofs.refusal.Goals as goal

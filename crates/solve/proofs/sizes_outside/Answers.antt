@@ -1,6 +1,5 @@
 -- The two tests in turn. Assumes nothing.
 use mathlib.Core.Path.{sym, ◌∙◌}
-use borrow.Author.Rules.{rules}
 use Rattle.solve.specs.Calls.{sizes_outside}
 use Rattle.solve.proofs.sizes_outside.Goals as goal
 

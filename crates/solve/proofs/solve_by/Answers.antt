@@ -1,5 +1,4 @@
 -- The refusal's outcome, or that of the work on a copy of the right-hand sides. Assumes nothing.
-use borrow.Author.Rules.{rules}
 use Rattle.solve.proofs.Accepted.{refused_by, worked}
 use Rattle.solve.proofs.solve_by.Goals as goal
 

@@ -1,6 +1,5 @@
 -- The given diagonal where there is one, else the matrix's own. Assumes nothing.
 use mathlib.Core.Path.{◌∙◌}
-use borrow.Author.Rules.{rules}
 use Rattle.triangular_passes.proofs.Given.{own_stands}
 use Rattle.solve.proofs.zero_divisor.Goals as goal
 

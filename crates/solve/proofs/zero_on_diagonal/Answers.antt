@@ -1,5 +1,4 @@
 -- Some column is dead. Assumes nothing.
-use borrow.Author.Rules.{rules}
 use Rattle.solve.specs.Calls.{zero_on_diagonal}
 use Rattle.solve.proofs.zero_on_diagonal.Goals as goal
 

@@ -1,5 +1,4 @@
 -- Each arm's own block. Assumes nothing.
-use borrow.Author.Rules.{rules}
 use Rattle.solve_by_rows.proofs.four_rows.Goals as goal
 
 pub returns-then-upward : goal.returns-then-upward

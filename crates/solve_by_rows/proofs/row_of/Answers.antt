@@ -1,5 +1,4 @@
 -- By the direction. Assumes nothing.
-use borrow.Author.Rules.{rules}
 use Rattle.solve_by_rows.specs.Rows.{row_of}
 use Rattle.solve_by_rows.proofs.row_of.Goals as goal
 

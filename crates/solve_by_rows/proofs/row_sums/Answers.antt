@@ -1,5 +1,4 @@
 -- After k turns of the loop, v holds the sums over these turns. Assumes nothing.
-use denote.Slice.{shr_slice_at}
 use Prim.Native.Nat.{◌+◌, ◌-◌, ◌*◌, ◌≤◌, ◌<◌}
 use mathlib.Core.Path.{◌≡◌, ap, ap₂, ◌∙◌}
 use native.Mathlib.Omega.{arith}

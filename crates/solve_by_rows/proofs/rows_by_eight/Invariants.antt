@@ -1,14 +1,10 @@
 -- The turns that are left from turn k on, on what the column holds then, give all from `from` on; none is left when fewer than eight are. Assumes nothing.
 use Prim.Native.Nat.{◌-◌, ◌%◌, ◌≤◌}
-use mathlib.Core.Path.{◌≡◌, refl, sym, ◌∙◌}
-use native.Mathlib.Omega.{arith}
+use mathlib.Core.Path.{◌≡◌}
 use lib.ListN.{length}
 use Rattle.numbers.specs.Each.{turns_from}
-use Rattle.numbers.proofs.Each.{turns_done}
 use Rattle.store.specs.Columns.{columns}
-use Rattle.store.proofs.Columns.{sized}
 use Rattle.solve_by_rows.specs.Rows.{row_done}
-use Rattle.solve_by_rows.proofs.Rows.{turns_by}
 use Rattle.solve_by_rows.proofs.rows_by_eight.Given as goal
 
 abbrev pub invariant-loop-k : goal.invariant-loop-k

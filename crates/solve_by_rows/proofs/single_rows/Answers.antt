@@ -1,9 +1,7 @@
 -- The turns that are left from turn k on, on what the column holds then, give all of them. Assumes nothing.
-use Prim.Native.Nat.{◌-◌, ◌≤◌}
-use mathlib.Core.Path.{◌≡◌, refl, sym, ◌∙◌}
+use Prim.Native.Nat.{◌-◌}
+use mathlib.Core.Path.{refl, sym, ◌∙◌}
 use native.Mathlib.Omega.{arith}
-use lib.ListN.{length}
-use Rattle.numbers.specs.Each.{turns_from}
 use Rattle.numbers.proofs.Each.{turns_begin}
 use Rattle.store.specs.Columns.{columns}
 use Rattle.store.proofs.Columns.{sized}

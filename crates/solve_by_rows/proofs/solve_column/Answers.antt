@@ -1,7 +1,6 @@
 -- What is left after the single rows, and then after the fours, gives all turns, and these give the solved column (`rows_solve`), since the slice holds
 -- doubles. Assumes nothing.
 use mathlib.Core.Path.{◌∙◌}
-use borrow.Author.Rules.{rules}
 use Rattle.store.specs.Columns.{columns}
 use Rattle.store.proofs.Columns.{sized}
 use Rattle.solve_by_rows.proofs.Same.{rows_solve}

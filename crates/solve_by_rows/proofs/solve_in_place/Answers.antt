@@ -1,14 +1,11 @@
 -- The loop over the right-hand columns (`InPlace` of `solve`). Assumes nothing.
-use Prim.Native.Nat.{◌+◌, ◌-◌, ◌*◌, ◌≤◌}
+use Prim.Native.Nat.{◌+◌, ◌*◌, ◌≤◌}
 use mathlib.Core.Path.{◌≡◌, sym, ◌∙◌}
 use mathlib.Core.Bool.{true}
 use native.Mathlib.Omega.{arith}
-use borrow.Author.Rules.{rules}
-use borrow.Author.Tests.{not-true, not-false}
 use lib.ListN.{length}
 use Rattle.store.specs.Columns.{is_matrix}
-use Rattle.triangular_passes.proofs.InPlace.{Left, left_all, left_within, left_rows, left_turn, left_none, no_matrix, no_sides}
-use Rattle.solve_by_rows.specs.Rows.{pass_of}
+use Rattle.triangular_passes.proofs.InPlace.{left_all, left_within, left_rows, left_turn, left_none, no_matrix, no_sides}
 use Rattle.solve_by_rows.proofs.solve_in_place.Goals.{Else-not-is_matrix, Else-not-is_matrix-2, In-loop-j}
 use Rattle.solve_by_rows.proofs.solve_in_place.Goals as goal
 

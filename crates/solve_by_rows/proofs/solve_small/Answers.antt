@@ -1,7 +1,6 @@
 -- Each size is two blocks, by the laws over the size (`One`). Assumes nothing.
 use mathlib.Core.Path.{refl, ◌∙◌}
 use native.Mathlib.Omega.{arith}
-use borrow.Author.Rules.{rules}
 use Rattle.solve_by_rows.proofs.One.{whole_may, both_blocks}
 use Rattle.solve_by_rows.proofs.solve_small.Goals as goal
 

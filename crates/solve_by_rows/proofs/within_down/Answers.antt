@@ -1,14 +1,11 @@
 -- The turns that are left from turn p on, on what v holds then, give the block solved. Assumes nothing.
-use Prim.Native.Nat.{◌+◌, ◌-◌, ◌*◌, ◌≤◌, ◌<◌}
-use mathlib.Core.Bool.{false}
-use mathlib.Core.Path.{◌≡◌, refl, sym, ◌∙◌}
+use Prim.Native.Nat.{◌+◌, ◌*◌, ◌≤◌, ◌<◌}
+use mathlib.Core.Path.{refl, sym, ◌∙◌}
 use native.Mathlib.Omega.{arith}
 use lib.ListN.{length}
-use Rattle.numbers.specs.Each.{turns_from}
 use Rattle.numbers.proofs.Each.{turns_begin, turns_next, turns_done}
-use Rattle.store.specs.Columns.{columns}
 use Rattle.store.proofs.Columns.{sized, column_within}
-use Rattle.solve_by_rows.specs.Rows.{block_of, column_turn, solved_within}
+use Rattle.solve_by_rows.specs.Rows.{solved_within}
 use Rattle.solve_by_rows.proofs.Blocks.{down_turn}
 use Rattle.solve_by_rows.proofs.within_down.Goals.{In-loop-p}
 use Rattle.solve_by_rows.proofs.within_down.Goals as goal

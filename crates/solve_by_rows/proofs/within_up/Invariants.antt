@@ -1,15 +1,11 @@
 -- The turns that are left from turn k on, on what v holds then, give the block solved. Assumes nothing.
-use Prim.Native.Nat.{◌+◌, ◌-◌, ◌*◌, ◌≤◌, ◌<◌}
+use Prim.Native.Nat.{◌-◌}
 use mathlib.Core.Bool.{true}
-use mathlib.Core.Path.{◌≡◌, refl, sym, ◌∙◌}
-use native.Mathlib.Omega.{arith}
-use lib.ListN.{length, length-set, length-take, length-drop, length-append}
+use mathlib.Core.Path.{◌≡◌}
+use lib.ListN.{length}
 use Rattle.numbers.specs.Each.{turns_from}
-use Rattle.numbers.proofs.Each.{turns_begin, turns_next, turns_done}
 use Rattle.store.specs.Columns.{columns}
-use Rattle.store.proofs.Columns.{sized, column_within}
 use Rattle.solve_by_rows.specs.Rows.{block_of, column_turn, solved_within}
-use Rattle.solve_by_rows.proofs.Blocks.{up_turn}
 use Rattle.solve_by_rows.proofs.within_up.Given as goal
 
 abbrev pub invariant-loop-k : goal.invariant-loop-k

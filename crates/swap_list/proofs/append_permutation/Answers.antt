@@ -1,7 +1,6 @@
 -- By the refusal, and by the test for two different numbers, which have their place in the store where they are not refused. Assumes nothing.
 use mathlib.Core.Path.{sym, ◌∙◌}
 use native.Mathlib.Omega.{arith}
-use borrow.Author.Rules.{rules}
 use lib.ListN.{length-set}
 use Rattle.swap_list.specs.SwapList.{with_pair}
 use Rattle.swap_list.proofs.Appending.{room, outcome_refused, outcome_same, outcome_pair}

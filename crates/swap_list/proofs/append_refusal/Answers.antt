@@ -1,5 +1,4 @@
 -- The tests one within the other, as the definition has them. Assumes nothing.
-use borrow.Author.Rules.{rules}
 use Rattle.refusals.specs.Outcome.{first_holding}
 use Rattle.swap_list.specs.Appending.{appending_refusal}
 use Rattle.swap_list.proofs.append_refusal.Goals as goal

@@ -1,12 +1,10 @@
 -- Those before pair k being good or not, what is left to test from there on gives the whole answer. Assumes nothing.
-use Prim.Native.Nat.{◌-◌, ◌*◌}
-use mathlib.Core.Path.{◌≡◌, refl, ◌∙◌}
-use mathlib.Core.Bool.{◌&&◌}
+use Prim.Native.Nat.{◌*◌}
+use mathlib.Core.Path.{refl, ◌∙◌}
 use native.Mathlib.Omega.{arith}
-use borrow.Author.Rules.{rules}
 use borrow.Author.Tests.{le-leb, lt-leb}
-use lib.ListN.{length, drop}
-use Rattle.swap_list.specs.SwapList.{pairs_of, holds, good_pairs, good_list}
+use lib.ListN.{length}
+use Rattle.swap_list.specs.SwapList.{holds, good_list}
 use Rattle.swap_list.proofs.SwapList.{good_turn, good_end}
 use Rattle.swap_list.proofs.is_good_list.Goals as goal
 

@@ -1,13 +1,9 @@
 -- Those before pair k being good or not, what is left to test from there on gives the whole answer. Assumes nothing.
-use Prim.Native.Nat.{◌-◌, ◌*◌}
-use mathlib.Core.Path.{◌≡◌, refl, ◌∙◌}
+use Prim.Native.Nat.{◌-◌}
+use mathlib.Core.Path.{◌≡◌}
 use mathlib.Core.Bool.{◌&&◌}
-use native.Mathlib.Omega.{arith}
-use borrow.Author.Rules.{rules}
-use borrow.Author.Tests.{le-leb, lt-leb}
-use lib.ListN.{length, drop}
-use Rattle.swap_list.specs.SwapList.{pairs_of, holds, good_pairs, good_list}
-use Rattle.swap_list.proofs.SwapList.{good_turn, good_end}
+use lib.ListN.{drop}
+use Rattle.swap_list.specs.SwapList.{pairs_of, good_pairs}
 use Rattle.swap_list.proofs.is_good_list.Given as goal
 
 abbrev pub invariant-loop-k : goal.invariant-loop-k

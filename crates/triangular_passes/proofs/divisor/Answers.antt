@@ -1,5 +1,4 @@
 -- The given diagonal where there is one, else the matrix's own. Assumes nothing.
-use borrow.Author.Rules.{rules}
 use Rattle.triangular_passes.proofs.Given.{own_stands}
 use Rattle.triangular_passes.proofs.divisor.Goals as goal
 

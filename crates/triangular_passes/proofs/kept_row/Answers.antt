@@ -1,5 +1,4 @@
 -- The quotient drives the update. Assumes nothing.
-use borrow.Author.Rules.{rules}
 use Rattle.triangular_passes.specs.Triangular.{kept_row}
 use Rattle.triangular_passes.proofs.kept_row.Goals as goal
 

@@ -1,6 +1,5 @@
 -- The rows below row i are the rest of each slice. Assumes nothing.
 use mathlib.Core.Path.{ap₂, ◌∙◌}
-use borrow.Author.Rules.{rules}
 use Rattle.blas.specs.Dot.{dot_of}
 use Rattle.triangular_passes.proofs.Turns.{rest_part}
 use Rattle.triangular_passes.proofs.less_below.Goals as goal

@@ -1,6 +1,5 @@
 -- The quotient is stored, and drives the update. Assumes nothing.
 use mathlib.Core.Path.{◌∙◌}
-use borrow.Author.Rules.{rules}
 use lib.ListN.{length-set}
 use Rattle.triangular_passes.specs.Triangular.{lower_row}
 use Rattle.triangular_passes.proofs.lower_row.Goals as goal

@@ -1,5 +1,4 @@
 -- Each kind's direction. Assumes nothing.
-use borrow.Author.Rules.{rules}
 use Rattle.triangular_passes.proofs.row_at.Goals as goal
 
 pub returns-in-Upper : goal.returns-in-Upper

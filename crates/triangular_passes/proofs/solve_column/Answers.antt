@@ -1,13 +1,8 @@
 -- The turns that are left from turn k on, on what the column holds then, give the solved column. Assumes nothing.
-use Prim.Native.Nat.{◌+◌, ◌-◌}
-use mathlib.Core.Path.{◌≡◌, sym, ◌∙◌}
-use native.Mathlib.Omega.{arith}
-use borrow.Author.Rules.{rules}
-use lib.ListN.{length}
-use Rattle.numbers.specs.Each.{turns_from}
+use mathlib.Core.Path.{sym, ◌∙◌}
 use Rattle.numbers.proofs.Each.{turns_begin, turns_next, turns_done}
 use Rattle.store.specs.Columns.{columns}
-use Rattle.triangular_passes.specs.Triangular.{turns_of, turn, solved_column}
+use Rattle.triangular_passes.specs.Triangular.{turn, solved_column}
 use Rattle.triangular_passes.proofs.solve_column.Goals as goal
 
 pub loop-k-init : goal.loop-k-init

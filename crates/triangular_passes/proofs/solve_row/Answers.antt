@@ -1,5 +1,4 @@
 -- Each kind's own work, by the divisor. Assumes nothing.
-use borrow.Author.Rules.{rules}
 use Rattle.triangular_passes.proofs.Turns.{row_done}
 use Rattle.triangular_passes.proofs.solve_row.Goals as goal
 

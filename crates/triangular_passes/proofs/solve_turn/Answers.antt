@@ -1,13 +1,9 @@
 -- One of the three tests fails, or the turn is taken. Assumes nothing.
-use mathlib.Core.Path.{◌≡◌, sym, ap, ◌∙◌}
-use mathlib.Core.Bool.{true, ◌&&◌}
-use Prim.Native.Nat.{◌<◌}
-use borrow.Author.Rules.{rules}
-use borrow.Author.Tests.{not-true, not-false, eq-eqb, ne_eqb, lt-ltb, le-ltb}
-use lib.ListN.{length}
-use Rattle.numbers.proofs.Choice.{and_both}
+use mathlib.Core.Path.{◌≡◌, sym, ◌∙◌}
+use mathlib.Core.Bool.{true}
+use borrow.Author.Tests.{eq-eqb, ne_eqb, lt-ltb, le-ltb}
 use Rattle.store.specs.Columns.{is_matrix}
-use Rattle.triangular_passes.specs.Triangular.{turns_of, turned_by}
+use Rattle.triangular_passes.specs.Triangular.{turned_by}
 use Rattle.triangular_passes.proofs.solve_turn.Goals as goal
 
 pub returns-then-not-is_matrix : goal.returns-then-not-is_matrix

@@ -2,7 +2,6 @@
 use mathlib.Core.Path.{refl}
 use Prim.Native.Nat.{◌+◌, ◌*◌, ◌≤◌, ◌<◌}
 use native.Mathlib.Omega.{arith}
-use borrow.Author.Rules.{rules}
 use lib.ListN.{length}
 use Rattle.store.proofs.Columns.{column_within, column_length, sized}
 use Rattle.triangular_passes.proofs.Turns.{turns_most, turn_row, turn_done}

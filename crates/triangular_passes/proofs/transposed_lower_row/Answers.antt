@@ -1,5 +1,4 @@
 -- The difference, divided, is stored. Assumes nothing.
-use borrow.Author.Rules.{rules}
 use Rattle.triangular_passes.specs.Triangular.{transposed_lower_row}
 use Rattle.triangular_passes.proofs.transposed_lower_row.Goals as goal
 

@@ -1,5 +1,4 @@
 -- The difference is stored. Assumes nothing.
-use borrow.Author.Rules.{rules}
 use Rattle.triangular_passes.specs.Triangular.{transposed_unit_lower_row}
 use Rattle.triangular_passes.proofs.transposed_unit_lower_row.Goals as goal
 

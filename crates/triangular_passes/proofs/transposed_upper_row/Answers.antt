@@ -1,7 +1,6 @@
 -- The difference, divided, is stored. Assumes nothing.
 use native.Mathlib.Omega.{arith}
 use lib.ListN.{length-take}
-use borrow.Author.Rules.{rules}
 use Rattle.triangular_passes.specs.Triangular.{transposed_upper_row}
 use Rattle.triangular_passes.proofs.transposed_upper_row.Goals as goal
 

@@ -1,6 +1,5 @@
 -- All but the last row where a given diagonal leaves the entries undivided, else all. Assumes nothing.
 use native.Mathlib.Omega.{arith}
-use borrow.Author.Rules.{rules}
 use Rattle.triangular_passes.proofs.Given.{all_turns}
 use Rattle.triangular_passes.proofs.turns_of.Goals as goal
 

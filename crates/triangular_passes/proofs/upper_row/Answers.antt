@@ -1,6 +1,5 @@
 -- The quotient is stored, and drives the update of the rows above, which are lent as a part. Assumes nothing.
 use native.Mathlib.Omega.{arith}
-use borrow.Author.Rules.{rules}
 use lib.ListN.{length-set, length-take, length-drop, length-append}
 use Rattle.triangular_passes.specs.Triangular.{upper_row}
 use Rattle.triangular_passes.proofs.upper_row.Goals as goal

@@ -1,7 +1,6 @@
 -- By the four packed numbers (`live_found`). Assumes nothing.
 use Prim.Native.Nat.{◌*◌, ◌+◌, ◌≤◌}
 use native.Mathlib.Omega.{arith}
-use borrow.Author.Rules.{rules}
 use lib.ListN.{length}
 use Rattle.store.proofs.Columns.{sized, column_within}
 use Rattle.updates.proofs.Updates.{live_found}

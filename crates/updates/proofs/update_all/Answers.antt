@@ -2,8 +2,6 @@
 use Prim.Native.Nat.{◌+◌, ◌-◌, ◌≤◌, ◌<◌, min}
 use mathlib.Core.Path.{◌≡◌, refl, sym, ap, ◌∙◌}
 use native.Mathlib.Omega.{arith}
-use borrow.Author.Rules.{rules}
-use lib.ListN.{length}
 use Rattle.numbers.specs.Each.{turns_from}
 use Rattle.numbers.proofs.Each.{turns_done}
 use Rattle.store.specs.Columns.{columns}

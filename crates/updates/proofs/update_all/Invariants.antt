@@ -1,15 +1,10 @@
 -- The updates that are left from column i on give the whole; a turn makes the next four of them, or those that are left. Assumes nothing.
-use Prim.Native.Nat.{◌+◌, ◌-◌, ◌≤◌, ◌<◌, min}
-use mathlib.Core.Path.{◌≡◌, refl, sym, ap, ◌∙◌}
-use native.Mathlib.Omega.{arith}
-use borrow.Author.Rules.{rules}
+use Prim.Native.Nat.{◌+◌, ◌-◌, min}
+use mathlib.Core.Path.{◌≡◌}
 use lib.ListN.{length}
 use Rattle.numbers.specs.Each.{turns_from}
-use Rattle.numbers.proofs.Each.{turns_done}
 use Rattle.store.specs.Columns.{columns}
-use Rattle.store.proofs.Columns.{sized, same_matrix}
 use Rattle.updates.specs.Updates.{updated_at}
-use Rattle.elimination.proofs.Step.{turns_join}
 use Rattle.updates.proofs.update_all.Given as goal
 
 abbrev pub invariant-loop-i : goal.invariant-loop-i

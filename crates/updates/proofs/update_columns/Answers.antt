@@ -4,8 +4,6 @@ use mathlib.Core.Bool.{true}
 use mathlib.Core.Logic.{inl, inr}
 use Prim.Native.Nat.{◌≤◌, min}
 use native.Mathlib.Omega.{arith}
-use borrow.Author.Rules.{rules}
-use borrow.Author.Tests.{not-true, not-false}
 use Rattle.store.specs.Columns.{is_matrix}
 use Rattle.store.proofs.Columns.{on_none, on_done}
 use Rattle.updates.proofs.Updates.{not_updated, none_updated, updated_is}

@@ -1,16 +1,12 @@
 -- The columns that are left from column j on give the whole; those of the panel stay. Assumes nothing.
 use Prim.Native.Nat.{ℕ, ◌+◌, ◌-◌, ◌≤◌, ◌<◌}
-use mathlib.Core.Path.{◌≡◌, refl, sym, ◌∙◌}
-use native.Mathlib.Omega.{arith}
-use borrow.Author.Rules.{rules}
+use mathlib.Core.Path.{◌≡◌}
 use lib.ListN.{length}
 use Rattle.numbers.specs.Each.{each_from, turns_from}
 use Rattle.store.specs.Columns.{columns}
 use Rattle.store.specs.Steps.{column}
-use Rattle.store.proofs.Columns.{sized, same_matrix, column_stop}
 use Rattle.elimination.specs.Adding.{update}
 use Rattle.updates.specs.Updates.{after_panel}
-use Rattle.updates.proofs.Updates.{panel_stays, panel_turn}
 use Rattle.updates.proofs.update_columns_each.Given as goal
 
 abbrev pub invariant-loop-j : goal.invariant-loop-j

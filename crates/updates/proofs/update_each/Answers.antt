@@ -1,12 +1,7 @@
 -- The updates that are left from column i on give the whole. Assumes nothing.
-use Prim.Native.Nat.{◌-◌}
-use mathlib.Core.Path.{◌≡◌, refl, sym, ◌∙◌}
+use mathlib.Core.Path.{refl, sym, ◌∙◌}
 use native.Mathlib.Omega.{arith}
-use borrow.Author.Rules.{rules}
-use lib.ListN.{length}
-use Rattle.numbers.specs.Each.{turns_from}
 use Rattle.numbers.proofs.Each.{turns_next, turns_done}
-use Rattle.store.specs.Columns.{columns}
 use Rattle.store.proofs.Columns.{sized, same_matrix}
 use Rattle.updates.specs.Updates.{updated_at}
 use Rattle.updates.proofs.update_each.Goals as goal

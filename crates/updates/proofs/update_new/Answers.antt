@@ -3,7 +3,6 @@
 use Prim.Native.Nat.{◌+◌, ◌-◌}
 use mathlib.Core.Path.{◌≡◌, sym, ap, ◌∙◌}
 use native.Mathlib.Omega.{arith}
-use borrow.Author.Rules.{rules}
 use Rattle.numbers.specs.Each.{turns_from}
 use Rattle.store.specs.Columns.{columns}
 use Rattle.store.proofs.Columns.{sized, length_columns}

@@ -1,7 +1,6 @@
 -- By the tests whether it is four steps and all were made: at once (`four_done`), or one by one. Assumes nothing.
 use mathlib.Core.Path.{sym, ap, ◌∙◌}
 use native.Mathlib.Omega.{arith}
-use borrow.Author.Rules.{rules}
 use Rattle.store.specs.Columns.{columns}
 use Rattle.updates.specs.Updates.{after_panel}
 use Rattle.updates.proofs.Updates.{four_done}

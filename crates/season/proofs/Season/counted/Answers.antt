@@ -10,9 +10,9 @@ unfolding counted share_told
 returns-in-Crossing c =
     rw (
       c.in-Crossing.is,
-      c.wrapping_add_usize-files.ensures,
-      c.wrapping_add_usize.ensures,
-      c.wrapping_add_usize-in-Crossing.ensures,
+      c.wrapping_add_usize-files.ensures.value,
+      c.wrapping_add_usize.ensures.value,
+      c.wrapping_add_usize-in-Crossing.ensures.value,
       c.one_more_band.ensures,
     )
 
@@ -22,4 +22,4 @@ overflow_sub-number c = some_number _ c.in-Refused.number c.requires c.in-Refuse
 
 pub returns-in-Refused : goal.returns-in-Refused
 unfolding counted share_told
-returns-in-Refused c = rw (c.in-Refused.is, c.wrapping_add_usize-files.ensures, c.one_more_refused.ensures)
+returns-in-Refused c = rw (c.in-Refused.is, c.wrapping_add_usize-files.ensures.value, c.one_more_refused.ensures)
