@@ -337,6 +337,10 @@ def as_record(body, fields):
             if more is None:
                 break
             items = items[:-1] + more
+        if len(items) < len(fields):
+            last_item, more = items[-1], len(fields) - len(items) + 1
+            whole = f"({last_item})" if " " in last_item else last_item
+            items = items[:-1] + [f"{whole}{'.1' * k}{'.0' if k < more - 1 else ''}" for k in range(more)]
         if len(items) > len(fields):
             items = items[: len(fields) - 1] + ["(" + ", ".join(items[len(fields) - 1:]) + ")"]
     if items is not None and len(items) == len(fields):

@@ -20,7 +20,7 @@ use Rattle.store.proofs.Columns.{sized, is_matrix_lem, columns_rows, columns_spl
 use Rattle.dead_columns.proofs.Dead.{dead_none}
 use Rattle.refusals.specs.Outcome.{done, refused, number_of, and_then}
 use Rattle.factors.specs.declared.Record.{Record}
-use Rattle.factors.specs.Factors.{numbers_of, store_of, record_of, record_for, slices, Factoring}
+use Rattle.factors.specs.Factors.{numbers_of, store_of, record_of, record_for, Factoring}
 use Rattle.elimination.specs.Elimination.{unfactored, eliminate}
 use Rattle.elimination.specs.TossUps.{toss_ups, own_toss_up}
 use Rattle.elimination.proofs.Tossing.{toss_most, toss_empty}

@@ -1,7 +1,6 @@
 -- The number of dead columns stays true (document 02, request 7): after an accepted adding or removing it is that of the factors that were left, for any
 -- factors that pass the tests, not only for those that factoring gave. By what the calls make. Assumes nothing.
-use mathlib.Core.Path.{◌≡◌, refl, sym, ap, ◌∙◌}
-use mathlib.Core.Bool.{true, false, cond}
+use mathlib.Core.Path.{◌≡◌, sym, ap, ◌∙◌}
 use mathlib.Core.List.{List, [], ◌∷◌, ◌++◌}
 use Prim.Native.Nat.{ℕ, ◌+◌, ◌-◌, ◌*◌}
 use lib.ListN.{length, take}
@@ -13,8 +12,8 @@ use Rattle.store.specs.Steps.{Matrix, column, swap_in_all}
 use Rattle.store.proofs.Columns.{sized, columns_flat, columns_front, columns_snoc, length_columns, length_flat}
 use Rattle.store.proofs.Steps.{length_swap_in_all, rows_swap_in_all}
 use Rattle.dead_columns.specs.Dead.{dead_in}
-use Rattle.refusals.specs.Outcome.{done, refused, number_of, leaving}
-use Rattle.refusals.proofs.Outcomes.{tested_none, none_given}
+use Rattle.refusals.specs.Outcome.{done, number_of}
+use Rattle.refusals.proofs.Outcomes.{none_given}
 use Rattle.refusals.proofs.Cases.{done_same, never_both}
 use Rattle.factors.specs.declared.Record.{Record}
 use Rattle.factors.specs.Factors.{Factors, record_for, factors_in, slices, Factoring}

@@ -4,14 +4,14 @@
 use mathlib.Core.Path.{◌≡◌, refl, sym, ap, ◌∙◌}
 use mathlib.Core.Bool.{true, false}
 use mathlib.Core.List.{List, ◌++◌}
-use Prim.Native.Nat.{ℕ, ◌+◌, ◌-◌, ◌*◌, ◌≤◌, ◌<◌, min}
+use Prim.Native.Nat.{ℕ, ◌+◌, ◌-◌, ◌*◌, ◌≤◌, min}
 use native.Mathlib.Nat.{suc-mul}
 use native.Mathlib.Numerals.{add-one}
 use native.Mathlib.Omega.{arith}
 use borrow.Author.Tests.{le-leb}
 use lib.ListN.{length, take, drop, replicate, length-replicate, length-drop, take-append-drop}
 use lib.Seq.{take_at}
-use Rattle.numbers.specs.Column.{Column, entry, zeros}
+use Rattle.numbers.specs.Column.{Column, zeros}
 use Rattle.store.specs.Columns.{columns, flat}
 use Rattle.store.proofs.Columns.{sized, is_matrix_lem, columns_rows, columns_flat, columns_snoc}
 use Rattle.dead_columns.specs.Dead.{dead_in}

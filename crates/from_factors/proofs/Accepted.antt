@@ -8,7 +8,6 @@ use Prim.Native.Nat.{ℕ, ◌≤◌, min}
 use native.Mathlib.Omega.{arith}
 use borrow.Author.Tests.{eq-eqb}
 use lib.Dec.{eqb}
-use lib.ListN.{length}
 use Rattle.numbers.specs.Column.{Column}
 use Rattle.numbers.proofs.Choice.{test_cases}
 use Rattle.store.specs.Columns.{columns, flat}

@@ -1,25 +1,20 @@
 -- The number of dead columns (document 02, request 7) says what the diagonal says, once it has been compared: the invertible test answers whether no zero
 -- stands there, and refusal 6 is given exactly where one does. By the tests in their order. Assumes nothing.
 use mathlib.Core.Path.{◌≡◌, refl, sym, ap, ◌∙◌}
-use mathlib.Core.Logic.{◌↔◌}
-use mathlib.Core.Bool.{Bool, true, false, not, ◌&&◌, ◌||◌}
-use mathlib.Core.List.{List, [], ◌∷◌, ◌++◌}
+use mathlib.Core.Bool.{Bool, true, false, not, ◌&&◌}
+use mathlib.Core.List.{List, [], ◌∷◌}
 use Prim.Native.Nat.{ℕ, suc}
 use native.Mathlib.Omega.{arith}
-use borrow.Author.Tests.{eqb-true, eqb-false, ne_eqb, not-true, not-false}
+use borrow.Author.Tests.{eqb-true, eqb-false}
 use lib.Dec.{eqb}
 use lib.ListN.{take}
 use Rattle.numbers.specs.Column.{Column}
-use Rattle.finite.specs.Finite.{all_finite}
 use Rattle.numbers.proofs.Choice.{test_cases}
-use Rattle.store.specs.Columns.{columns, is_matrix}
-use Rattle.dead_columns.specs.Dead.{dead_in, dead_of}
+use Rattle.dead_columns.specs.Dead.{dead_of}
 use Rattle.dead_columns.proofs.Dead.{held_dead}
-use Rattle.refusals.specs.Outcome.{done, refused, first_holding, tested}
-use Rattle.refusals.specs.Refusals.{outside}
+use Rattle.refusals.specs.Outcome.{done, refused, first_holding}
 use Rattle.refusals.proofs.Outcomes.{Numbered, none_first, tested_none, tested_some}
 use Rattle.refusals.proofs.Cases.{Each, first_among, first_behind}
-use Rattle.swap_list.specs.SwapList.{good_list}
 use Rattle.solve.specs.Calls.{zero_on_diagonal}
 use Rattle.factors.specs.declared.Record.{Record}
 use Rattle.factors.specs.declared.Asks.{Asks}

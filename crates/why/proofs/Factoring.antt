@@ -2,7 +2,7 @@
 -- is worked on once more. By the cases of the call. Assumes nothing.
 use mathlib.Core.Path.{◌≡◌, refl, sym, ap, ◌∙◌}
 use mathlib.Core.Bool.{true}
-use mathlib.Core.List.{List, []}
+use mathlib.Core.List.{List}
 use mathlib.Core.Option.{Option, none, some}
 use Prim.Native.Nat.{ℕ, suc, ◌*◌, ◌<◌, min}
 use native.Mathlib.Omega.{arith}
@@ -17,7 +17,7 @@ use Rattle.store.proofs.Columns.{sized, flat_columns, length_columns}
 use Rattle.store.proofs.First.{FirstIn}
 use Rattle.blas.specs.Blas.{copied}
 use Rattle.blas.proofs.Rows.{copied_whole}
-use Rattle.refusals.specs.Outcome.{Outcome, done, refused, number_of, first_holding, tested, leaving}
+use Rattle.refusals.specs.Outcome.{Outcome, done, refused, number_of, leaving}
 use Rattle.refusals.proofs.Outcomes.{tested_none, tested_some}
 use Rattle.refusals.proofs.Cases.{first_among, never_both}
 use Rattle.factors.specs.declared.Record.{Record}

@@ -1,13 +1,12 @@
 -- A pass over the right-hand columns, one after another: what is left from column j on gives the first result that is not finite, and the solved columns.
 -- Assumes nothing.
 use mathlib.Core.Path.{◌≡◌, refl, sym, ap, ◌∙◌}
-use mathlib.Core.Bool.{Bool, true, false}
-use mathlib.Core.List.{List, [], ◌∷◌}
+use mathlib.Core.Bool.{Bool}
+use mathlib.Core.List.{[]}
 use mathlib.Core.Option.{Option, none, some, or_else}
-use Prim.Native.Nat.{ℕ, zero, suc, ◌+◌, ◌-◌, ◌*◌, ◌≤◌, ◌<◌}
+use Prim.Native.Nat.{ℕ, zero, suc, ◌+◌, ◌≤◌, ◌<◌}
 use native.Mathlib.Numerals.{add-one}
 use native.Mathlib.Omega.{arith}
-use borrow.Rule.Slice.PartMut.{mid_of, put_mid}
 use lib.ListN.{length, set, drop, drop_of_length-le}
 use lib.Seq.{get_or-drop, drop-drop, drop-set-lt}
 use Rattle.numbers.specs.Each.{each_from}
@@ -16,13 +15,11 @@ use Rattle.numbers.specs.Column.{Column}
 use Rattle.numbers.proofs.Choice.{test_cases}
 use Rattle.numbers.proofs.Each.{each_stop, each_step}
 use Rattle.numbers.proofs.Walk.{drop_next}
-use Rattle.store.specs.Columns.{columns}
 use Rattle.store.specs.Steps.{Matrix, column}
-use Rattle.store.proofs.Columns.{length_columns}
 use Rattle.triangular_passes.specs.declared.Pass.{Pass}
 use Rattle.triangular_passes.specs.Triangular.{turns_of, turn, solved_column, solved_from}
 use Rattle.solve.specs.Reason.{Stored, first_in_column, first_in_pass}
-use Rattle.why.specs.Inner.{pass_of, stored_at, Turned}
+use Rattle.why.specs.Inner.{stored_at}
 
 -- ---- the first turn, under another name of what it tells
 first_map : {S R T : Type 0} (g : R → T) (test : S → Bool) (told : ℕ → S → R) (else : R) (f : ℕ → S → S) (i c : ℕ) (s : S)

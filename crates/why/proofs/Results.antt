@@ -3,17 +3,17 @@
 use mathlib.Core.Path.{◌≡◌, refl, sym, ap, ◌∙◌}
 use mathlib.Core.Bool.{true, false, true≢false}
 use mathlib.Core.List.{List, [], ◌∷◌, ◌++◌}
-use mathlib.Core.Option.{Option, none, some, or_else}
+use mathlib.Core.Option.{none, some, or_else}
 use Prim.Native.Nat.{ℕ, zero, suc, ◌+◌, ◌≤◌, ◌<◌}
 use native.Mathlib.Nat.{le_of_suc-le-suc, not-suc-le-zero, add-zero}
 use native.Mathlib.Omega.{arith}
 use lib.ListN.{length, get_or, drop, drop_of_length-le}
-use lib.Ieee.{Float, nan}
+use lib.Ieee.{nan}
 use lib.Ieee.Scale.{finite}
 use Rattle.numbers.specs.First.{first_failing}
 use Rattle.numbers.specs.Column.{Column, entry}
 use Rattle.numbers.proofs.Walk.{drop_next}
-use Rattle.numbers.proofs.Choice.{test_cases, cond_cases}
+use Rattle.numbers.proofs.Choice.{test_cases}
 use Rattle.numbers.proofs.First.{failing_before, failing_fails}
 use Rattle.finite.specs.Finite.{all_finite}
 use Rattle.finite.proofs.Finite.{finite_entry, entries_finite}

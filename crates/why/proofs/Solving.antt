@@ -1,17 +1,16 @@
 -- The explanation of a solve: what its two passes store, by the reason that stands in from_factors/specs/Reason; and from what `solve` answered: accepted and
 -- no result overflows; refused by its tests; or refused with 7, and then the sides are worked on once more. By the cases of the call. Assumes nothing.
-use mathlib.Core.Path.{◌≡◌, refl, sym, ap, ◌∙◌}
-use mathlib.Core.Bool.{true, false, cond}
-use mathlib.Core.List.{List, [], ◌++◌}
+use mathlib.Core.Path.{◌≡◌, sym, ap, ◌∙◌}
+use mathlib.Core.Bool.{true}
+use mathlib.Core.List.{[]}
 use mathlib.Core.Logic.{⊎_elim}
-use mathlib.Core.Option.{Option, none, some, or_else, map}
-use Prim.Native.Nat.{ℕ, ◌*◌, ◌≤◌, ◌<◌}
+use mathlib.Core.Option.{none, some, or_else, map}
+use Prim.Native.Nat.{ℕ, ◌<◌}
 use native.Mathlib.Omega.{arith}
 use lib.ListN.{length}
 use Rattle.numbers.specs.Numbers.{one64}
-use Rattle.numbers.specs.Column.{Column}
 use Rattle.finite.specs.Finite.{all_finite}
-use Rattle.numbers.proofs.Each.{length_each, each_at}
+use Rattle.numbers.proofs.Each.{each_at}
 use Rattle.store.specs.Columns.{flat, HasRows}
 use Rattle.store.specs.Steps.{Matrix, column}
 use Rattle.store.proofs.Lasting.{column_finite}
@@ -22,9 +21,8 @@ use Rattle.triangular_passes.specs.declared.Pass.TheVariants.{TransposedLower, T
 use Rattle.triangular_passes.specs.Triangular.{solved_column, solved_from, solved_columns}
 use Rattle.solve.specs.Reason.{Stored, first_in_pass}
 use Rattle.triangular_passes.proofs.Lengths.{solved_rows}
-use Rattle.solve.proofs.Reason.{FirstInPass}
 use Rattle.from_factors.specs.Reason.{swapped_sides, lower_sides, solve_reason}
-use Rattle.from_factors.proofs.Reason.{passes_are, lower_finite, start_rows, start_finite, solve_cases}
+use Rattle.from_factors.proofs.Reason.{passes_are, lower_finite, start_rows, solve_cases}
 use Rattle.why.specs.declared.WhySolve.TheVariants.{NoReason, Overflow}
 use Rattle.why.specs.Results.{first_overflow}
 use Rattle.why.specs.Solving.{Spot, spot_at, lower_results, upper_results, pass_results, solving_results}

@@ -2,40 +2,39 @@
 -- with 7, and then the sides are worked on once more. By the cases of the call. Assumes nothing.
 use mathlib.Core.Path.{◌≡◌, refl, sym, ap, ◌∙◌}
 use mathlib.Core.Bool.{Bool, true, false, not, cond}
-use mathlib.Core.List.{List, []}
+use mathlib.Core.List.{List}
 use mathlib.Core.Logic.{⊎_elim}
 use mathlib.Core.Option.{Option, none, some, map}
 use Prim.Native.Nat.{ℕ, ◌+◌, ◌*◌, ◌≤◌, ◌<◌}
 use native.Mathlib.Omega.{arith}
-use borrow.Author.Tests.{eqb-true, eqb-false, eq-eqb, ne_eqb, not-true}
+use borrow.Author.Tests.{eqb-true, eqb-false, ne_eqb}
 use lib.Dec.{eqb}
 use lib.ListN.{length, take, length-replicate}
 use lib.Seq.{take_all}
-use Rattle.numbers.specs.Numbers.{zero64, one64}
+use Rattle.numbers.specs.Numbers.{zero64}
 use Rattle.numbers.specs.Column.{Column, zeros}
 use Rattle.finite.specs.Finite.{all_finite}
 use Rattle.numbers.proofs.Choice.{test_cases, cond_cases, and_first, and_second}
 use Rattle.numbers.proofs.Each.{length_each}
 use Rattle.store.specs.Columns.{columns, flat, HasRows, is_matrix}
 use Rattle.store.specs.Steps.{Matrix}
-use Rattle.store.proofs.Columns.{sized, columns_rows, length_columns, same_matrix}
+use Rattle.store.proofs.Columns.{sized, columns_rows, length_columns}
 use Rattle.blas.specs.Blas.{copied}
 use Rattle.blas.proofs.Rows.{copied_whole}
 use Rattle.dead_columns.specs.Dead.{dead_from, dead_in, dead_of}
 use Rattle.dead_columns.proofs.Dead.{held_dead}
-use Rattle.refusals.specs.Outcome.{Outcome, done, refused, number_of, first_holding, tested, Call, leaving}
+use Rattle.refusals.specs.Outcome.{number_of, Call, leaving}
 use Rattle.refusals.specs.Refusals.{seventh}
 use Rattle.refusals.proofs.Outcomes.{tested_none, tested_some}
 use Rattle.refusals.proofs.Cases.{first_among}
-use Rattle.swap_list.specs.SwapList.{Swaps, pairs_of, good_list}
+use Rattle.swap_list.specs.SwapList.{pairs_of, good_list}
 use Rattle.solve.specs.Calls.{zero_on_diagonal}
-use Rattle.triangular_passes.specs.declared.Pass.TheVariants.{GivenDiagonal}
-use Rattle.triangular_passes.specs.Triangular.{solved_columns, solved_from}
+use Rattle.triangular_passes.specs.Triangular.{solved_from}
 use Rattle.solve.specs.Reason.{Stored, lowest_zero}
 use Rattle.solve.proofs.Reason.{zero_cases}
 use Rattle.factors.specs.declared.Record.{Record}
 use Rattle.factors.specs.Held.{held_tests, held_refusal}
-use Rattle.factors.proofs.Held.{Passed, passed, same, square_matrix, square_list}
+use Rattle.factors.proofs.Held.{Passed, passed, square_matrix, square_list}
 use Rattle.from_factors.specs.Solving.{solved, solved_all, solved_by, solve_asks, solving}
 use Rattle.from_factors.specs.Reason.{swapped_sides, lower_sides, solve_reason}
 use Rattle.from_factors.proofs.Dead.{before, six_passed, six_zero}

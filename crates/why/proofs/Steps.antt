@@ -1,9 +1,9 @@
 -- What the elimination stores, and where its first number that is not finite stands: step by step, on factors that are finite before it. Outside what a step
 -- stores it leaves finite numbers (`stored`), so the first number of the matrix that is not finite is the first that was stored. Assumes nothing.
 use mathlib.Core.Path.{◌≡◌, refl, sym, ap, ◌∙◌}
-use mathlib.Core.Bool.{true, false, cond}
+use mathlib.Core.Bool.{true, false}
 use mathlib.Core.List.{List, []}
-use mathlib.Core.Option.{Option, none, some, or_else}
+use mathlib.Core.Option.{none, some, or_else}
 use Prim.Native.Nat.{ℕ, zero, suc, ◌+◌, ◌-◌, ◌*◌, ◌/◌, ◌%◌, ◌≤◌, ◌<◌, min}
 use native.Mathlib.Nat.{mul-add-div_right, mul-add-mod_self_right, div-eq_of_lt, mod-eq_of_lt, add-zero}
 use native.Mathlib.Numerals.{add-one}

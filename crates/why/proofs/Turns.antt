@@ -2,9 +2,8 @@
 -- stored result (solve/proofs/Reason). Assumes nothing.
 use mathlib.Core.Path.{◌≡◌, refl, sym, ap, ◌∙◌}
 use mathlib.Core.Bool.{true, false}
-use mathlib.Core.List.{List, [], ◌++◌}
-use mathlib.Core.Logic.{⊎_elim}
-use mathlib.Core.Option.{Option, none, some, or_else, map}
+use mathlib.Core.List.{List, []}
+use mathlib.Core.Option.{none, some, or_else}
 use Prim.Native.Nat.{ℕ, zero, suc, ◌+◌, ◌-◌, ◌≤◌, ◌<◌}
 use native.Mathlib.Nat.{zero-add, add-zero, not-suc-le-zero, le_of_suc-le-suc, lt_of_not-le}
 use native.Mathlib.Omega.{arith}
@@ -22,16 +21,14 @@ use Rattle.numbers.proofs.Choice.{test_cases}
 use Rattle.numbers.proofs.Each.{turns_last}
 use Rattle.numbers.proofs.First.{passed_then}
 use Rattle.finite.proofs.Finite.{finite_entry}
-use Rattle.store.specs.Columns.{flat, HasRows}
+use Rattle.store.specs.Columns.{HasRows}
 use Rattle.store.specs.Steps.{Matrix, column}
-use Rattle.store.proofs.Lasting.{column_finite}
-use Rattle.swap_list.specs.SwapList.{Swaps}
 use Rattle.triangular_passes.specs.declared.Pass.{Pass}
 use Rattle.triangular_passes.specs.declared.Pass.TheVariants.{Upper, GivenDiagonal}
 use Rattle.triangular_passes.specs.Triangular.{row_at, turns_of, solved_row, turn, solved_column}
 use Rattle.triangular_passes.proofs.Lengths.{length_row, length_turns}
 use Rattle.solve.specs.Reason.{Stored, stores}
-use Rattle.triangular_passes.proofs.Turns.{turns_most, turn_row}
+use Rattle.triangular_passes.proofs.Turns.{turn_row}
 use Rattle.solve.proofs.Lasting.{turn_finite}
 use Rattle.solve.proofs.Reason.{FirstStored, FirstInPass}
 use Rattle.why.specs.Results.{Result, first_overflow}

@@ -1,14 +1,13 @@
 -- After k columns the slices hold the outcome of factoring the first k (`Build`). Assumes nothing.
-use Prim.Native.Nat.{ℕ, ◌-◌, ◌*◌, ◌+◌, ◌≤◌}
+use Prim.Native.Nat.{ℕ, ◌*◌, ◌+◌, ◌≤◌}
 use mathlib.Core.Path.{◌≡◌, refl, sym, ap, ◌∙◌}
 use mathlib.Core.List.{◌++◌}
 use native.Mathlib.Omega.{arith}
-use borrow.Author.Rules.{rules}
 use lib.ListN.{length, take, drop, length-drop}
 use lib.Seq.{length-take-le, length_front}
 use Rattle.store.proofs.Columns.{sized, column_within}
 use Rattle.lu.proofs.Shape.{ok}
-use Rattle.building_up.proofs.Build.{Building, building_none, Grown, went_on, gave_up, all_added, not_added}
+use Rattle.building_up.proofs.Build.{building_none, Grown, went_on, gave_up, all_added, not_added}
 use Rattle.building_up.proofs.add_all.Goals.{In-Accepted, In-loop-k}
 use Rattle.building_up.proofs.add_all.Goals as goal
 

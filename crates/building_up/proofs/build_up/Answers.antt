@@ -1,6 +1,5 @@
 -- Refused as factoring is, built up to its outcome, or refusal 7 (`AllAdded`). Assumes nothing.
 use mathlib.Core.Path.{sym, ap, ◌∙◌}
-use borrow.Author.Rules.{rules}
 use lib.ListN.{replicate}
 use Rattle.factors.specs.Factors.{numbers_of, store_of}
 use Rattle.store.proofs.Columns.{sized}

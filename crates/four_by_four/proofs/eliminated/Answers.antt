@@ -1,5 +1,4 @@
 -- Column by column. Assumes nothing.
-use borrow.Author.Rules.{rules}
 use mathlib.Core.Path.{refl}
 use mathlib.Core.List.{[], ◌∷◌}
 use Rattle.four_by_four.proofs.eliminated.Goals as goal

@@ -1,5 +1,4 @@
 -- By the tests. Assumes nothing.
-use borrow.Author.Rules.{rules}
 use borrow.Author.Tests.{le-leb, lt-leb}
 use Rattle.four_by_four.specs.Inner.{next_of}
 use Rattle.four_by_four.proofs.next.Goals as goal

@@ -1,5 +1,4 @@
 -- The search, entry by entry. Assumes nothing.
-use borrow.Author.Rules.{rules}
 use mathlib.Core.Path.{ap, ◌∙◌}
 use lib.Ieee.{Float}
 use Rattle.numbers.specs.Numbers.{magnitude}

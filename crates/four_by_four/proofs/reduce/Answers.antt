@@ -1,5 +1,4 @@
 -- Step by step. Assumes nothing.
-use borrow.Author.Rules.{rules}
 use Rattle.four_by_four.proofs.Steps.{all_steps}
 use Rattle.four_by_four.proofs.reduce.Goals as goal
 

@@ -1,5 +1,4 @@
 -- Column by column. Assumes nothing.
-use borrow.Author.Rules.{rules}
 use mathlib.Core.List.{[], ◌∷◌}
 use Rattle.numbers.specs.Each.{each_from}
 use Rattle.store.specs.Steps.{swap_in_all}

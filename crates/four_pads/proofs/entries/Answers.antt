@@ -1,5 +1,4 @@
 -- A list of four, entry by entry. Assumes nothing.
-use borrow.Author.Rules.{rules}
 use borrow.Kind.Array.{e_float, good_length}
 use lib.Ieee.{nan, binary64}
 use Rattle.numbers.specs.Each.{list_of}

@@ -1,5 +1,4 @@
 -- The columns by name, then the rest. Assumes nothing.
-use borrow.Author.Rules.{rules}
 use mathlib.Core.Path.{ap₂, ◌∙◌}
 use mathlib.Core.List.{[], ◌∷◌}
 use Rattle.numbers.specs.Each.{list_of}

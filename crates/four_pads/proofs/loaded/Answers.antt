@@ -1,6 +1,4 @@
 -- By the two tests. Assumes nothing.
-use borrow.Author.Rules.{rules}
-use borrow.Author.Tests.{not-true, not-false}
 use mathlib.Core.Path.{sym, ap, ◌∙◌}
 use Rattle.four_passes.specs.Passes.{upper_by}
 use Rattle.four_pads.proofs.Outcomes.{loaded_six, loaded_seven, loaded_all}

@@ -1,11 +1,8 @@
 -- Each outcome by its law. Assumes nothing.
-use borrow.Author.Rules.{rules}
-use borrow.Author.Tests.{not-true, not-false}
 use mathlib.Core.Path.{◌≡◌, sym, ap₂, ◌∙◌}
 use mathlib.Core.Bool.{◌&&◌}
 use Rattle.finite.specs.Finite.{all_finite}
 use Rattle.store.specs.Columns.{flat}
-use Rattle.four_by_four.specs.declared.System.{System}
 use Rattle.four_by_four.specs.System.{listed, matrix_of}
 use Rattle.four_pads.proofs.Outcomes.{refused_five, refused_seven, loaded_is}
 use Rattle.four_pads.proofs.solved.Goals as goal

@@ -1,5 +1,4 @@
 -- One by one. Assumes nothing.
-use borrow.Author.Rules.{rules}
 use mathlib.Core.Path.{ap₂, ◌∙◌}
 use mathlib.Core.Bool.{◌&&◌}
 use Rattle.four_passes.proofs.Tests.{four_finite}

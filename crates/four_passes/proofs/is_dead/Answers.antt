@@ -1,5 +1,4 @@
 -- The diagonal from the top. Assumes nothing.
-use borrow.Author.Rules.{rules}
 use mathlib.Core.Path.{ap₂, ◌∙◌}
 use mathlib.Core.Bool.{◌||◌}
 use Rattle.four_passes.proofs.Tests.{dead_told}

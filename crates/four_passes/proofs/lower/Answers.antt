@@ -1,5 +1,4 @@
 -- Row by row. Assumes nothing.
-use borrow.Author.Rules.{rules}
 use mathlib.Core.Path.{ap, ◌∙◌}
 use Rattle.numbers.specs.Each.{turns_from}
 use Rattle.numbers.specs.Numbers.{one64}

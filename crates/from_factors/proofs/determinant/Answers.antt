@@ -1,5 +1,4 @@
 -- The product's number, times the sign and tested; or its refusal. Assumes nothing.
-use borrow.Author.Rules.{rules}
 use Rattle.refusals.specs.Outcome.{and_then}
 use Rattle.from_factors.specs.Determinant.{determined, determining}
 use Rattle.from_factors.proofs.determinant.Goals as goal

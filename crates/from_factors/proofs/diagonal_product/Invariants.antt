@@ -1,13 +1,8 @@
 -- The factors that are left from row i on give the whole product. Assumes nothing.
-use Prim.Native.Nat.{◌-◌, ◌*◌, ◌+◌, ◌≤◌}
-use mathlib.Core.Path.{◌≡◌, sym, ap, ◌∙◌}
-use native.Mathlib.Omega.{arith}
-use lib.ListN.{length}
-use lib.Ieee.{nan, mul, binary64}
+use Prim.Native.Nat.{◌-◌}
+use mathlib.Core.Path.{◌≡◌}
 use Rattle.numbers.specs.Each.{turns_from}
-use Rattle.numbers.proofs.Each.{turns_begin, turns_next, turns_done}
 use Rattle.store.specs.Columns.{columns}
-use Rattle.store.proofs.Columns.{sized, column_within, entry_at}
 use Rattle.from_factors.specs.Determinant.{times_diagonal, diagonal_product}
 use Rattle.from_factors.proofs.diagonal_product.Given as goal
 

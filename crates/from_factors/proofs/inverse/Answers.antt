@@ -1,6 +1,5 @@
 -- Refused by the tests, or the identity solved and settled. Assumes nothing.
 use mathlib.Core.Path.{◌≡◌, refl, sym, ◌∙◌}
-use borrow.Author.Rules.{rules}
 use Rattle.store.proofs.Columns.{same_matrix}
 use Rattle.factors.specs.Held.{held_refusal}
 use Rattle.from_factors.specs.Solving.{inverse_asks, solved, inverting}

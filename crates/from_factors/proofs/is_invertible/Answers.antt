@@ -1,5 +1,4 @@
 -- Refused by the tests, or the test of the number. Assumes nothing.
-use borrow.Author.Rules.{rules}
 use borrow.Author.Tests.{eq-eqb, ne_eqb}
 use Rattle.refusals.specs.Outcome.{tested}
 use Rattle.from_factors.specs.Determinant.{tested_inverse, inverse_test}

@@ -2,7 +2,6 @@
 use mathlib.Core.Path.{◌≡◌, sym, ◌∙◌}
 use native.Mathlib.Omega.{arith}
 use Prim.Native.Nat.{min}
-use borrow.Author.Rules.{rules}
 use Rattle.factors.specs.Held.{held_refusal}
 use Rattle.from_factors.specs.Triangles.{read_asks, lowering}
 use Rattle.refusals.proofs.Outcomes.{promise_refused}

@@ -1,6 +1,5 @@
 -- A copy, zeros above row j, and a one in it. Assumes nothing.
 use native.Mathlib.Omega.{arith}
-use borrow.Author.Rules.{rules}
 use lib.ListN.{length-take, length-drop, length-append, length-set}
 use Rattle.from_factors.proofs.Written.{lower_written}
 use Rattle.from_factors.proofs.lower_column.Goals as goal

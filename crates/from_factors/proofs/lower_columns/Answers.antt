@@ -1,14 +1,11 @@
 -- The columns of L that are left to write from column j on give all of them. Assumes nothing.
-use Prim.Native.Nat.{ℕ, ◌-◌, ◌*◌, ◌+◌, ◌≤◌}
+use Prim.Native.Nat.{◌*◌, ◌+◌, ◌≤◌}
 use mathlib.Core.Path.{sym, ap, ◌∙◌}
 use native.Mathlib.Omega.{arith}
 use lib.ListN.{length}
-use Rattle.numbers.specs.Column.{Column}
-use Rattle.store.specs.Columns.{columns}
-use Rattle.store.specs.Steps.{column}
 use Rattle.store.proofs.Columns.{sized, column_within, column_length, part_column}
 use Rattle.from_factors.specs.Triangles.{lower_of, lower_factor}
-use Rattle.from_factors.proofs.Written.{Written, written_start, written_turn, written_flat}
+use Rattle.from_factors.proofs.Written.{written_start, written_turn, written_flat}
 use Rattle.from_factors.proofs.lower_columns.Invariants.{lower}
 use Rattle.from_factors.proofs.lower_columns.Goals.{In-loop-j}
 use Rattle.from_factors.proofs.lower_columns.Goals as goal

@@ -1,14 +1,10 @@
 -- The columns of L that are left to write from column j on give all of them. Assumes nothing.
-use Prim.Native.Nat.{ℕ, ◌-◌, ◌*◌, ◌+◌, ◌≤◌}
-use mathlib.Core.Path.{sym, ap, ◌∙◌}
-use native.Mathlib.Omega.{arith}
-use lib.ListN.{length}
+use Prim.Native.Nat.{ℕ, ◌-◌}
 use Rattle.numbers.specs.Column.{Column}
 use Rattle.store.specs.Columns.{columns}
 use Rattle.store.specs.Steps.{column}
-use Rattle.store.proofs.Columns.{sized, column_within, column_length, part_column}
-use Rattle.from_factors.specs.Triangles.{lower_of, lower_factor}
-use Rattle.from_factors.proofs.Written.{Written, written_start, written_turn, written_flat}
+use Rattle.from_factors.specs.Triangles.{lower_of}
+use Rattle.from_factors.proofs.Written.{Written}
 use Rattle.from_factors.proofs.lower_columns.Given as goal
 
 -- what is written to column j

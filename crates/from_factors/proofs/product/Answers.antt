@@ -1,6 +1,5 @@
 -- Refused by the tests, or the product. Assumes nothing.
 use mathlib.Core.Path.{refl, sym, ◌∙◌}
-use borrow.Author.Rules.{rules}
 use borrow.Author.Tests.{eq-eqb, ne_eqb}
 use Rattle.refusals.specs.Outcome.{tested}
 use Rattle.from_factors.specs.Determinant.{determined, producing}

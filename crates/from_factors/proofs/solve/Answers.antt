@@ -1,5 +1,4 @@
 -- The call's own outcome, by its way to solve a column. Assumes nothing.
-use borrow.Author.Rules.{rules}
 use Rattle.from_factors.specs.Solving.{solving}
 use Rattle.from_factors.proofs.solve.Goals as goal
 

@@ -1,7 +1,6 @@
 -- Refused by the tests, or the solved copy of the right-hand sides, settled. Assumes nothing.
 use mathlib.Core.Path.{◌≡◌, refl, sym, ap, ◌∙◌}
 use mathlib.Core.Bool.{true}
-use borrow.Author.Rules.{rules}
 use Rattle.numbers.proofs.Choice.{and_first, and_second}
 use Rattle.blas.proofs.Rows.{copied_whole}
 use Rattle.store.specs.Columns.{columns, is_matrix}

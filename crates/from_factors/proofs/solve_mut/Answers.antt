@@ -1,7 +1,6 @@
 -- The three passes one after the other (`passes_solve`). The second is the corrected solve by 1, which gives the same bits as the one that the
 -- meaning names (`same_by_one`), since the slice holds doubles. Assumes nothing.
 use mathlib.Core.Path.{◌∙◌}
-use borrow.Author.Rules.{rules}
 use borrow.Author.Tests.{eqb-true}
 use Rattle.numbers.proofs.Choice.{and_first}
 use Rattle.solve.proofs.Corrected.{same_by_one}

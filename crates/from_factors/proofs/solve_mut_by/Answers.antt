@@ -1,5 +1,4 @@
 -- Each arm's own pass. Assumes nothing.
-use borrow.Author.Rules.{rules}
 use Rattle.from_factors.proofs.solve_mut_by.Goals as goal
 
 pub returns-then-transposed : goal.returns-then-transposed

@@ -1,5 +1,4 @@
 -- The call's own outcome, by its way to solve a column. Assumes nothing.
-use borrow.Author.Rules.{rules}
 use Rattle.from_factors.specs.Solving.{tr_solving}
 use Rattle.from_factors.proofs.tr_solve.Goals as goal
 

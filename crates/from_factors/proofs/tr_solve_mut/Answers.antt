@@ -1,5 +1,4 @@
 -- The three passes one after the other (`passes_tr_solve`). Assumes nothing.
-use borrow.Author.Rules.{rules}
 use Rattle.from_factors.proofs.Solved.{passes_tr_solve}
 use Rattle.from_factors.proofs.tr_solve_mut.Goals as goal
 

@@ -1,6 +1,5 @@
 -- Zeros, and a one in row j. Assumes nothing.
 use mathlib.Core.Path.{ap}
-use borrow.Author.Rules.{rules}
 use lib.ListN.{set}
 use Rattle.numbers.specs.Numbers.{one64}
 use Rattle.from_factors.specs.Solving.{unit_column}

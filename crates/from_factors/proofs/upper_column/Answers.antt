@@ -1,6 +1,5 @@
 -- A copy of the first rows, and zeros below row j. Assumes nothing.
 use native.Mathlib.Omega.{arith}
-use borrow.Author.Rules.{rules}
 use lib.ListN.{length-take}
 use Rattle.from_factors.proofs.Written.{upper_whole, upper_written}
 use Rattle.from_factors.proofs.upper_column.Goals as goal

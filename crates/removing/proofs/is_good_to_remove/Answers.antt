@@ -1,9 +1,8 @@
 -- By the test of the list: a good one has its pairs within the store. Assumes nothing.
 use mathlib.Core.Path.{◌≡◌, sym, ap, ◌∙◌}
-use mathlib.Core.Bool.{true, false, false≢true}
-use Prim.Native.Nat.{ℕ, ◌-◌, min}
+use mathlib.Core.Bool.{false≢true}
+use Prim.Native.Nat.{ℕ, min}
 use native.Mathlib.Omega.{arith}
-use borrow.Author.Rules.{rules}
 use Rattle.swap_list.specs.SwapList.{pairs_of, good_list}
 use Rattle.swap_list.proofs.SwapList.{Good, good}
 use Rattle.removing.specs.Removing.{good_undoing}

@@ -2,7 +2,6 @@
 use mathlib.Core.Path.{sym, ap, ◌∙◌}
 use Prim.Native.Nat.{ℕ, ◌<◌}
 use native.Mathlib.Omega.{arith}
-use borrow.Author.Rules.{rules}
 use lib.Dec.{leb}
 use Rattle.removing.proofs.Undone.{undoes_some}
 use Rattle.removing.proofs.Removes.{undoing_test, kept_test}

@@ -1,6 +1,5 @@
 -- Refused by its tests, or taken off past them. Assumes nothing.
 use mathlib.Core.Path.{sym, ◌∙◌}
-use borrow.Author.Rules.{rules}
 use Rattle.removing.proofs.Removes.{ready, refused_by}
 use Rattle.removing.proofs.remove_column.Goals as goal
 

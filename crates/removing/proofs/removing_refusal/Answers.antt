@@ -1,5 +1,4 @@
 -- The tests of held factors, with what was found of the list. Assumes nothing.
-use borrow.Author.Rules.{rules}
 use Rattle.removing.proofs.Removes.{refusal_found}
 use Rattle.removing.proofs.removing_refusal.Goals as goal
 

@@ -1,6 +1,5 @@
 -- The rows exchanged, and the two numbers written. Assumes nothing.
 use native.Mathlib.Omega.{arith}
-use borrow.Author.Rules.{rules}
 use lib.ListN.{length-set}
 use Rattle.removing.proofs.undo.Goals as goal
 

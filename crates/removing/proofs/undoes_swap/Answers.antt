@@ -1,7 +1,6 @@
 -- No pair, or the first number of the last one. Assumes nothing.
 use mathlib.Core.Path.{sym}
 use native.Mathlib.Omega.{arith}
-use borrow.Author.Rules.{rules}
 use Rattle.removing.proofs.Undone.{undoes_empty, undoes_at}
 use Rattle.removing.proofs.undoes_swap.Goals as goal
 

@@ -1,12 +1,9 @@
 -- What is left to look at from place k on gives the whole answer. Assumes nothing.
 use Prim.Native.Nat.{◌+◌, ◌-◌, ◌≤◌}
-use mathlib.Core.Path.{◌≡◌, refl, sym, ap, ◌∙◌}
-use native.Mathlib.Omega.{arith}
-use borrow.Author.Rules.{rules}
+use mathlib.Core.Path.{◌≡◌}
 use lib.ListN.{length, drop}
 use lib.Ieee.Scale.{finite}
 use Rattle.numbers.specs.First.{first_failing}
-use Rattle.why.proofs.Results.{failing_next, failing_here, failing_end}
 use Rattle.why.proofs.first_not_finite.Given as goal
 
 abbrev pub invariant-loop-k : goal.invariant-loop-k

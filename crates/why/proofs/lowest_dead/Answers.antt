@@ -1,12 +1,9 @@
 -- What is left to look at from column j on gives the whole answer. Assumes nothing.
-use mathlib.Core.Path.{◌≡◌, refl, sym, ap, ◌∙◌}
-use Prim.Native.Nat.{◌+◌, ◌-◌, ◌*◌, ◌≤◌}
+use mathlib.Core.Path.{sym, ap, ◌∙◌}
+use Prim.Native.Nat.{◌+◌, ◌*◌, ◌≤◌}
 use native.Mathlib.Omega.{arith}
-use borrow.Author.Rules.{rules}
-use lib.ListN.{length, drop}
-use Rattle.store.specs.Columns.{columns}
+use lib.ListN.{length}
 use Rattle.store.proofs.Columns.{sized, column_within}
-use Rattle.solve.specs.Reason.{lowest_zero}
 use Rattle.why.specs.Inner.{column_or}
 use Rattle.why.proofs.Lowest.{lowest_next, lowest_here, lowest_end}
 use Rattle.why.proofs.lowest_dead.Goals.{In-loop-j}

@@ -1,14 +1,9 @@
 -- What is left to look at from column j on gives the whole answer. Assumes nothing.
-use mathlib.Core.Path.{◌≡◌, refl, sym, ap, ◌∙◌}
-use Prim.Native.Nat.{◌+◌, ◌-◌, ◌*◌, ◌≤◌}
-use native.Mathlib.Omega.{arith}
-use borrow.Author.Rules.{rules}
-use lib.ListN.{length, drop}
+use mathlib.Core.Path.{◌≡◌}
+use Prim.Native.Nat.{◌-◌}
+use lib.ListN.{drop}
 use Rattle.store.specs.Columns.{columns}
-use Rattle.store.proofs.Columns.{sized, column_within}
 use Rattle.solve.specs.Reason.{lowest_zero}
-use Rattle.why.specs.Inner.{column_or}
-use Rattle.why.proofs.Lowest.{lowest_next, lowest_here, lowest_end}
 use Rattle.why.proofs.lowest_dead.Given as goal
 
 abbrev pub invariant-loop-j : goal.invariant-loop-j

@@ -1,9 +1,8 @@
 -- After k turns, what is left gives the first result that is not finite and the solved column (`Turning`). Assumes nothing.
-use mathlib.Core.Path.{◌≡◌, refl, sym, ap, ◌∙◌}
+use mathlib.Core.Path.{◌≡◌, refl, ap, ◌∙◌}
 use mathlib.Core.Bool.{cond}
-use Prim.Native.Nat.{ℕ, ◌-◌, ◌≤◌, ◌<◌}
+use Prim.Native.Nat.{ℕ, ◌<◌}
 use native.Mathlib.Omega.{arith}
-use borrow.Author.Rules.{rules}
 use lib.ListN.{length}
 use lib.Ieee.Scale.{finite}
 use Rattle.numbers.specs.First.{first_failing}
@@ -14,7 +13,7 @@ use Rattle.triangular_passes.specs.Triangular.{row_at, turns_of, turn, turned_by
 use Rattle.solve.specs.Reason.{first_row}
 use Rattle.triangular_passes.proofs.Turns.{turns_most, turn_row}
 use Rattle.why.specs.Inner.{pass_of}
-use Rattle.why.proofs.Column.{row_fine, row_spoilt, Turning, turning_begin, turning_on, turning_found, turning_end, turn_taken}
+use Rattle.why.proofs.Column.{row_fine, row_spoilt, turning_begin, turning_on, turning_found, turning_end, turn_taken}
 use Rattle.why.proofs.overflow_in_column.Goals.{After-slice_known-in-loop-k-1, In-loop-k}
 use Rattle.why.proofs.overflow_in_column.Goals as goal
 

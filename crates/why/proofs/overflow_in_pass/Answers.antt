@@ -1,8 +1,7 @@
 -- After j columns, what is left gives the first result that is not finite and the solved columns (`Passing`). Assumes nothing.
 use mathlib.Core.Path.{◌≡◌, refl, sym, ap, ◌∙◌}
-use Prim.Native.Nat.{◌+◌, ◌-◌, ◌*◌, ◌≤◌, ◌<◌}
+use Prim.Native.Nat.{◌+◌, ◌-◌, ◌*◌, ◌≤◌}
 use native.Mathlib.Omega.{arith}
-use borrow.Author.Rules.{rules}
 use borrow.Rule.Slice.PartMut.{mid_of, put_mid, same_len_mid}
 use lib.ListN.{length}
 use Rattle.store.specs.Columns.{columns}
@@ -11,7 +10,7 @@ use Rattle.store.specs.Steps.{column}
 use Rattle.triangular_passes.specs.Triangular.{solved_column}
 use Rattle.solve.specs.Reason.{first_in_column}
 use Rattle.why.specs.Inner.{pass_of}
-use Rattle.why.proofs.Pass.{Passing, passing_begin, passing_on, passing_found, passing_end, same_column}
+use Rattle.why.proofs.Pass.{passing_begin, passing_on, passing_found, passing_end, same_column}
 use Rattle.why.proofs.overflow_in_pass.Goals.{In-loop-j}
 use Rattle.why.proofs.overflow_in_pass.Goals as goal
 

@@ -2,7 +2,6 @@
 use mathlib.Core.Path.{◌≡◌, sym, ap, ◌∙◌}
 use mathlib.Core.Bool.{true, false}
 use mathlib.Core.Option.{none}
-use borrow.Author.Rules.{rules}
 use lib.ListN.{length}
 use Rattle.numbers.specs.Numbers.{one64}
 use Rattle.numbers.specs.Column.{Column}
@@ -15,7 +14,7 @@ use Rattle.triangular_passes.specs.declared.Pass.TheVariants.{Upper, GivenDiagon
 use Rattle.triangular_passes.specs.Triangular.{solved_columns}
 use Rattle.solve.specs.Reason.{first_in_pass}
 use Rattle.from_factors.specs.Reason.{swapped_sides, lower_sides}
-use Rattle.from_factors.proofs.Solved.{Each, by_swaps}
+use Rattle.from_factors.proofs.Solved.{by_swaps}
 use Rattle.why.proofs.Solving.{found_lower, found_upper, found_none}
 use Rattle.why.proofs.overflow_in_solve.Goals.{After-overflow_in_pass-arg-1, After-overflow_in_pass-arg-2-1}
 use Rattle.why.proofs.overflow_in_solve.Goals as goal

@@ -1,5 +1,4 @@
 -- By the test. Assumes nothing.
-use borrow.Author.Rules.{rules}
 use Rattle.why.proofs.row_of.Goals as goal
 
 pub returns-then-upper : goal.returns-then-upper

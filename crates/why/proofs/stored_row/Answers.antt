@@ -1,6 +1,5 @@
 -- By the test. Assumes nothing.
 use mathlib.Core.Path.{sym, ◌∙◌}
-use borrow.Author.Rules.{rules}
 use Rattle.why.proofs.stored_row.Goals as goal
 
 pub returns-then-is_finite : goal.returns-then-is_finite

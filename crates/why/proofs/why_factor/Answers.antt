@@ -1,5 +1,4 @@
 -- Accepted, refused by its tests, or an overflow that is looked for once more: each by its law (`Factoring`). Assumes nothing.
-use borrow.Author.Rules.{rules}
 use Rattle.why.proofs.Factoring.{no_reason, bad_input, copy_ready, overflow_told, zeroed_again}
 use Rattle.why.proofs.why_factor.Goals as goal
 

@@ -1,6 +1,5 @@
 -- Accepted, singular, refused by its tests, or an overflow that is looked for once more: each by its law (`SolvingCall`). Assumes nothing.
 use mathlib.Core.Path.{◌≡◌, ap, ◌∙◌}
-use borrow.Author.Rules.{rules}
 use Rattle.refusals.specs.Outcome.{number_of}
 use Rattle.from_factors.specs.Solving.{solving}
 use Rattle.why.proofs.SolvingCall.{no_reason, bad_input, six_matrix, singular, ready, overflow_told, zeroed_again}
