@@ -17,7 +17,8 @@ fn least_on_diagonal(t: &[f64], n: usize) -> f64
         let a = i * n;
         let p = a + i;
         let x = numbers::magnitude(t[p]);
-        if x < least {
+        let lower = x < least;
+        if lower {
             least = x;
         }
         i += 1;

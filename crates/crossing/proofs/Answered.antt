@@ -8,14 +8,12 @@ use Rattle.numbers.specs.Column.{Column}
 use Rattle.refusals.specs.Outcome.{Outcome, done, refused, and_then}
 use Rattle.refusals.proofs.Outcomes.{tested_none}
 use Rattle.refusals.proofs.Cases.{done_same, never_both, tested_done, then_done, then_refused}
-use Rattle.factors.specs.declared.Record.{Record}
 use Rattle.factors.specs.Held.{held_refusal}
 use Rattle.lu.specs.Factoring.{factoring}
 use Rattle.from_factors.specs.Determinant.{square_asks}
 use Rattle.from_factors.proofs.Accepted.{accepted_passes}
 use Rattle.panel_file.specs.File.{pads_of, matrix_of}
 use Rattle.panel_file.specs.Reading.{file_refusal}
-use Rattle.scaled_determinant.specs.declared.Scaled.{Scaled}
 use Rattle.scaled_determinant.specs.Determinant.{scaled_determinant, scaling}
 use Rattle.crossing.specs.Below.{Packed, packed, factors_of, scaled_by}
 use Rattle.crossing.specs.Factors.{factors_in, stiffness}

@@ -1,6 +1,6 @@
 -- Two wrong programs for each call of `ffi_factors`, as in ffi/proofs/WrongExports: all that always give the same, and one that makes an error of this layer,
 -- shown at refused inputs. `wejdarox_build_up` has the meaning of `wejdarox_factor`, and its theorem. Assumes nothing.
-use mathlib.Core.Path.{◌≡◌, ap}
+use mathlib.Core.Path.{ap}
 use mathlib.Core.List.{List, []}
 use Prim.Native.Nat.{ℕ}
 use native.Mathlib.Omega.{arith}

@@ -1,13 +1,13 @@
 -- What an answer with a count tells, case by case: the refusal's number and the count. Assumes nothing.
-use mathlib.Core.Path.{◌≡◌, refl, ap, subst}
+use mathlib.Core.Path.{◌≡◌, ap, subst}
 use mathlib.Core.List.{List}
 use Prim.Native.Nat.{ℕ}
 use Rattle.numbers.specs.Column.{Column}
-use Rattle.refusals.specs.Outcome.{Outcome, done, refused, number_of, Call}
+use Rattle.refusals.specs.Outcome.{Outcome, done, refused, number_of}
 use Rattle.panel_file_writer.specs.declared.Written.{Written}
 use Rattle.panel_file_writer.specs.Writing.{bytes_written, written, Writing}
 use Rattle.ffi.specs.Exports.{count_in}
-use Rattle.ffi_files.specs.Files.{writing_answer, left_with}
+use Rattle.ffi_files.specs.Files.{left_with}
 
 pub count_told : (o : Outcome ℕ) (count : ℕ) → done count ≡ o → (0 ≡ number_of o) × (count ≡ count_in o)
 unfolding number_of count_in

@@ -1,6 +1,6 @@
 -- Two wrong programs for each call of `ffi_files` that can be refused, as in ffi/proofs/WrongExports: all that always give the same, and one that tells a
 -- number where it is refused. The texts have the meaning of the calls of `panel_text`, and their theorems. Assumes nothing.
-use mathlib.Core.Path.{◌≡◌, ap}
+use mathlib.Core.Path.{ap}
 use mathlib.Core.List.{List, [], ◌∷◌}
 use Prim.Native.Nat.{ℕ}
 use native.Mathlib.Omega.{arith}

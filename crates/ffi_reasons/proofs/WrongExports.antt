@@ -1,6 +1,6 @@
 -- Two wrong programs for each call of `ffi_reasons`, as in ffi/proofs/WrongExports: all that always give the same, and one that takes the sizes the wrong way
 -- round, shown at refused inputs. Assumes nothing.
-use mathlib.Core.Path.{◌≡◌, ap}
+use mathlib.Core.Path.{ap}
 use mathlib.Core.List.{List, []}
 use Prim.Native.Nat.{ℕ}
 use native.Mathlib.Omega.{arith}

@@ -20,10 +20,8 @@ use Rattle.store.specs.Columns.{columns}
 use Rattle.store.specs.Steps.{Matrix, column}
 use Rattle.refusals.specs.Outcome.{tested}
 use Rattle.refusals.proofs.Strength.{ShutsOut, shut_out, Strong, strong}
-use Rattle.swap_list.specs.SwapList.{Swaps, pairs_of}
 use Rattle.triangular_passes.specs.declared.Pass.TheVariants.{Upper, GivenDiagonal}
 use Rattle.triangular_passes.specs.Triangular.{solved_from}
-use Rattle.solve.specs.Reason.{lowest_zero}
 use Rattle.factors.specs.Factors.{Factors, store_of, record_of}
 use Rattle.factors.specs.Held.{held_refusal}
 use Rattle.elimination.specs.Elimination.{step, unfactored}
@@ -34,7 +32,7 @@ use Rattle.from_factors.specs.Reason.{swapped_sides, lower_sides}
 use Rattle.from_factors.proofs.Figures.{Computes, n0, n1, n2}
 use Rattle.why.specs.Results.{Result, first_overflow, rows_from, in_turn}
 use Rattle.why.specs.Factoring.{place_at, column_results, step_results, steps_results, factoring_results}
-use Rattle.why.specs.Solving.{Spot, spot_at, lower_results, upper_results, turns_results, pass_results, solving_results}
+use Rattle.why.specs.Solving.{Spot, spot_at, lower_results, turns_results, pass_results, solving_results}
 use Rattle.why.specs.Why.{Told, told_number, overflowed, explain_factoring, refused_solving, explain_solving}
 
 -- the place of the last result that is not finite

@@ -1,6 +1,6 @@
 -- The band of factors and a season: one outcome each, no program that always gives the same (of a season: that always refuses, or leaves the season as it was),
 -- and the errors that request 13 invites, each shut out at a file or at factors of one or two pads. By computation. Assumes nothing.
-use mathlib.Core.Path.{◌≡◌, refl, sym, ap, ◌∙◌}
+use mathlib.Core.Path.{◌≡◌, refl, ap}
 use mathlib.Core.Bool.{false, cond}
 use mathlib.Core.List.{List, [], ◌∷◌, ◌++◌}
 use Prim.Native.Nat.{ℕ, ◌+◌}
@@ -25,7 +25,7 @@ use Rattle.crossing.specs.Below.{Packed, factors_of, solution_by}
 use Rattle.crossing.specs.Factors.{factors_in}
 use Rattle.season.specs.declared.Season.{Season}
 use Rattle.season.specs.Telling.{Share, telling}
-use Rattle.season.specs.Season.{File, plus, one_more_at, counted, handing, counts_of, season_from}
+use Rattle.season.specs.Season.{File, one_more_at, counted, handing, counts_of, season_from}
 
 -- a name for all that has to unfold for a file to be handed over
 unfoldable HandsOver : Type 0

@@ -12,7 +12,7 @@ use Rattle.finite.specs.Finite.{all_finite}
 use Rattle.blas.specs.Blas.{exchanged}
 use Rattle.store.specs.Columns.{columns, flat, is_matrix, on_columns}
 use Rattle.store.specs.Steps.{swap_in_all}
-use Rattle.refusals.specs.Outcome.{Outcome, refused, first_holding, tested, Call}
+use Rattle.refusals.specs.Outcome.{Outcome, first_holding, tested, Call}
 use Rattle.refusals.specs.Refusals.{outside}
 use Rattle.refusals.proofs.Strength.{ShutsOut, shut_out, BothShutOut, both, Strong, strong, done_refused}
 use Rattle.swap_list.specs.SwapList.{pairs_of, holds, held, with_pair, good_pair, good_pairs, good_list}

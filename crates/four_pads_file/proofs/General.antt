@@ -29,7 +29,7 @@ use Rattle.panel_file.proofs.Reading.{file_whole}
 use Rattle.panel_file.proofs.Files.{numbers_parts}
 use Rattle.crossing.specs.Below.{factors_of, solution_by}
 use Rattle.crossing.specs.Factors.{factors_in}
-use Rattle.four_pads.specs.Profile.{Solution, general_path, refused_with, profile_of, four_tests, four_of}
+use Rattle.four_pads.specs.Profile.{general_path, refused_with, profile_of, four_tests, four_of}
 use Rattle.four_pads_file.specs.FileProfile.{numbers_in, with_loads, general_path_in, size_tests, four_pads_in}
 use Rattle.four_pads_file.specs.declared.FourNumbers.{FourNumbers}
 

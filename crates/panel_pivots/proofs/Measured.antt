@@ -46,7 +46,7 @@ module _ (bytes : List ℕ) where
   measured f n tossed most r e is-n is-tossed top s =
       let m : Measured bytes f tossed most s.g s.l =
       record {
-        toss_ups_lem = is-tossed;
+        toss_ups = is-tossed;
         matrix = top (file_none f e);
         spans = subst (λ k. Spans f.factors k s.g s.l) is-n s.spans;
       } in

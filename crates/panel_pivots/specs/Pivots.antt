@@ -23,7 +23,7 @@ pub record Spanned (t : Column) (n : ℕ) (tossed : ℕ) (most : Float) (r : Piv
 
 -- the whole answer for a file whose factors are these, or that is refused
 pub record Measured (bytes : List ℕ) (f : Packed) (tossed : ℕ) (most g l : Float) : Type 0 where
-  pub toss_ups_lem : tossed ≡ toss_ups_in bytes
+  pub toss_ups : tossed ≡ toss_ups_in bytes
   pub matrix : Greatest (matrix_of (pads_of bytes) bytes) (length (matrix_of (pads_of bytes) bytes)) most
   pub spans : Spans f.factors (pads_of bytes) g l
 

@@ -13,7 +13,7 @@ use Rattle.why.specs.Why.{told_number}
 use Rattle.why_file.specs.declared.WhyFile.{WhyFile}
 use Rattle.why_file.specs.declared.WhyFile.TheVariants.{Factoring, Singular, Solving}
 use Rattle.why_file.specs.Explaining.{explain_file, told_file}
-use Rattle.panel_text.specs.Text.{written, decimal, refused_text}
+use Rattle.panel_text.specs.Text.{written, refused_text}
 use Rattle.panel_text.specs.Why.{
   no_reason_line,
   column_word,

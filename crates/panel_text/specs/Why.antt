@@ -2,8 +2,6 @@
 -- rows count from 1 here, as pads do.
 use Rattle.std.specs.Prelude.{cond, List, [], ◌∷◌, ◌++◌, ℕ, ◌+◌, eqb}
 use Rattle.std.proofs.Math.Option.{Option, none, some}
-use Rattle.elimination.specs.Reason.{Place}
-use Rattle.why.specs.Solving.{Spot}
 use Rattle.why.specs.Why.{Told}
 use Rattle.why_file.specs.Explaining.{Stage, in_factoring, in_solving, explain_file}
 use Rattle.panel_text.specs.Text.{decimal, refused_text}

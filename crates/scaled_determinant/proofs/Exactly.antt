@@ -26,7 +26,7 @@ use Rattle.store.specs.Steps.{Matrix, column}
 use Rattle.permutation_sequence.specs.Calls.{sign_of}
 use Rattle.from_factors.specs.Determinant.{times_diagonal, diagonal_product, determinant_of}
 use Rattle.scaled_determinant.specs.declared.Scaled.{Scaled}
-use Rattle.scaled_determinant.specs.Scaled.{scaled, significand_of, exponent_of, scaled_times}
+use Rattle.scaled_determinant.specs.Scaled.{significand_of, exponent_of, scaled_times}
 use Rattle.scaled_determinant.specs.Determinant.{start, scaled_product, signed_by}
 use Rattle.scaled_determinant.proofs.Fractions.{rescale, product, rounded, rounded_under, grid_shift, add_pow}
 use Rattle.scaled_determinant.proofs.OneWay.{Fine, Odd, fits_odd, one_way}

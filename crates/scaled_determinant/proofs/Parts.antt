@@ -15,7 +15,6 @@ use lib.Ieee.Digits.{size-lt, size-le, size_reaches, minus_val}
 use lib.Ieee.Fits.{up_pos, down_pos, round-fits}
 use lib.Ieee.Exact.{HasValue, round_exact}
 use lib.Ieee.Positive.{first_pos}
-use lib.Ieee.Scale.{finite}
 use Rattle.numbers.specs.Numbers.{is_zero}
 use Rattle.numbers.proofs.One.{fits_says, pow_back}
 use Rattle.numbers.proofs.Smaller.{and_never}

@@ -7,7 +7,7 @@ use Prim.Native.Nat.{ℕ, suc, ◌+◌, ◌-◌, ◌*◌, ◌/◌, ◌%◌, ◌^
 use native.Mathlib.Nat.{lt_of_lt_of_le, eq-zero-or-pos, le-add_right, mul-one, mul_comm, mul_assoc, mul_left_comm, mul-pos}
 use native.Mathlib.Nat.{mul-lt-mul_of_pos_right, eq_of_mul-eq-mul_right, mod-lt, pow-suc, zero-lt-suc}
 use native.Mathlib.Omega.{arith}
-use lib.IntN.{ℤ, pos, negsuc, sub_ℕ, ◌+ℤ◌, ◌-ℤ◌}
+use lib.IntN.{pos, negsuc, sub_ℕ, ◌+ℤ◌, ◌-ℤ◌}
 use lib.Dec.{T, leb, le→leb, leb→le, nleb→lt, lit≤, eqb}
 use lib.Arith.{lt→nleb}
 use lib.Pow.{pow_pos, field}

@@ -1,6 +1,6 @@
 -- A season is the counts of the files handed over, up to 4,000, in whatever order; accepted and refused add to the whole, and the bands to the accepted. By one
 -- file after the other; by the permutation. Assumes nothing.
-use Rattle.std.proofs.Common.{◌≡◌, ℕ, zero, suc, ◌+◌, ◌-◌, ◌*◌, ◌%◌, ◌^◌, ◌<◌, ◌≤◌, Bool, true, false, cond, eqb, List, [], ◌∷◌, ◌++◌, length, take, sym, refl, ap, ◌∙◌, ap₂, append-nil, zero-add, arith, take_all, eq-eqb, ne_eqb, le-leb}
+use Rattle.std.proofs.Common.{◌≡◌, ℕ, zero, suc, ◌+◌, ◌-◌, ◌^◌, ◌<◌, ◌≤◌, Bool, false, eqb, List, [], ◌∷◌, ◌++◌, length, take, sym, refl, ap, ◌∙◌, append-nil, zero-add, arith, take_all, eq-eqb, ne_eqb, le-leb}
 use mathlib.Core.List.Permᴰ
 use mathlib.Core.List.{Permᴰ}
 use borrow.Author.Tests.{lt-leb}
@@ -28,7 +28,7 @@ use Rattle.season.specs.Season.{
 }
 use Rattle.season.proofs.Rows.{one, row_same, small, Alone, one_more, row_sum, sum_added, sum_none, sum_one, counts_back}
 use Rattle.season.proofs.Counts.{total_order, count_order, length_order, total_most, count_most}
-use Rattle.season.proofs.Telling.{telling_among, Solved, solved_file, share_known}
+use Rattle.season.proofs.Telling.{telling_among, solved_file, share_known}
 
 -- ---- THEOREM. The counts of a list of files are the same in any order of it.
 pub any_order : {fs gs : List File} → Permᴰ fs gs → season_of fs ≡ season_of gs

@@ -1,26 +1,25 @@
 -- What a file brings to a season, as the code puts it together; and what is known of it: a refusal is one of 1 to 9 and the one that the answer for the file
 -- gives, an accepted file lists at most 64 pads and is in one of the five bands. By the cases of the outcomes. Assumes nothing.
-use Rattle.std.proofs.Common.{◌≡◌, ℕ, zero, suc, ◌+◌, ◌*◌, ◌<◌, ◌≤◌, Bool, true, false, cond, T, List, [], ◌∷◌, length, take, replicate, sym, refl, ap, ◌∙◌, ap₂, arith}
+use Rattle.std.proofs.Common.{◌≡◌, ℕ, zero, suc, ◌+◌, ◌*◌, ◌<◌, ◌≤◌, true, false, T, List, [], ◌∷◌, length, take, replicate, sym, refl, ap, ◌∙◌, arith}
 use lib.ListN.{length-replicate}
 use lib.Ieee.{nan, binary64, fits}
 use lib.Ieee.Scale.{finite}
 use Rattle.numbers.specs.Numbers.{zero64, magnitude}
-use Rattle.numbers.specs.Column.{Column, entry, zeros}
+use Rattle.numbers.specs.Column.{Column, zeros}
 use Rattle.finite.specs.Finite.{all_finite}
 use Rattle.numbers.proofs.Choice.{cond_cases}
 use Rattle.finite.proofs.Finite.{finite_entry}
 use Rattle.store.specs.Columns.{columns, is_matrix}
-use Rattle.store.specs.Steps.{Matrix, column}
 use Rattle.store.proofs.Columns.{sized, column_within, entry_at}
-use Rattle.refusals.specs.Outcome.{Outcome, done, refused, number_of, tested, and_then, Call, leaving}
-use Rattle.refusals.specs.Refusals.{answered, seventh}
+use Rattle.refusals.specs.Outcome.{Outcome, done, refused, number_of, tested, and_then, Call}
+use Rattle.refusals.specs.Refusals.{answered}
 use Rattle.refusals.specs.declared.Answer.{Answer}
 use Rattle.refusals.specs.declared.Answer.TheVariants.{Done, Refused as NotDone}
-use Rattle.refusals.proofs.Outcomes.{tested_none, tested_some, tested_cases, none_given}
+use Rattle.refusals.proofs.Outcomes.{tested_some, tested_cases, none_given}
 use Rattle.refusals.proofs.Cases.{done_same, refused_same, never_both, tested_done, tested_refused, then_done, then_refused}
 use Rattle.ranking.specs.declared.Listed.{Listed}
 use Rattle.ranking.specs.declared.Listed.TheVariants.{Pads, Refused as NotListed}
-use Rattle.ranking.specs.Ranking.{Choice, loaded, ranked, pads_to, chosen, listing, ranking, pads_listed}
+use Rattle.ranking.specs.Ranking.{Choice, loaded, pads_to, chosen, listing, ranking, pads_listed}
 use Rattle.ranking.proofs.Calls.{not_refused, ranking_accepted}
 use Rattle.ranking.proofs.Inserting.{length_ranked}
 use Rattle.ranking.proofs.Listing.{length_pads}
@@ -33,13 +32,13 @@ use Rattle.from_factors.proofs.Accepted.{accepted_columns}
 use Rattle.panel_file.specs.File.{pads_of, matrix_of, readings_of}
 use Rattle.panel_file.specs.Reading.{file_refusal}
 use Rattle.panel_file.proofs.Longer.{any_longer}
-use Rattle.bands.specs.Bands.{least_on_diagonal, biased, band_of, band_on}
+use Rattle.bands.specs.Bands.{least_on_diagonal, biased, band_on}
 use Rattle.bands.proofs.Banded.{banded}
-use Rattle.bands.proofs.Least.{diagonal_at, Least, least_is, finite_magnitude}
+use Rattle.bands.proofs.Least.{diagonal_at, least_is, finite_magnitude}
 use Rattle.crossing.specs.Below.{Packed, packed, packed_in, factors_of, solution_by, solution_in}
 use Rattle.crossing.specs.Factors.{factors_in, loads_of}
 use Rattle.crossing.proofs.Below.{factored_rows, factored_seven, solved_answer, solution_few}
-use Rattle.crossing.proofs.Factors.{file_good, factors_few, factors_size}
+use Rattle.crossing.proofs.Factors.{file_good, factors_few}
 use Rattle.season.specs.declared.Told.{Told}
 use Rattle.season.specs.declared.Told.TheVariants.{Crossing, Refused}
 use Rattle.season.specs.Telling.{Share, share_of, telling, share_told}

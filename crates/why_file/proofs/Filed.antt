@@ -3,7 +3,7 @@ use mathlib.Core.Path.{◌≡◌, refl, sym, ap, ap₂, ◌∙◌}
 use mathlib.Core.List.{List, ◌∷◌}
 use Prim.Native.Nat.{ℕ, zero, suc, ◌*◌, ◌≤◌}
 use native.Mathlib.Nat.{le_of_suc-le-suc, not-suc-le-zero}
-use lib.ListN.{length, take, replicate, length-replicate}
+use lib.ListN.{take, replicate, length-replicate}
 use Rattle.numbers.specs.Numbers.{zero64}
 use Rattle.numbers.specs.Column.{Column, zeros}
 use Rattle.refusals.specs.Outcome.{Outcome, done, refused, tested, Call}
@@ -12,16 +12,16 @@ use Rattle.refusals.proofs.Cases.{never_both, tested_refused}
 use Rattle.factors.specs.declared.Record.{Record}
 use Rattle.panel_file.specs.declared.Panel.{Panel}
 use Rattle.panel_file.specs.declared.Panel.TheVariants.{Pads, Refused as NotRead}
-use Rattle.panel_file.specs.File.{pads_of, matrix_of, readings_of}
+use Rattle.panel_file.specs.File.{pads_of, readings_of}
 use Rattle.panel_file.specs.Reading.{file_refusal, Stores, stores, reading, pads_read}
 use Rattle.panel_file.proofs.Reading.{reading_fit}
 use Rattle.crossing.specs.Below.{Packed, packed_in}
 use Rattle.crossing.specs.Factors.{factors_in}
 use Rattle.crossing.proofs.Factors.{Read, file_read, Ready}
-use Rattle.why.specs.Why.{Told, told_number, explain_factoring}
+use Rattle.why.specs.Why.{told_number, explain_factoring}
 use Rattle.why_file.specs.declared.WhyFile.{WhyFile}
 use Rattle.why_file.specs.declared.WhyFile.TheVariants.{Refused}
-use Rattle.why_file.specs.Explaining.{Stage, in_factoring, told_in, explain_factors, explain_loads, explained_by, explain_file, told_file}
+use Rattle.why_file.specs.Explaining.{in_factoring, told_in, explain_factors, explain_loads, explained_by, explain_file, told_file}
 
 pub zeros_front : (k m : ℕ) → k ≤ m → take k (zeros m) ≡ zeros k
 zeros_front zero m h = refl

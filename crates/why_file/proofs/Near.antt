@@ -4,7 +4,7 @@ use mathlib.Core.Path.{◌≡◌, refl, sym, ap, ◌∙◌}
 use mathlib.Core.Bool.{false}
 use mathlib.Core.List.{List}
 use mathlib.Core.Option.{Option, none, some, map}
-use Prim.Native.Nat.{ℕ, ◌*◌, ◌≤◌, ◌<◌, min}
+use Prim.Native.Nat.{ℕ, ◌*◌, ◌≤◌, ◌<◌}
 use native.Mathlib.Omega.{arith}
 use borrow.Author.Tests.{eqb-true, eqb-false}
 use lib.Dec.{eqb}
@@ -25,7 +25,7 @@ use Rattle.panel_file.specs.File.{pads_of, matrix_of, readings_of}
 use Rattle.panel_file.specs.Reading.{file_refusal}
 use Rattle.crossing.specs.Below.{Packed, factors_of, solution_by}
 use Rattle.crossing.specs.Factors.{factors_in, loads_of}
-use Rattle.crossing.proofs.Below.{Good, factored_rows}
+use Rattle.crossing.proofs.Below.{factored_rows}
 use Rattle.crossing.proofs.Factors.{file_good, factors_size}
 use Rattle.crossing.proofs.Loads.{loads_few}
 use Rattle.why.specs.Results.{first_overflow}

@@ -1,5 +1,5 @@
 -- Document 02, request 8, for a panel file: why its answer is refused. By the reader or by factoring, where those refuse it; else by the solve.
-use Rattle.std.specs.Prelude.{List, ℕ, suc, ◌*◌, ◌<◌, replicate}
+use Rattle.std.specs.Prelude.{List, ℕ, ◌*◌, replicate}
 use Rattle.std.proofs.Math.Option.{map, some, none}
 use Rattle.numbers.specs.Column.{Column, zeros}
 use Rattle.refusals.specs.Outcome.{Outcome, done, refused, tested}

@@ -1,5 +1,5 @@
 -- The places that are told lie within the greatest panel: each is below 64. A refusal's number has one digit.
-use Rattle.std.specs.Prelude.{ℕ, ◌≤◌, ◌<◌}
+use Rattle.std.specs.Prelude.{◌≤◌, ◌<◌}
 use Rattle.why_file.specs.declared.WhyFile.{WhyFile}
 use Rattle.why_file.specs.declared.WhyFile.TheVariants.{NoReason, Refused, Factoring, Singular, Solving}
 

@@ -11,7 +11,7 @@ use Rattle.store.proofs.Columns.{sized, column_within, entry_at}
 use Rattle.bands.specs.Bands.{less_at, least_on_diagonal}
 use Rattle.bands.proofs.Least.{less_taken, less_left}
 use Rattle.bands.proofs.least_on_diagonal.Goals.{In-loop-i}
-use Rattle.bands.proofs.least_on_diagonal.Goals.{then-x-least, else-x-least}
+use Rattle.bands.proofs.least_on_diagonal.Goals.{then-lower, else-lower}
 use Rattle.bands.proofs.least_on_diagonal.Goals as goal
 
 -- in a turn, column i ends within the factors
@@ -34,9 +34,9 @@ loop-i-preserved c =
     let cs = columns g.n g.n g.t.now in
     let x = c.magnitude-x.ensures ∙ ap magnitude (entry_at g.n g.n c.loop-i.i c.loop-i.i g.t.now nan h h) in
     turns_next (less_at cs) _ _ _ _ h
-    (elim c.if-x-least.branch [
-      | then-x-least w ↦ w.least-is ∙ less_taken cs _ _ _ x w.if-x-least.true
-      | else-x-least w ↦ w.least-is ∙ less_left cs _ _ _ x w.if-x-least.false
+    (elim c.if-lower.branch [
+      | then-lower w ↦ w.least-is ∙ less_taken cs _ _ _ x w.if-lower.true
+      | else-lower w ↦ w.least-is ∙ less_left cs _ _ _ x w.if-lower.false
     ]) ∙ c.loop-i.invariant
 
 pub returns : goal.returns

@@ -1,7 +1,6 @@
 -- The determinant's answer, taken apart and handed on. Assumes nothing.
 use mathlib.Core.Path.{sym, ap, ◌∙◌, subst}
 use native.Mathlib.Omega.{arith}
-use borrow.Author.Rules.{rules}
 use Rattle.panel_file.proofs.Reading.{square}
 use Rattle.scaled_determinant.specs.Determinant.{scaled_answer}
 use Rattle.scaled_determinant.specs.Range.{AnswerRanged}

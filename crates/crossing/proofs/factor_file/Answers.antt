@@ -1,6 +1,5 @@
 -- The same on slices, which keep their lengths. Assumes nothing.
 use native.Mathlib.Omega.{arith}
-use borrow.Author.Rules.{rules}
 use Rattle.crossing.proofs.factor_file.Goals as goal
 
 pub returns : goal.returns

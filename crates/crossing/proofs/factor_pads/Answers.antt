@@ -1,6 +1,5 @@
 -- Factoring's answer without its toss-ups. Assumes nothing.
 use mathlib.Core.Path.{ap}
-use borrow.Author.Rules.{rules}
 use Rattle.crossing.proofs.Below.{Good, held_for, factored_call}
 use Rattle.crossing.proofs.factor_pads.Goals as goal
 

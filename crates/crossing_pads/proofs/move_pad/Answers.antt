@@ -1,7 +1,6 @@
 -- The unit column in front of a store of zeros. Assumes nothing.
 use Prim.Native.Nat.{◌-◌}
 use native.Mathlib.Omega.{arith}
-use borrow.Author.Rules.{rules}
 use Rattle.crossing_pads.proofs.Moving.{unit_front}
 use Rattle.crossing_pads.proofs.move_pad.Goals as goal
 

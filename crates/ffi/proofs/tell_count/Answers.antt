@@ -1,6 +1,5 @@
 -- Case by case. Assumes nothing.
 use mathlib.Core.Path.{refl}
-use borrow.Author.Rules.{rules}
 use Rattle.refusals.specs.Outcome.{number_of}
 use Rattle.ranking.specs.Ranking.{pads_listed}
 use Rattle.ffi.specs.Exports.{count_in}

@@ -1,5 +1,4 @@
 -- Case by case. Assumes nothing.
-use borrow.Author.Rules.{rules}
 use Rattle.adding.specs.Adding.{adding_answer}
 use Rattle.ffi.proofs.Told.{added_told, not_added}
 use Rattle.ffi.proofs.wejdarox_add_column.Goals as goal

@@ -1,5 +1,4 @@
 -- Case by case, and by the test for 7. Assumes nothing.
-use borrow.Author.Rules.{rules}
 use Rattle.ffi.proofs.Told.{value_told, value_seven, value_kept}
 use Rattle.ffi.proofs.wejdarox_determinant.Goals as goal
 

@@ -1,5 +1,4 @@
 -- Case by case. Assumes nothing.
-use borrow.Author.Rules.{rules}
 use Rattle.ffi.proofs.Told.{factored_told, not_factored}
 use Rattle.ffi.proofs.wejdarox_factor.Goals as goal
 

@@ -1,5 +1,4 @@
 -- Case by case. Assumes nothing.
-use borrow.Author.Rules.{rules}
 use Rattle.ffi.proofs.Told.{truth_told, truth_kept}
 use Rattle.ffi.proofs.wejdarox_is_invertible.Goals as goal
 

@@ -1,5 +1,4 @@
 -- Case by case. Assumes nothing.
-use borrow.Author.Rules.{rules}
 use Rattle.ffi.proofs.Told.{pads_told, no_pads_told}
 use Rattle.ffi.proofs.wejdarox_pad_order.Goals as goal
 

@@ -1,5 +1,4 @@
 -- The call's answer, told. Assumes nothing.
-use borrow.Author.Rules.{rules}
 use Rattle.ffi.proofs.Told.{ranks_told}
 use Rattle.ffi.proofs.wejdarox_rank.Goals as goal
 

@@ -1,5 +1,4 @@
 -- Case by case. Assumes nothing.
-use borrow.Author.Rules.{rules}
 use Rattle.ffi.proofs.Told.{parts_told, parts_kept}
 use Rattle.ffi.proofs.wejdarox_scaled_determinant.Goals as goal
 

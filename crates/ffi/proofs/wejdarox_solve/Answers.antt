@@ -1,6 +1,5 @@
 -- The number of the call's own answer. Assumes nothing.
 use mathlib.Core.Path.{ap, ◌∙◌}
-use borrow.Author.Rules.{rules}
 use Rattle.refusals.specs.Outcome.{number_of}
 use Rattle.ffi.proofs.wejdarox_solve.Goals as goal
 

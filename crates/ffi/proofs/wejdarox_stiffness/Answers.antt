@@ -1,5 +1,4 @@
 -- Case by case, and by the test for 7. Assumes nothing.
-use borrow.Author.Rules.{rules}
 use Rattle.ffi.proofs.Told.{parts_told, parts_seven, parts_left}
 use Rattle.ffi.proofs.wejdarox_stiffness.Goals as goal
 

@@ -1,6 +1,5 @@
 -- The season read off its counts, and the counts of the season then. Assumes nothing.
 use mathlib.Core.Path.{ap, ◌∙◌}
-use borrow.Author.Rules.{rules}
 use Rattle.refusals.specs.Outcome.{number_of, Call}
 use Rattle.season.specs.declared.Season.{Season}
 use Rattle.season.specs.Season.{handing, counts_of}

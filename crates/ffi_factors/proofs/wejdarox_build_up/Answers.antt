@@ -1,5 +1,4 @@
 -- Case by case. Assumes nothing.
-use borrow.Author.Rules.{rules}
 use Rattle.ffi.proofs.Told.{factored_told, not_factored}
 use Rattle.ffi_factors.proofs.wejdarox_build_up.Goals as goal
 

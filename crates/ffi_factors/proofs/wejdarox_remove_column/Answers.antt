@@ -1,5 +1,4 @@
 -- Case by case. Assumes nothing.
-use borrow.Author.Rules.{rules}
 use Rattle.ffi_factors.proofs.Told.{removed_told, not_removed}
 use Rattle.ffi_factors.proofs.wejdarox_remove_column.Goals as goal
 

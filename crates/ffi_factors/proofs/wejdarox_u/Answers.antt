@@ -1,6 +1,5 @@
 -- The number of the call's own answer. Assumes nothing.
 use mathlib.Core.Path.{ap, ◌∙◌}
-use borrow.Author.Rules.{rules}
 use Rattle.refusals.specs.Outcome.{number_of}
 use Rattle.ffi_factors.proofs.wejdarox_u.Goals as goal
 

@@ -1,6 +1,5 @@
 -- Case by case. Assumes nothing.
 use mathlib.Core.Path.{sym, ap, ◌∙◌}
-use borrow.Author.Rules.{rules}
 use Rattle.panel_file.specs.Reading.{pads_read}
 use Rattle.ffi_files.proofs.Told.{count_told, no_count}
 use Rattle.ffi_files.proofs.wejdarox_read_panel.Goals as goal

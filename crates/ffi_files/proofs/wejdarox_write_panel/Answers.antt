@@ -1,6 +1,5 @@
 -- Case by case. Assumes nothing.
 use mathlib.Core.Path.{sym, ap, ◌∙◌}
-use borrow.Author.Rules.{rules}
 use Rattle.panel_file_writer.specs.Writing.{bytes_written}
 use Rattle.ffi_files.proofs.Told.{count_told, no_count, writing_told}
 use Rattle.ffi_files.proofs.wejdarox_write_panel.Goals as goal

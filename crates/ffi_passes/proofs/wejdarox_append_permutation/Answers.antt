@@ -1,6 +1,5 @@
 -- Case by case. Assumes nothing.
 use mathlib.Core.Path.{sym, ap, ◌∙◌}
-use borrow.Author.Rules.{rules}
 use Rattle.refusals.specs.Outcome.{number_of}
 use Rattle.swap_list.specs.Appending.{appended, count_of}
 use Rattle.ffi_passes.proofs.wejdarox_append_permutation.Goals as goal

@@ -1,6 +1,5 @@
 -- The number of the call's own answer. Assumes nothing.
 use mathlib.Core.Path.{ap, ◌∙◌}
-use borrow.Author.Rules.{rules}
 use Rattle.refusals.specs.Outcome.{number_of}
 use Rattle.ffi_passes.proofs.wejdarox_solve_lower_triangular_with_diag.Goals as goal
 

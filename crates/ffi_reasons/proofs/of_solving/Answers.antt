@@ -1,6 +1,5 @@
 -- By the case of the reason. Assumes nothing.
 use mathlib.Core.Path.{refl}
-use borrow.Author.Rules.{rules}
 use Rattle.why.specs.Why.{overflowed, told_solve}
 use Rattle.ffi_reasons.specs.Why.{spot_or}
 use Rattle.ffi_reasons.proofs.of_solving.Goals as goal

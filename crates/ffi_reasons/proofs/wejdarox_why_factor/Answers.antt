@@ -1,6 +1,5 @@
 -- The reason's numbers, where the call told them. Assumes nothing.
 use mathlib.Core.Path.{ap, ◌∙◌}
-use borrow.Author.Rules.{rules}
 use Rattle.elimination.specs.Reason.{Place}
 use Rattle.why.specs.Why.{Told}
 use Rattle.ffi_reasons.specs.Why.{place_told}

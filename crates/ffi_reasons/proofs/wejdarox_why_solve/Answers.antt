@@ -1,6 +1,5 @@
 -- The reason's numbers, where the call told them. Assumes nothing.
 use mathlib.Core.Path.{ap, ◌∙◌}
-use borrow.Author.Rules.{rules}
 use Rattle.why.specs.Solving.{Spot}
 use Rattle.why.specs.Why.{Told}
 use Rattle.ffi_reasons.specs.Why.{spot_told}

@@ -1,5 +1,4 @@
 -- The entries by name, four and four. Assumes nothing.
-use borrow.Author.Rules.{rules}
 use borrow.Kind.Array.{e_float, good_length}
 use lib.Ieee.{nan, binary64}
 use Rattle.numbers.specs.Each.{list_of}

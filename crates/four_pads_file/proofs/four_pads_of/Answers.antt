@@ -1,6 +1,5 @@
 -- Read and worked out, or refused. Assumes nothing.
 use mathlib.Core.Path.{◌∙◌}
-use borrow.Author.Rules.{rules}
 use Rattle.four_pads_file.proofs.General.{refused_end, loaded_end}
 use Rattle.four_pads_file.proofs.four_pads_of.Goals as goal
 

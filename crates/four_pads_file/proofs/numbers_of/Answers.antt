@@ -1,6 +1,5 @@
 -- Both arms tell what the reader answered. Assumes nothing.
 use mathlib.Core.Path.{sym, ap}
-use borrow.Author.Rules.{rules}
 use Rattle.refusals.specs.Outcome.{number_of}
 use Rattle.panel_file.specs.declared.Panel.{Panel}
 use Rattle.panel_file.specs.Reading.{pads_read}

@@ -1,5 +1,4 @@
 -- Byte by byte (`field_eight`). Assumes nothing.
-use borrow.Author.Rules.{rules}
 use Rattle.panel_file.proofs.Bits.{field_eight}
 use Rattle.panel_file.proofs.bits_at.Goals as goal
 

@@ -1,5 +1,4 @@
 -- No store is lent besides. Assumes nothing.
-use borrow.Author.Rules.{rules}
 use Rattle.panel_file.specs.Reading.{file_refusal}
 use Rattle.panel_file.proofs.file_refusal.Goals as goal
 

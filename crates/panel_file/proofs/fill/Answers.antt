@@ -1,12 +1,12 @@
 -- What is left to write from number k on is `each_from` from k on. Assumes nothing.
-use Prim.Native.Nat.{ℕ, ◌-◌, ◌+◌}
+use Prim.Native.Nat.{ℕ, ◌+◌}
 use mathlib.Core.Path.{◌≡◌, refl, sym, ap, ◌∙◌}
 use native.Mathlib.Omega.{arith}
 use borrow.Author.Rules.{rules}
-use lib.ListN.{length, set}
+use lib.ListN.{set}
 use lib.Ieee.{Float, nan, binary64, of_bits}
 use lib.Ieee.Scale.{finite}
-use Rattle.numbers.specs.Each.{each_from, list_of}
+use Rattle.numbers.specs.Each.{each_from}
 use Rattle.numbers.proofs.Each.{each_step, each_stop, each_list}
 use Rattle.panel_file.specs.File.{number_at}
 use Rattle.panel_file.proofs.Bits.{finite_number}

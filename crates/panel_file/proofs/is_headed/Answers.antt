@@ -2,7 +2,6 @@
 use Prim.Native.Nat.{ℕ, ◌+◌, ◌*◌}
 use mathlib.Core.Path.{ap₂}
 use borrow.Author.Tests.{lt-leb}
-use borrow.Author.Rules.{rules}
 use Rattle.panel_file.specs.File.{headed}
 use Rattle.panel_file.proofs.Bits.{headed_by}
 use Rattle.panel_file.proofs.is_headed.Goals as goal

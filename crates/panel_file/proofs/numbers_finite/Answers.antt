@@ -1,12 +1,6 @@
 -- What is left to test from number k on gives the whole answer. Assumes nothing.
-use Prim.Native.Nat.{◌-◌}
-use mathlib.Core.Path.{◌≡◌, refl, sym, ◌∙◌}
+use mathlib.Core.Path.{refl, sym, ◌∙◌}
 use mathlib.Core.Bool.{true, false}
-use native.Mathlib.Omega.{arith}
-use lib.ListN.{drop}
-use Rattle.numbers.specs.Each.{list_of}
-use Rattle.finite.specs.Finite.{all_finite}
-use Rattle.panel_file.specs.File.{number_at}
 use Rattle.panel_file.proofs.Numbers.{test_next, test_end}
 use Rattle.panel_file.proofs.numbers_finite.Goals as goal
 

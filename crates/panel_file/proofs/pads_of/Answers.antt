@@ -1,7 +1,6 @@
 -- A read past the end is 0. Assumes nothing.
 use mathlib.Core.Path.{sym}
 use native.Mathlib.Omega.{arith}
-use borrow.Author.Rules.{rules}
 use Prim.Native.Nat.{◌≤◌}
 use lib.ListN.{length, get_or-eq_default}
 use Rattle.panel_file.proofs.pads_of.Goals as goal

@@ -1,6 +1,5 @@
 -- The stores for the greatest file hold any. Assumes nothing.
 use mathlib.Core.Path.{ap}
-use borrow.Author.Rules.{rules}
 use Rattle.panel_file.specs.File.{pads_of}
 use Rattle.panel_file.specs.Reading.{Stores, stores, reading, reading_refusal}
 use Rattle.panel_file.specs.Inner.{reading_beside}

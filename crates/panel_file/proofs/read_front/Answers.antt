@@ -1,7 +1,6 @@
 -- The matrix, then the readings, each over the front of its store. Assumes nothing.
 use mathlib.Core.Path.{sym, ◌∙◌}
 use native.Mathlib.Omega.{arith}
-use borrow.Author.Rules.{rules}
 use Rattle.panel_file.proofs.Reading.{square, Passed, read_refused, read_filled, matrix_fits, readings_fit, matrix_count, readings_count, matrix_asks}
 use Rattle.panel_file.proofs.Reading.{readings_asks}
 use Rattle.panel_file.proofs.read_front.Goals.{After-pads_of-n}

@@ -5,7 +5,6 @@ use Prim.Native.Nat.{ℕ, ◌*◌}
 use native.Mathlib.Omega.{arith}
 use lib.Dec.{eqb}
 use lib.ListN.{length}
-use borrow.Author.Rules.{rules}
 use Rattle.panel_file.specs.File.{pads_of}
 use Rattle.panel_file.specs.Reading.{stores, pads_read}
 use Rattle.panel_file.specs.Inner.{reading_beside}

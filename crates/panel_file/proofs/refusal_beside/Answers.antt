@@ -2,7 +2,6 @@
 use Prim.Native.Nat.{ℕ, ◌*◌, ◌≤◌}
 use mathlib.Core.Path.{◌≡◌, ap, ◌∙◌}
 use native.Mathlib.Omega.{arith}
-use borrow.Author.Rules.{rules}
 use Rattle.finite.specs.Finite.{all_finite}
 use Rattle.panel_file.specs.File.{numbers_of}
 use Rattle.panel_file.proofs.Reading.{square, head_refusal, head_tested, refused_early, refused_late, places_tested}

@@ -1,8 +1,6 @@
 -- What is left at byte k are the bits divided by 256 so often (`Putting`). Assumes nothing.
 use Prim.Native.Nat.{◌-◌}
-use native.Mathlib.Omega.{arith}
-use borrow.Author.Rules.{rules}
-use Rattle.panel_file_writer.proofs.Fields.{Putting, put_begin, put_turn, put_end}
+use Rattle.panel_file_writer.proofs.Fields.{Putting}
 use Rattle.panel_file_writer.proofs.put_bits.Given as goal
 
 abbrev pub invariant-loop-k : goal.invariant-loop-k

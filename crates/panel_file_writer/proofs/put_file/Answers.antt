@@ -1,6 +1,5 @@
 -- Each piece leaves what stands before it (`file_put`). Assumes nothing.
 use mathlib.Core.Path.{◌∙◌}
-use borrow.Author.Rules.{rules}
 use Rattle.panel_file_writer.proofs.Fields.{file_put}
 use Rattle.panel_file_writer.proofs.put_file.Goals as goal
 

@@ -1,12 +1,7 @@
 -- The numbers before number k are written, and what stands before them stays (`Filling`). Assumes nothing.
 use Prim.Native.Nat.{◌-◌}
-use mathlib.Core.Path.{refl}
-use native.Mathlib.Omega.{arith}
-use borrow.Author.Rules.{rules}
 use lib.ListN.{length}
-use Rattle.finite.proofs.Finite.{finite_entry}
-use Rattle.panel_file.proofs.Bits.{no_nan}
-use Rattle.panel_file_writer.proofs.Fields.{Filling, fill_turn, fill_end}
+use Rattle.panel_file_writer.proofs.Fields.{Filling}
 use Rattle.panel_file_writer.proofs.put_numbers.Given as goal
 
 abbrev pub invariant-loop-k : goal.invariant-loop-k

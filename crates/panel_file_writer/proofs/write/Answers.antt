@@ -1,7 +1,6 @@
 -- The tests, then the file over the front of the slice. Assumes nothing.
 use mathlib.Core.Path.{sym, ◌∙◌}
 use native.Mathlib.Omega.{arith}
-use borrow.Author.Rules.{rules}
 use lib.Seq.{length-take-le}
 use Rattle.panel_file_writer.proofs.Writing.{small, fit, write_refused, write_done}
 use Rattle.panel_file_writer.proofs.write.Goals as goal

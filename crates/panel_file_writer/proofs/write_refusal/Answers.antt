@@ -1,7 +1,6 @@
 -- The size first, so that its square is a small number; then the tests as the definition has them. Assumes nothing.
 use mathlib.Core.Path.{sym, ◌∙◌}
 use native.Mathlib.Omega.{arith}
-use borrow.Author.Rules.{rules}
 use Rattle.refusals.proofs.Tests.{inside}
 use Rattle.panel_file_writer.proofs.Writing.{small, size_refused, size_passed}
 use Rattle.panel_file_writer.proofs.write_refusal.Goals as goal

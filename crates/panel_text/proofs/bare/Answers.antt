@@ -1,6 +1,5 @@
 -- By the sign: the number negated, or as it is; an i32 and a u64 hold both. Assumes nothing.
 use mathlib.Core.Path.{ap}
-use borrow.Author.Rules.{rules}
 use lib.IntN.{nat_abs}
 use Rattle.panel_text.proofs.Whole.{negated_held, negated_is, negated_cast, above_cast}
 use Rattle.panel_text.proofs.bare.Goals as goal

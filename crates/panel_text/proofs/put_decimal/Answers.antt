@@ -1,6 +1,5 @@
 -- One digit, or two. Assumes nothing.
 use native.Mathlib.Omega.{arith}
-use borrow.Author.Rules.{rules}
 use lib.ListN.{length-set}
 use Rattle.panel_text.proofs.Writing.{decimal_one, decimal_two}
 use Rattle.panel_text.proofs.put_decimal.Goals as goal

@@ -1,7 +1,6 @@
 -- The refusal, the step, the column and the row (`told_factoring`). Assumes nothing.
 use mathlib.Core.List.{◌++◌}
 use native.Mathlib.Omega.{arith}
-use borrow.Author.Rules.{rules}
 use lib.ListN.{length-append}
 use Rattle.panel_text.specs.Text.{refused_text}
 use Rattle.panel_text.specs.Why.{step_word, place_text}

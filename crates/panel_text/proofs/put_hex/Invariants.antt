@@ -1,8 +1,5 @@
 -- What is left at digit k are the first k digits of the rest of the bits (`Spelling`). Assumes nothing.
-use mathlib.Core.Path.{refl}
-use native.Mathlib.Omega.{arith}
-use borrow.Author.Rules.{rules}
-use Rattle.panel_text.proofs.Writing.{Spelling, spell_turn, spell_end}
+use Rattle.panel_text.proofs.Writing.{Spelling}
 use Rattle.panel_text.proofs.put_hex.Given as goal
 
 abbrev pub invariant-loop-k : goal.invariant-loop-k

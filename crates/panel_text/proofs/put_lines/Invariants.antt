@@ -1,11 +1,7 @@
 -- What is left at pad i are the lines from i on (`Lines`). Assumes nothing.
 use Prim.Native.Nat.{◌-◌}
-use mathlib.Core.Path.{refl}
-use native.Mathlib.Omega.{arith}
-use borrow.Author.Rules.{rules}
 use lib.ListN.{length}
-use Rattle.finite.proofs.Finite.{finite_entry}
-use Rattle.panel_text.proofs.Lines.{Lines, lines_turn, lines_end}
+use Rattle.panel_text.proofs.Lines.{Lines}
 use Rattle.panel_text.proofs.put_lines.Given as goal
 
 abbrev pub invariant-loop-i : goal.invariant-loop-i

@@ -1,14 +1,12 @@
 -- What is left at reading i are the lines from i on (`Lines`). Assumes nothing.
-use Prim.Native.Nat.{suc, ◌-◌}
+use Prim.Native.Nat.{suc}
 use mathlib.Core.Path.{refl, ◌∙◌}
 use native.Mathlib.Nat.{zero-add}
 use native.Mathlib.Omega.{arith}
-use borrow.Author.Rules.{rules}
 use lib.ListN.{length}
 use Rattle.numbers.proofs.Each.{length_list}
 use Rattle.finite.proofs.Finite.{finite_entry}
-use Rattle.panel_text.specs.Text.{numbered}
-use Rattle.panel_text.proofs.Lines.{Lines, lines_end, moves_turn}
+use Rattle.panel_text.proofs.Lines.{lines_end, moves_turn}
 use Rattle.panel_text.proofs.put_moves.Goals as goal
 
 pub loop-i-init : goal.loop-i-init

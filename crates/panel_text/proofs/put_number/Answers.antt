@@ -1,6 +1,5 @@
 -- No reason, or the refusal (`told_some`). Assumes nothing.
 use native.Mathlib.Omega.{arith}
-use borrow.Author.Rules.{rules}
 use Rattle.panel_text.specs.Text.{refused_text}
 use Rattle.panel_text.specs.Why.{no_reason_line}
 use Rattle.panel_text.proofs.Pieces.{put_first, put_text, length_refused, told_none, told_some}

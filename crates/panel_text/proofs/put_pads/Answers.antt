@@ -1,7 +1,6 @@
 -- The first line, then a line for each pad. Assumes nothing.
 use mathlib.Core.Path.{◌≡◌}
 use native.Mathlib.Omega.{arith}
-use borrow.Author.Rules.{rules}
 use lib.ListN.{length, length-set}
 use Rattle.panel_text.specs.Text.{written, pads_word, pads_text}
 use Rattle.panel_text.proofs.Lines.{FirstLine, first_line_lem, pads_written}

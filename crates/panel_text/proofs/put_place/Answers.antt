@@ -1,7 +1,6 @@
 -- The word, then the number. Assumes nothing.
 use Prim.Native.Nat.{◌+◌}
 use native.Mathlib.Omega.{arith}
-use borrow.Author.Rules.{rules}
 use Rattle.panel_text.specs.Text.{decimal}
 use Rattle.panel_text.specs.Why.{place_text}
 use Rattle.panel_text.proofs.Writing.{length_decimal}

@@ -1,6 +1,5 @@
 -- The word, the number, the newline. Assumes nothing.
 use native.Mathlib.Omega.{arith}
-use borrow.Author.Rules.{rules}
 use lib.ListN.{length-set}
 use Rattle.panel_text.specs.Text.{refused_word}
 use Rattle.panel_text.proofs.Lines.{FirstLine, first_line_lem, refusal_written}

@@ -1,7 +1,6 @@
 -- The refusal, the column, the newline (`told_singular`). Assumes nothing.
 use mathlib.Core.List.{[], ◌∷◌, ◌++◌}
 use native.Mathlib.Omega.{arith}
-use borrow.Author.Rules.{rules}
 use lib.ListN.{length-append}
 use Rattle.panel_text.specs.Text.{refused_text}
 use Rattle.panel_text.specs.Why.{column_word, place_text}

@@ -1,8 +1,7 @@
 -- The column, the row, the newline. Assumes nothing.
 use mathlib.Core.List.{[], ◌∷◌, ◌++◌}
 use native.Mathlib.Omega.{arith}
-use borrow.Author.Rules.{rules}
-use lib.ListN.{length, length-append}
+use lib.ListN.{length-append}
 use Rattle.panel_text.specs.Why.{column_part, row_part, place_text, spot_text}
 use Rattle.panel_text.proofs.Pieces.{Put, put_first, put_next, length_place}
 use Rattle.panel_text.proofs.put_spot.Goals.{After-put_place-arg-6-1, After-put_word-arg-3-1}

@@ -1,5 +1,4 @@
 -- The four groups of digits; nothing wraps. Assumes nothing.
-use borrow.Author.Rules.{rules}
 use Rattle.panel_write.specs.Text.{bits_at}
 use Rattle.panel_write.proofs.bits_at.Goals as goal
 

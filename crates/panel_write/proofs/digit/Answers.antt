@@ -1,6 +1,5 @@
 -- Each arm by the limits that led there. Assumes nothing.
 use native.Mathlib.Omega.{arith}
-use borrow.Author.Rules.{rules}
 use Rattle.panel_write.proofs.Digits.{digit_before, digit_figure, digit_between, digit_letter, digit_behind}
 use Rattle.panel_write.proofs.digit.Goals as goal
 

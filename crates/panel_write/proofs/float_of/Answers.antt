@@ -1,5 +1,4 @@
 -- The bits that are a NaN's are those above an infinity's, without the sign. Assumes nothing.
-use borrow.Author.Rules.{rules}
 use Rattle.panel_write.proofs.Floats.{nan_read, number_read}
 use Rattle.panel_write.proofs.float_of.Goals as goal
 

@@ -1,6 +1,5 @@
 -- The four digits' values; nothing wraps. Assumes nothing.
 use native.Mathlib.Omega.{arith}
-use borrow.Author.Rules.{rules}
 use Rattle.panel_write.proofs.four_at.Goals as goal
 
 pub returns : goal.returns

@@ -1,7 +1,6 @@
 -- Each answer by the tests that led there. Assumes nothing.
 use mathlib.Core.Path.{refl, ap, ◌∙◌}
 use native.Mathlib.Omega.{arith}
-use borrow.Author.Rules.{rules}
 use Rattle.panel_write.specs.Text.{two_digits}
 use Rattle.panel_write.proofs.FirstLine.{head_short, head_one, head_two, head_none}
 use Rattle.panel_write.proofs.head_of.Goals as goal

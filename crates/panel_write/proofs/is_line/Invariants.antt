@@ -1,14 +1,7 @@
 -- All bytes before place k are digits. Assumes nothing.
 use Prim.Native.Nat.{ℕ, ◌+◌, ◌-◌, ◌≤◌, ◌<◌}
-use mathlib.Core.Path.{◌≡◌}
-use mathlib.Core.Logic.{⊎_elim}
-use native.Mathlib.Omega.{arith}
-use borrow.Author.Rules.{rules}
-use borrow.Author.Tests.{ltb-true, ltb-false, eq-eqb}
 use lib.ListN.{get_or}
-use Rattle.numbers.proofs.Choice.{and_both}
 use Rattle.panel_write.specs.Text.{digit_of}
-use Rattle.panel_write.proofs.Lines.{before_next, line_tests}
 use Rattle.panel_write.proofs.is_line.Given as goal
 
 abbrev pub invariant-loop-k : goal.invariant-loop-k

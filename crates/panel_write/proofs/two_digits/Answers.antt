@@ -1,5 +1,4 @@
 -- By the two tests. Assumes nothing.
-use borrow.Author.Rules.{rules}
 use borrow.Author.Tests.{lt-ltb, le-ltb}
 use Rattle.panel_write.specs.Text.{two_digits}
 use Rattle.panel_write.proofs.two_digits.Goals as goal

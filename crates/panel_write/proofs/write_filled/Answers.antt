@@ -1,7 +1,6 @@
 -- The writer's answer on the numbers that were read, or the refusal of a line. Assumes nothing.
 use mathlib.Core.Path.{sym, ◌∙◌}
 use mathlib.Core.Bool.{true≢false}
-use borrow.Author.Rules.{rules}
 use Rattle.panel_write.proofs.Written.{lines_whole, lines_refused}
 use Rattle.panel_write.proofs.write_filled.Goals as goal
 

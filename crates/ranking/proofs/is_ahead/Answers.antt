@@ -1,6 +1,5 @@
 -- By the two tests, as the meaning has them. Assumes nothing.
 use mathlib.Core.Path.{sym, ap₂, ◌∙◌}
-use borrow.Author.Rules.{rules}
 use lib.Ieee.{lt}
 use Rattle.ranking.specs.Ranking.{ahead}
 use Rattle.ranking.proofs.is_ahead.Goals as goal

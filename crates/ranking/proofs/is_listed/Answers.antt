@@ -1,7 +1,6 @@
 -- All pads, or by the test for a zero. Assumes nothing.
 use mathlib.Core.Path.{ap}
 use mathlib.Core.Bool.{not}
-use borrow.Author.Rules.{rules}
 use Rattle.ranking.proofs.is_listed.Goals as goal
 
 pub returns : goal.returns

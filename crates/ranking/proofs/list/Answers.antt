@@ -1,11 +1,9 @@
 -- After k pads the first k slots hold the chosen ones of them, and 0 behind (`Filling`). Assumes nothing.
-use Prim.Native.Nat.{◌-◌, ◌≤◌, ◌<◌}
+use Prim.Native.Nat.{◌<◌}
 use mathlib.Core.Path.{sym, ◌∙◌}
 use native.Mathlib.Omega.{arith}
-use borrow.Author.Rules.{rules}
 use lib.ListN.{length, length-set}
-use Rattle.ranking.specs.Inner.{choice_by}
-use Rattle.ranking.proofs.Listing.{Filling, held_pads, turn_with, turn_without, filling_begins, filling_ends}
+use Rattle.ranking.proofs.Listing.{held_pads, turn_with, turn_without, filling_begins, filling_ends}
 use Rattle.ranking.proofs.list.Goals.{then-is_listed, else-is_listed}
 use Rattle.ranking.proofs.list.Goals as goal
 

@@ -1,12 +1,8 @@
 -- After k pads the first k slots hold the chosen ones of them, and 0 behind (`Filling`). Assumes nothing.
-use Prim.Native.Nat.{◌-◌, ◌≤◌, ◌<◌}
-use mathlib.Core.Path.{sym, ◌∙◌}
-use mathlib.Core.Logic.{⊎_elim}
-use native.Mathlib.Omega.{arith}
-use borrow.Author.Rules.{rules}
-use lib.ListN.{length, length-set}
+use Prim.Native.Nat.{◌-◌, ◌≤◌}
+use lib.ListN.{length}
 use Rattle.ranking.specs.Inner.{choice_by}
-use Rattle.ranking.proofs.Listing.{Filling, held_pads, turn_with, turn_without, filling_begins, filling_ends}
+use Rattle.ranking.proofs.Listing.{Filling}
 use Rattle.ranking.proofs.list.Given as goal
 
 abbrev pub invariant-loop-k : goal.invariant-loop-k

@@ -1,6 +1,5 @@
 -- The tests, then the pads listed. Assumes nothing.
 use mathlib.Core.Path.{◌≡◌, sym, ◌∙◌}
-use borrow.Author.Rules.{rules}
 use Rattle.ranking.specs.Ranking.{ranking_refusal}
 use Rattle.ranking.proofs.Calls.{accepted, outcome_refused, outcome_ranked}
 use Rattle.ranking.proofs.rank_chosen.Goals.{After-list-arg-1}

@@ -1,5 +1,4 @@
 -- The tests one within the other, as the definition has them. Assumes nothing.
-use borrow.Author.Rules.{rules}
 use Rattle.refusals.specs.Outcome.{first_holding}
 use Rattle.ranking.specs.Ranking.{ranking_refusal}
 use Rattle.ranking.proofs.rank_refusal.Goals as goal

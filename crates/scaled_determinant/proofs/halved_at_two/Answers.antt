@@ -1,6 +1,5 @@
 -- By whether the magnitude reaches 2; the exponent has room for one more (`halved_more`, `as_it_is`). Assumes nothing.
 use mathlib.Core.Path.{sym, ap, ◌∙◌}
-use borrow.Author.Rules.{rules}
 use lib.Ieee.{le}
 use Rattle.scaled_determinant.specs.Scaled.{two64}
 use Rattle.scaled_determinant.proofs.Steps.{more_held, halved_more, as_it_is}

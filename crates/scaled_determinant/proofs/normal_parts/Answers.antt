@@ -1,5 +1,4 @@
 -- The bits with another field, and the field less 1023, are the parts (`normal_read`). Assumes nothing.
-use borrow.Author.Rules.{rules}
 use denote.Floats.{passes}
 use lib.Dec.{T}
 use lib.Ieee.{binary64, fits, to_bits}

@@ -1,7 +1,6 @@
 -- A subnormal number by the normal one that it is lifted to (`small_read`), any other as it stands. Assumes nothing.
 use mathlib.Core.Path.{◌≡◌, refl, sym, ap, ◌∙◌, subst}
 use Prim.Native.Nat.{◌<◌}
-use borrow.Author.Rules.{rules}
 use denote.Floats.{passes}
 use lib.Dec.{T}
 use lib.Ieee.{Float, binary64, mul, fits, of_bits, to_bits}

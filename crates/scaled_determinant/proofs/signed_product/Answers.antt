@@ -1,6 +1,5 @@
 -- The product, whose exponent an i32 holds, with the sign of the swaps. Assumes nothing.
 use mathlib.Core.Path.{◌≡◌, sym, ap, subst}
-use borrow.Author.Rules.{rules}
 use lib.Ieee.{binary64, mul}
 use Rattle.store.specs.Columns.{columns}
 use Rattle.store.proofs.Columns.{sized}

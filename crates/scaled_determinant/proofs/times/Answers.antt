@@ -1,6 +1,5 @@
 -- The product of the significands, and the sum of the exponents, which an i32 holds (`times_made`). Assumes nothing.
 use mathlib.Core.Path.{◌∙◌}
-use borrow.Author.Rules.{rules}
 use denote.Floats.{passes}
 use lib.Dec.{T}
 use lib.Ieee.{binary64, fits}

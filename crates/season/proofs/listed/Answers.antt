@@ -1,5 +1,5 @@
 -- The ranking of finite loads is not refused. Assumes nothing.
-use Rattle.std.proofs.Common.{sym, arith, rules}
+use Rattle.std.proofs.Common.{sym, arith}
 use Rattle.crossing.proofs.Factors.{taken_count}
 use Rattle.season.proofs.Telling.{listed_pads, listed_never}
 use Rattle.season.proofs.listed.Goals as goal

@@ -1,5 +1,5 @@
 -- A place that is there is written; past the end nothing is. Assumes nothing.
-use Rattle.std.proofs.Common.{arith, w64, rules}
+use Rattle.std.proofs.Common.{arith, w64}
 use borrow.Kind.Array.{e_int, good_length}
 use Rattle.season.specs.Season.{one_more_at}
 use Rattle.season.proofs.Rows.{past_end}

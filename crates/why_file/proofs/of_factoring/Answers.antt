@@ -1,8 +1,7 @@
 -- By the case of the reason. Assumes nothing.
 use mathlib.Core.Path.{sym, ap}
-use borrow.Author.Rules.{rules}
 use Rattle.why.specs.declared.WhyFactor.{WhyFactor}
-use Rattle.why.specs.Why.{told_number, overflowed, told_factor}
+use Rattle.why.specs.Why.{overflowed, told_factor}
 use Rattle.why_file.specs.Explaining.{in_factoring, told_in, told_file}
 use Rattle.why_file.proofs.of_factoring.Goals as goal
 

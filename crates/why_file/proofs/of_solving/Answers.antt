@@ -1,6 +1,5 @@
 -- By the case of the reason. Assumes nothing.
 use mathlib.Core.Path.{sym, ap}
-use borrow.Author.Rules.{rules}
 use Rattle.why.specs.declared.WhySolve.{WhySolve}
 use Rattle.why.specs.Why.{overflowed, told_solve}
 use Rattle.why_file.specs.Explaining.{in_solving, told_in, told_file}

@@ -1,6 +1,5 @@
 -- Reading, then why the matrix is not factored (`by_matrix`, `by_reader`). Assumes nothing.
 use mathlib.Core.Path.{◌∙◌}
-use borrow.Author.Rules.{rules}
 use lib.ListN.{length-replicate}
 use Rattle.numbers.specs.Numbers.{zero64}
 use Rattle.why_file.proofs.Filed.{was_read, by_matrix, by_reader}

@@ -2,14 +2,12 @@
 use mathlib.Core.Path.{ap, ◌∙◌}
 use Prim.Native.Nat.{◌*◌}
 use native.Mathlib.Omega.{arith}
-use borrow.Author.Rules.{rules}
 use lib.ListN.{take, length-replicate}
 use Rattle.numbers.specs.Numbers.{zero64}
 use Rattle.numbers.specs.Column.{Column, zeros}
 use Rattle.panel_file.proofs.Reading.{square}
 use Rattle.crossing.proofs.Factors.{taken_count}
-use Rattle.why.specs.Why.{Told, explain_solving}
-use Rattle.why.specs.Solving.{Spot}
+use Rattle.why.specs.Why.{explain_solving}
 use Rattle.why_file.specs.Explaining.{in_solving, told_in, explain_loads}
 use Rattle.why_file.proofs.Filed.{zeros_front}
 use Rattle.why_file.proofs.why_loads.Goals as goal

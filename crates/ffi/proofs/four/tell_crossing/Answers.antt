@@ -1,6 +1,5 @@
 -- The profile, told. Assumes nothing.
 use mathlib.Core.Path.{◌∙◌}
-use borrow.Author.Rules.{rules}
 use Rattle.ffi.proofs.four.tell_crossing.Goals as goal
 
 pub returns : goal.returns

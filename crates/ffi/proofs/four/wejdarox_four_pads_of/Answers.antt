@@ -1,6 +1,5 @@
 -- The refusal, or the profile of what was read, told. Assumes nothing.
 use mathlib.Core.Path.{◌∙◌}
-use borrow.Author.Rules.{rules}
 use Rattle.four_pads_file.proofs.General.{refused_end, loaded_end}
 use Rattle.ffi.proofs.four.wejdarox_four_pads_of.Goals as goal
 

@@ -1,5 +1,4 @@
 -- By what the file brought. Assumes nothing.
-use Rattle.std.proofs.Common.{rules}
 use Rattle.season.specs.Telling.{share_told}
 use Rattle.season.specs.Season.{counted}
 use Rattle.season.proofs.Telling.{some_number}

@@ -1,5 +1,5 @@
 -- Each count at its place. Assumes nothing.
-use Rattle.std.proofs.Common.{refl, rules}
+use Rattle.std.proofs.Common.{refl}
 use Rattle.numbers.specs.Each.{list_of}
 use Rattle.season.specs.Season.{counts_of}
 use Rattle.season.proofs.Season.counts.Goals as goal

@@ -1,5 +1,5 @@
 -- Each count at its place. Assumes nothing.
-use Rattle.std.proofs.Common.{refl, rules}
+use Rattle.std.proofs.Common.{refl}
 use Rattle.numbers.specs.Each.{list_of}
 use Rattle.season.specs.Season.{season_from}
 use Rattle.season.proofs.Season.from_counts.Goals as goal

@@ -1,5 +1,5 @@
 -- By the number of files. Assumes nothing.
-use Rattle.std.proofs.Common.{sym, ◌∙◌, arith, rules, le-leb}
+use Rattle.std.proofs.Common.{sym, ◌∙◌, arith, le-leb}
 use borrow.Author.Tests.{lt-leb}
 use Rattle.refusals.specs.Outcome.{first_holding, tested}
 use Rattle.refusals.specs.Refusals.{answered}
