@@ -41,7 +41,7 @@
  *               wejdarox_with_file and the other texts at most 38 KB; the rest under 1 KB.
  *             It owes nothing else: sizes, lengths, swap lists and numbers may be anything.
  *
- *  Machine    `./library` writes libwejdarox.a and libwejdarox.so for x86-64 or Arm Linux. They need `memset`, `memcpy` and `memmove` and nothing else. No call
+ *  Machine    `./library` writes libwejdarox.a and libwejdarox.so for x86-64 Linux. They need `memset`, `memcpy` and `memmove` and nothing else. No call
  *             allocates or keeps anything, so calls from several threads are safe on buffers that are apart.
  */
 #ifndef WEJDAROX_H

@@ -16,8 +16,8 @@ NAMES = ["panel_order", "panel_why", "panel_stiffness", "panel_moves", "panel_se
 
 
 def newest(folder: str) -> float:
-    """When a file below a folder was changed last."""
-    return max(os.path.getmtime(os.path.join(where, name)) for where, _, names in os.walk(folder) for name in names)
+    """When a file below a folder was changed last, but for what is built there."""
+    return max(os.path.getmtime(os.path.join(where, name)) for where, _, names in os.walk(folder) if "/out" not in where[len(folder):] for name in names)
 
 
 class Built(unittest.TestCase):

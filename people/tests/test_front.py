@@ -20,7 +20,7 @@ import spreadsheet
 from sheets import sheet_of
 
 UNAME = '#!/bin/sh\ncase $1 in -m) echo x86_64 ;; -s) echo Linux ;; -n) echo here ;; esac\n'
-RT = '#!/bin/sh\necho "$2" >>"$CALLS"\nmkdir -p target/bin\nln -sf "$STAND_INS/$2" target/bin\necho "rt: $2 proved (3 s)"\n'
+RT = '#!/bin/sh\nname=$(basename "$PWD")\necho "$name" >>"$CALLS"\nmkdir -p out\nln -sf "$STAND_INS/$name" out\necho "rt: running out/$name" >&2\n'
 
 
 class Front(unittest.TestCase):

@@ -50,8 +50,7 @@ fn tell_crossing(
 }
 
 // The factors, swaps and loads of a crossing of four pads. Refused: zeros.
-#[unsafe(no_mangle)]
-pub extern "C" fn wejdarox_four_pads(
+pub fn wejdarox_four_pads(
     matrix: &[[f64; 4]; 4],
     readings: &[f64; 4],
     factors: &mut [f64; 16],
@@ -66,8 +65,7 @@ pub extern "C" fn wejdarox_four_pads(
 }
 
 // The same for a panel file of four pads. Refused, also for another size: zeros.
-#[unsafe(no_mangle)]
-pub extern "C" fn wejdarox_four_pads_of(
+pub fn wejdarox_four_pads_of(
     file: &[u8],
     factors: &mut [f64; 16],
     pairs: &mut usize,

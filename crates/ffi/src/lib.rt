@@ -2,7 +2,7 @@
 // written through a pointer. Each hands its arguments on and adds nothing of its own; include/wejdarox.h is the caller's side.
 #![tactic(auto)]
 
-mod four;
+pub mod four;
 
 ghost use Rattle.std.specs.Prelude.{◌≡◌};
 ghost use Rattle.numbers.specs.Numbers.{zero64};
@@ -30,8 +30,7 @@ use scaled_determinant::ScaledDet;
 use season::Season;
 
 // Factors the m by n matrix a. Refused: no pairs, no dead columns and no toss-ups.
-#[unsafe(no_mangle)]
-pub extern "C" fn wejdarox_factor(
+pub fn wejdarox_factor(
     a: &[f64],
     m: usize,
     n: usize,
@@ -68,8 +67,7 @@ pub extern "C" fn wejdarox_factor(
 }
 
 // Adds a raw column to m by n factors with *pairs swaps and *dead dead columns. Refused: both as they were, and no toss-ups.
-#[unsafe(no_mangle)]
-pub extern "C" fn wejdarox_add_column(
+pub fn wejdarox_add_column(
     factors: &mut [f64],
     column: &[f64],
     swaps: &mut [usize],
@@ -120,8 +118,7 @@ pub extern "C" fn wejdarox_add_column(
 }
 
 // Solves for the k right-hand columns b, into x, by m by n factors with that many pairs of swaps.
-#[unsafe(no_mangle)]
-pub extern "C" fn wejdarox_solve(
+pub fn wejdarox_solve(
     factors: &[f64],
     swaps: &[usize],
     m: usize,
@@ -146,8 +143,7 @@ pub extern "C" fn wejdarox_solve(
 }
 
 // The inverse, into x.
-#[unsafe(no_mangle)]
-pub extern "C" fn wejdarox_inverse(
+pub fn wejdarox_inverse(
     factors: &[f64],
     swaps: &[usize],
     m: usize,
@@ -169,8 +165,7 @@ pub extern "C" fn wejdarox_inverse(
 }
 
 // The determinant, through value. Refused with 7 it is +0.0, else refused as it was.
-#[unsafe(no_mangle)]
-pub extern "C" fn wejdarox_determinant(
+pub fn wejdarox_determinant(
     factors: &[f64],
     swaps: &[usize],
     m: usize,
@@ -204,8 +199,7 @@ pub extern "C" fn wejdarox_determinant(
 }
 
 // The determinant as a significand and a binary exponent. Refused: both as they were.
-#[unsafe(no_mangle)]
-pub extern "C" fn wejdarox_scaled_determinant(
+pub fn wejdarox_scaled_determinant(
     factors: &[f64],
     swaps: &[usize],
     m: usize,
@@ -241,8 +235,7 @@ pub extern "C" fn wejdarox_scaled_determinant(
 }
 
 // Whether the factored matrix is invertible, through invertible. Refused: as it was.
-#[unsafe(no_mangle)]
-pub extern "C" fn wejdarox_is_invertible(
+pub fn wejdarox_is_invertible(
     factors: &[f64],
     swaps: &[usize],
     m: usize,
@@ -288,8 +281,7 @@ fn tell_count(answer: Listed, count: &mut usize) -> usize
 }
 
 // Ranks those of the n loads that are not zero, their number through count. Refused: none.
-#[unsafe(no_mangle)]
-pub extern "C" fn wejdarox_rank(
+pub fn wejdarox_rank(
     loads: &[f64],
     n: usize,
     ranks: &mut [usize],
@@ -303,8 +295,7 @@ pub extern "C" fn wejdarox_rank(
 }
 
 // Ranks all of the n loads. Refused: none.
-#[unsafe(no_mangle)]
-pub extern "C" fn wejdarox_rank_all(
+pub fn wejdarox_rank_all(
     loads: &[f64],
     n: usize,
     ranks: &mut [usize],
@@ -318,8 +309,7 @@ pub extern "C" fn wejdarox_rank_all(
 }
 
 // The whole answer for a panel file, its number of pads through pads and of toss-ups through toss_ups. Refused: no pads and no toss-ups.
-#[unsafe(no_mangle)]
-pub extern "C" fn wejdarox_pad_order(
+pub fn wejdarox_pad_order(
     file: &[u8],
     ranks: &mut [usize; 64],
     loads: &mut [f64; 64],
@@ -351,8 +341,7 @@ pub extern "C" fn wejdarox_pad_order(
 
 // The stiffness of a panel file's crossing, as a significand and a binary exponent, with its number of toss-ups. Refused with 7 it is
 // +0.0 with 0, else refused as it was; refused there are no toss-ups.
-#[unsafe(no_mangle)]
-pub extern "C" fn wejdarox_stiffness(
+pub fn wejdarox_stiffness(
     file: &[u8],
     significand: &mut f64,
     exponent: &mut i32,
@@ -386,8 +375,7 @@ pub extern "C" fn wejdarox_stiffness(
 }
 
 // Hands a panel file over to a season, which stands as its sixteen counts and the number of files. Refused with 10, the season being full: all as it was.
-#[unsafe(no_mangle)]
-pub extern "C" fn wejdarox_with_file(file: &[u8], season: &mut [usize; 17]) -> usize
+pub fn wejdarox_with_file(file: &[u8], season: &mut [usize; 17]) -> usize
     ensures value { result ≡ number_of (handing (season_from season.old) file.now).answer }
     ensures season_after { season.new ≡ counts_of (handing (season_from season.old) file.now).left }
 {

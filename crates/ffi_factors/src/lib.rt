@@ -15,8 +15,7 @@ use lu::Factored;
 use removing::Removed;
 
 // Takes the last column off m by n factors with *pairs swaps and *dead dead columns. Refused: both as they were.
-#[unsafe(no_mangle)]
-pub extern "C" fn wejdarox_remove_column(
+pub fn wejdarox_remove_column(
     factors: &mut [f64],
     swaps: &mut [usize],
     m: usize,
@@ -55,8 +54,7 @@ pub extern "C" fn wejdarox_remove_column(
 }
 
 // Factors the m by n matrix a by adding column after column: answers and leaves what `wejdarox_factor` does.
-#[unsafe(no_mangle)]
-pub extern "C" fn wejdarox_build_up(
+pub fn wejdarox_build_up(
     a: &[f64],
     m: usize,
     n: usize,
@@ -93,8 +91,7 @@ pub extern "C" fn wejdarox_build_up(
 }
 
 // L of m by n factors, into x.
-#[unsafe(no_mangle)]
-pub extern "C" fn wejdarox_l(
+pub fn wejdarox_l(
     factors: &[f64],
     swaps: &[usize],
     m: usize,
@@ -116,8 +113,7 @@ pub extern "C" fn wejdarox_l(
 }
 
 // U of m by n factors, into x.
-#[unsafe(no_mangle)]
-pub extern "C" fn wejdarox_u(
+pub fn wejdarox_u(
     factors: &[f64],
     swaps: &[usize],
     m: usize,
@@ -139,8 +135,7 @@ pub extern "C" fn wejdarox_u(
 }
 
 // Solves for the k right-hand columns b by the transposed matrix, into x.
-#[unsafe(no_mangle)]
-pub extern "C" fn wejdarox_tr_solve(
+pub fn wejdarox_tr_solve(
     factors: &[f64],
     swaps: &[usize],
     m: usize,

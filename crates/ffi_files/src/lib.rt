@@ -19,8 +19,7 @@ use panel_file::Panel;
 use panel_file_writer::Written;
 
 // Reads a panel file into two stores, its number of pads through pads. Refused: no pads.
-#[unsafe(no_mangle)]
-pub extern "C" fn wejdarox_read_panel(
+pub fn wejdarox_read_panel(
     file: &[u8],
     matrix: &mut [f64],
     readings: &mut [f64],
@@ -44,8 +43,7 @@ pub extern "C" fn wejdarox_read_panel(
 }
 
 // Writes the panel file of n pads to the front of out, how many bytes it has through count. Refused: none.
-#[unsafe(no_mangle)]
-pub extern "C" fn wejdarox_write_panel(
+pub fn wejdarox_write_panel(
     n: usize,
     matrix: &[f64],
     readings: &[f64],
@@ -70,8 +68,7 @@ pub extern "C" fn wejdarox_write_panel(
 }
 
 // How a pad's load moves with each reading of a panel file, its number of readings through pads and of toss-ups through toss_ups. Refused: none.
-#[unsafe(no_mangle)]
-pub extern "C" fn wejdarox_moves(
+pub fn wejdarox_moves(
     file: &[u8],
     pad: usize,
     moves: &mut [f64; 64],
@@ -101,8 +98,7 @@ pub extern "C" fn wejdarox_moves(
 }
 
 // What the program prints for a file, at the front of out. Answers how many bytes it has.
-#[unsafe(no_mangle)]
-pub extern "C" fn wejdarox_text(file: &[u8], out: &mut [u8; 1288]) -> usize
+pub fn wejdarox_text(file: &[u8], out: &mut [u8; 1288]) -> usize
     ensures value { result ≡ length (text_of file.now) }
     ensures out_after { out.new ≡ written 0 (text_of file.now) out.old }
 {
@@ -110,8 +106,7 @@ pub extern "C" fn wejdarox_text(file: &[u8], out: &mut [u8; 1288]) -> usize
 }
 
 // What it prints of how a pad's load moves. Answers how many bytes it has.
-#[unsafe(no_mangle)]
-pub extern "C" fn wejdarox_moves_text(file: &[u8], pad: usize, out: &mut [u8; 1288]) -> usize
+pub fn wejdarox_moves_text(file: &[u8], pad: usize, out: &mut [u8; 1288]) -> usize
     ensures value { result ≡ length (moves_text_of file.now pad) }
     ensures out_after { out.new ≡ written 0 (moves_text_of file.now pad) out.old }
 {
@@ -119,8 +114,7 @@ pub extern "C" fn wejdarox_moves_text(file: &[u8], pad: usize, out: &mut [u8; 12
 }
 
 // What it prints of the stiffness. Answers how many bytes it has.
-#[unsafe(no_mangle)]
-pub extern "C" fn wejdarox_stiffness_text(file: &[u8], out: &mut [u8; 1288]) -> usize
+pub fn wejdarox_stiffness_text(file: &[u8], out: &mut [u8; 1288]) -> usize
     ensures value { result ≡ length (stiffness_text_of file.now) }
     ensures out_after { out.new ≡ written 0 (stiffness_text_of file.now) out.old }
 {
@@ -128,8 +122,7 @@ pub extern "C" fn wejdarox_stiffness_text(file: &[u8], out: &mut [u8; 1288]) -> 
 }
 
 // What it prints of why a file is refused. Answers how many bytes it has.
-#[unsafe(no_mangle)]
-pub extern "C" fn wejdarox_why_text(file: &[u8], out: &mut [u8; 1288]) -> usize
+pub fn wejdarox_why_text(file: &[u8], out: &mut [u8; 1288]) -> usize
     ensures value { result ≡ length (why_text_of file.now) }
     ensures out_after { out.new ≡ written 0 (why_text_of file.now) out.old }
 {
@@ -137,8 +130,7 @@ pub extern "C" fn wejdarox_why_text(file: &[u8], out: &mut [u8; 1288]) -> usize
 }
 
 // The version of the library as one number: a thousand thousands for the first part, a thousand for the second.
-#[unsafe(no_mangle)]
-pub extern "C" fn wejdarox_version() -> usize
+pub fn wejdarox_version() -> usize
     ensures { result ≡ version_number }
 {
     8000

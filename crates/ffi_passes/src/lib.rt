@@ -14,8 +14,7 @@ ghost use Rattle.solve.specs.Calls.{solving};
 use swap_list::Appended;
 
 // Solves by the lower triangle of the n by n matrix t for the k right-hand columns b, into x.
-#[unsafe(no_mangle)]
-pub extern "C" fn wejdarox_solve_lower_triangular(
+pub fn wejdarox_solve_lower_triangular(
     t: &[f64],
     n: usize,
     b: &[f64],
@@ -29,8 +28,7 @@ pub extern "C" fn wejdarox_solve_lower_triangular(
 }
 
 // The same by the upper triangle.
-#[unsafe(no_mangle)]
-pub extern "C" fn wejdarox_solve_upper_triangular(
+pub fn wejdarox_solve_upper_triangular(
     t: &[f64],
     n: usize,
     b: &[f64],
@@ -44,8 +42,7 @@ pub extern "C" fn wejdarox_solve_upper_triangular(
 }
 
 // The same by the lower triangle with diag in place of each number of its diagonal, as the original does it.
-#[unsafe(no_mangle)]
-pub extern "C" fn wejdarox_solve_lower_triangular_with_diag(
+pub fn wejdarox_solve_lower_triangular_with_diag(
     t: &[f64],
     n: usize,
     b: &[f64],
@@ -60,8 +57,7 @@ pub extern "C" fn wejdarox_solve_lower_triangular_with_diag(
 }
 
 // The same, corrected: every row is divided by diag.
-#[unsafe(no_mangle)]
-pub extern "C" fn wejdarox_solve_lower_triangular_with_diag_corrected(
+pub fn wejdarox_solve_lower_triangular_with_diag_corrected(
     t: &[f64],
     n: usize,
     b: &[f64],
@@ -76,8 +72,7 @@ pub extern "C" fn wejdarox_solve_lower_triangular_with_diag_corrected(
 }
 
 // The same by the transposed lower triangle.
-#[unsafe(no_mangle)]
-pub extern "C" fn wejdarox_tr_solve_lower_triangular(
+pub fn wejdarox_tr_solve_lower_triangular(
     t: &[f64],
     n: usize,
     b: &[f64],
@@ -91,8 +86,7 @@ pub extern "C" fn wejdarox_tr_solve_lower_triangular(
 }
 
 // The same by the transposed upper triangle.
-#[unsafe(no_mangle)]
-pub extern "C" fn wejdarox_tr_solve_upper_triangular(
+pub fn wejdarox_tr_solve_upper_triangular(
     t: &[f64],
     n: usize,
     b: &[f64],
@@ -106,8 +100,7 @@ pub extern "C" fn wejdarox_tr_solve_upper_triangular(
 }
 
 // Appends the pair (i, i2) to a list of *pairs pairs for dimension d; equal numbers append nothing. Refused: all as it was.
-#[unsafe(no_mangle)]
-pub extern "C" fn wejdarox_append_permutation(
+pub fn wejdarox_append_permutation(
     swaps: &mut [usize],
     pairs: &mut usize,
     d: usize,
@@ -135,8 +128,7 @@ pub extern "C" fn wejdarox_append_permutation(
 }
 
 // Exchanges rows of the m by n matrix a, the first pair first.
-#[unsafe(no_mangle)]
-pub extern "C" fn wejdarox_permute_rows(
+pub fn wejdarox_permute_rows(
     a: &mut [f64],
     m: usize,
     n: usize,
@@ -150,8 +142,7 @@ pub extern "C" fn wejdarox_permute_rows(
 }
 
 // The same, the last pair first.
-#[unsafe(no_mangle)]
-pub extern "C" fn wejdarox_inv_permute_rows(
+pub fn wejdarox_inv_permute_rows(
     a: &mut [f64],
     m: usize,
     n: usize,
@@ -165,8 +156,7 @@ pub extern "C" fn wejdarox_inv_permute_rows(
 }
 
 // Exchanges columns of the m by n matrix a, the first pair first.
-#[unsafe(no_mangle)]
-pub extern "C" fn wejdarox_permute_columns(
+pub fn wejdarox_permute_columns(
     a: &mut [f64],
     m: usize,
     n: usize,
@@ -180,8 +170,7 @@ pub extern "C" fn wejdarox_permute_columns(
 }
 
 // The same, the last pair first.
-#[unsafe(no_mangle)]
-pub extern "C" fn wejdarox_inv_permute_columns(
+pub fn wejdarox_inv_permute_columns(
     a: &mut [f64],
     m: usize,
     n: usize,
@@ -195,8 +184,7 @@ pub extern "C" fn wejdarox_inv_permute_columns(
 }
 
 // The sign of a list of so many pairs: 1.0 or -1.0.
-#[unsafe(no_mangle)]
-pub extern "C" fn wejdarox_permutation_sign(pairs: usize) -> f64
+pub fn wejdarox_permutation_sign(pairs: usize) -> f64
     ensures { result ≡ sign_of pairs }
 {
     permutation_sequence::determinant(pairs)

@@ -74,8 +74,7 @@ fn alone(number: usize) -> Reason
 }
 
 // Explains `wejdarox_factor`, and leaves the slices as that call does.
-#[unsafe(no_mangle)]
-pub extern "C" fn wejdarox_why_factor(
+pub fn wejdarox_why_factor(
     a: &[f64],
     m: usize,
     n: usize,
@@ -100,8 +99,7 @@ pub extern "C" fn wejdarox_why_factor(
 }
 
 // Explains `wejdarox_solve`, and leaves x as that call does.
-#[unsafe(no_mangle)]
-pub extern "C" fn wejdarox_why_solve(
+pub fn wejdarox_why_solve(
     factors: &[f64],
     swaps: &[usize],
     m: usize,

@@ -1,0 +1,185 @@
+// The calls of `ffi_passes` for C, under the same names: include/wejdarox.h is the caller's side.
+#![tactic(auto)]
+
+ghost use Rattle.std.specs.Prelude.{◌≡◌, true, false};
+ghost use Rattle.refusals.specs.Outcome.{number_of};
+ghost use Rattle.permutation_sequence.specs.Calls.{sign_of, permuting_rows, permuting_columns};
+ghost use Rattle.swap_list.specs.Appending.{appending};
+ghost use Rattle.triangular_passes.specs.declared.Pass.TheVariants.{Lower, Upper, GivenDiagonal, CorrectedDiagonal, TransposedLower, TransposedUpper};
+ghost use Rattle.solve.specs.Calls.{solving};
+
+// Solves by the lower triangle of the n by n matrix t for the k right-hand columns b, into x.
+#[unsafe(no_mangle)]
+pub extern "C" fn wejdarox_solve_lower_triangular(
+    t: &[f64],
+    n: usize,
+    b: &[f64],
+    k: usize,
+    x: &mut [f64],
+) -> usize
+    ensures value { result ≡ number_of (solving Lower t.now n b.now k x.old).answer }
+    ensures x_after { x.new ≡ (solving Lower t.now n b.now k x.old).left }
+{
+    ffi_passes::wejdarox_solve_lower_triangular(t, n, b, k, x)
+}
+
+// The same by the upper triangle.
+#[unsafe(no_mangle)]
+pub extern "C" fn wejdarox_solve_upper_triangular(
+    t: &[f64],
+    n: usize,
+    b: &[f64],
+    k: usize,
+    x: &mut [f64],
+) -> usize
+    ensures value { result ≡ number_of (solving Upper t.now n b.now k x.old).answer }
+    ensures x_after { x.new ≡ (solving Upper t.now n b.now k x.old).left }
+{
+    ffi_passes::wejdarox_solve_upper_triangular(t, n, b, k, x)
+}
+
+// The same by the lower triangle with diag in place of each number of its diagonal, as the original does it.
+#[unsafe(no_mangle)]
+pub extern "C" fn wejdarox_solve_lower_triangular_with_diag(
+    t: &[f64],
+    n: usize,
+    b: &[f64],
+    k: usize,
+    x: &mut [f64],
+    diag: f64,
+) -> usize
+    ensures value { result ≡ number_of (solving (GivenDiagonal diag) t.now n b.now k x.old).answer }
+    ensures x_after { x.new ≡ (solving (GivenDiagonal diag) t.now n b.now k x.old).left }
+{
+    ffi_passes::wejdarox_solve_lower_triangular_with_diag(t, n, b, k, x, diag)
+}
+
+// The same, corrected: every row is divided by diag.
+#[unsafe(no_mangle)]
+pub extern "C" fn wejdarox_solve_lower_triangular_with_diag_corrected(
+    t: &[f64],
+    n: usize,
+    b: &[f64],
+    k: usize,
+    x: &mut [f64],
+    diag: f64,
+) -> usize
+    ensures value { result ≡ number_of (solving (CorrectedDiagonal diag) t.now n b.now k x.old).answer }
+    ensures x_after { x.new ≡ (solving (CorrectedDiagonal diag) t.now n b.now k x.old).left }
+{
+    ffi_passes::wejdarox_solve_lower_triangular_with_diag_corrected(t, n, b, k, x, diag)
+}
+
+// The same by the transposed lower triangle.
+#[unsafe(no_mangle)]
+pub extern "C" fn wejdarox_tr_solve_lower_triangular(
+    t: &[f64],
+    n: usize,
+    b: &[f64],
+    k: usize,
+    x: &mut [f64],
+) -> usize
+    ensures value { result ≡ number_of (solving TransposedLower t.now n b.now k x.old).answer }
+    ensures x_after { x.new ≡ (solving TransposedLower t.now n b.now k x.old).left }
+{
+    ffi_passes::wejdarox_tr_solve_lower_triangular(t, n, b, k, x)
+}
+
+// The same by the transposed upper triangle.
+#[unsafe(no_mangle)]
+pub extern "C" fn wejdarox_tr_solve_upper_triangular(
+    t: &[f64],
+    n: usize,
+    b: &[f64],
+    k: usize,
+    x: &mut [f64],
+) -> usize
+    ensures value { result ≡ number_of (solving TransposedUpper t.now n b.now k x.old).answer }
+    ensures x_after { x.new ≡ (solving TransposedUpper t.now n b.now k x.old).left }
+{
+    ffi_passes::wejdarox_tr_solve_upper_triangular(t, n, b, k, x)
+}
+
+// Appends the pair (i, i2) to a list of *pairs pairs for dimension d; equal numbers append nothing. Refused: all as it was.
+#[unsafe(no_mangle)]
+pub extern "C" fn wejdarox_append_permutation(
+    swaps: &mut [usize],
+    pairs: &mut usize,
+    d: usize,
+    i: usize,
+    i2: usize,
+) -> usize
+    ensures value { result ≡ number_of (appending swaps.old pairs.old d i i2).answer }
+    ensures swaps_after { swaps.new ≡ (appending swaps.old pairs.old d i i2).left.store }
+    ensures pairs_after { pairs.new ≡ (appending swaps.old pairs.old d i i2).left.pairs }
+{
+    ffi_passes::wejdarox_append_permutation(swaps, pairs, d, i, i2)
+}
+
+// Exchanges rows of the m by n matrix a, the first pair first.
+#[unsafe(no_mangle)]
+pub extern "C" fn wejdarox_permute_rows(
+    a: &mut [f64],
+    m: usize,
+    n: usize,
+    swaps: &[usize],
+    pairs: usize,
+) -> usize
+    ensures value { result ≡ number_of (permuting_rows false a.old m n swaps.now pairs).answer }
+    ensures a_after { a.new ≡ (permuting_rows false a.old m n swaps.now pairs).left }
+{
+    ffi_passes::wejdarox_permute_rows(a, m, n, swaps, pairs)
+}
+
+// The same, the last pair first.
+#[unsafe(no_mangle)]
+pub extern "C" fn wejdarox_inv_permute_rows(
+    a: &mut [f64],
+    m: usize,
+    n: usize,
+    swaps: &[usize],
+    pairs: usize,
+) -> usize
+    ensures value { result ≡ number_of (permuting_rows true a.old m n swaps.now pairs).answer }
+    ensures a_after { a.new ≡ (permuting_rows true a.old m n swaps.now pairs).left }
+{
+    ffi_passes::wejdarox_inv_permute_rows(a, m, n, swaps, pairs)
+}
+
+// Exchanges columns of the m by n matrix a, the first pair first.
+#[unsafe(no_mangle)]
+pub extern "C" fn wejdarox_permute_columns(
+    a: &mut [f64],
+    m: usize,
+    n: usize,
+    swaps: &[usize],
+    pairs: usize,
+) -> usize
+    ensures value { result ≡ number_of (permuting_columns false a.old m n swaps.now pairs).answer }
+    ensures a_after { a.new ≡ (permuting_columns false a.old m n swaps.now pairs).left }
+{
+    ffi_passes::wejdarox_permute_columns(a, m, n, swaps, pairs)
+}
+
+// The same, the last pair first.
+#[unsafe(no_mangle)]
+pub extern "C" fn wejdarox_inv_permute_columns(
+    a: &mut [f64],
+    m: usize,
+    n: usize,
+    swaps: &[usize],
+    pairs: usize,
+) -> usize
+    ensures value { result ≡ number_of (permuting_columns true a.old m n swaps.now pairs).answer }
+    ensures a_after { a.new ≡ (permuting_columns true a.old m n swaps.now pairs).left }
+{
+    ffi_passes::wejdarox_inv_permute_columns(a, m, n, swaps, pairs)
+}
+
+// The sign of a list of so many pairs: 1.0 or -1.0.
+#[unsafe(no_mangle)]
+pub extern "C" fn wejdarox_permutation_sign(pairs: usize) -> f64
+    ensures { result ≡ sign_of pairs }
+{
+    ffi_passes::wejdarox_permutation_sign(pairs)
+}
