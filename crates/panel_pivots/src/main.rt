@@ -33,7 +33,8 @@ fn greatest(numbers: &[f64]) -> f64
     let mut k = 0;
     while k < numbers.len() {
         let x = numbers::magnitude(numbers[k]);
-        if found < x {
+        let higher = found < x;
+        if higher {
             found = x;
         }
         k += 1;

@@ -5,7 +5,7 @@ use native.Mathlib.Omega.{arith}
 use lib.ListN.{length}
 use Rattle.panel_pivots.specs.Outermost.{Greatest}
 use Rattle.panel_pivots.proofs.Outermost.{zero_outermost, greatest_taken, greatest_left}
-use Rattle.panel_pivots.proofs.greatest.Goals.{then-found-x, else-found-x}
+use Rattle.panel_pivots.proofs.greatest.Goals.{then-higher, else-higher}
 use Rattle.panel_pivots.proofs.greatest.Goals as goal
 
 pub loop-k-preserved : goal.loop-k-preserved
@@ -13,9 +13,9 @@ loop-k-preserved c =
     let s = c.args.numbers.now in
     let x = c.magnitude-x.ensures in
     let next = Greatest s (c.loop-k.k + 1) in (
-      elim c.if-found-x.branch [
-        | then-found-x w ↦ subst next (sym w.found-is) (greatest_taken s c.loop-k.k c.loop-k.found _ x c.loop-k.invariant.0 w.if-found-x.true)
-        | else-found-x w ↦ subst next (sym w.found-is) (greatest_left s c.loop-k.k c.loop-k.found _ x c.loop-k.invariant.0 w.if-found-x.false)
+      elim c.if-higher.branch [
+        | then-higher w ↦ subst next (sym w.found-is) (greatest_taken s c.loop-k.k c.loop-k.found _ x c.loop-k.invariant.0 w.if-higher.true)
+        | else-higher w ↦ subst next (sym w.found-is) (greatest_left s c.loop-k.k c.loop-k.found _ x c.loop-k.invariant.0 w.if-higher.false)
       ],
       omega arith,
     )
