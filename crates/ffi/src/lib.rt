@@ -281,12 +281,7 @@ fn tell_count(answer: Listed, count: &mut usize) -> usize
 }
 
 // Ranks those of the n loads that are not zero, their number through count. Refused: none.
-pub fn wejdarox_rank(
-    loads: &[f64],
-    n: usize,
-    ranks: &mut [usize],
-    count: &mut usize,
-) -> usize
+pub fn wejdarox_rank(loads: &[f64], n: usize, ranks: &mut [usize], count: &mut usize) -> usize
     ensures value { result ≡ number_of (ranking (loaded loads.now) loads.now n ranks.old).answer }
     ensures ranks_after { ranks.new ≡ (ranking (loaded loads.now) loads.now n ranks.old).left }
     ensures count_after { count.new ≡ count_in (ranking (loaded loads.now) loads.now n ranks.old).answer }
@@ -295,12 +290,7 @@ pub fn wejdarox_rank(
 }
 
 // Ranks all of the n loads. Refused: none.
-pub fn wejdarox_rank_all(
-    loads: &[f64],
-    n: usize,
-    ranks: &mut [usize],
-    count: &mut usize,
-) -> usize
+pub fn wejdarox_rank_all(loads: &[f64], n: usize, ranks: &mut [usize], count: &mut usize) -> usize
     ensures value { result ≡ number_of (ranking every_pad loads.now n ranks.old).answer }
     ensures ranks_after { ranks.new ≡ (ranking every_pad loads.now n ranks.old).left }
     ensures count_after { count.new ≡ count_in (ranking every_pad loads.now n ranks.old).answer }

@@ -55,5 +55,7 @@ pub extern "C" fn wejdarox_why_solve(
     ensures row_after { row.new
         ≡ (spot_told (explain_solving factors.now swaps.now (record_of m n pairs dead) b.now k x.old)).row }
 {
-    ffi_reasons::wejdarox_why_solve(factors, swaps, m, n, pairs, dead, b, k, x, pass, column, row)
+    ffi_reasons::wejdarox_why_solve(
+        factors, swaps, m, n, pairs, dead, b, k, x, pass, column, row,
+    )
 }
