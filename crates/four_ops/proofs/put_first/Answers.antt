@@ -1,6 +1,5 @@
 -- `four_ops::put_first` is safe and ends: the part lies within the numbers. Assumes nothing.
 use native.Mathlib.Omega.{arith}
-use borrow.Author.Rules.{rules}
 use lib.ListN.{length-take}
 use Rattle.four_ops.proofs.put_first.Goals as goal
 

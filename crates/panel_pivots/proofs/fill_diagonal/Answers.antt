@@ -1,11 +1,11 @@
 -- What is left to copy from number i on is `each_from` from i on. Assumes nothing.
-use Prim.Native.Nat.{ℕ, ◌-◌, ◌+◌, ◌*◌, ◌≤◌}
-use mathlib.Core.Path.{◌≡◌, refl, sym, ap, ◌∙◌}
+use Prim.Native.Nat.{ℕ, ◌+◌, ◌*◌, ◌≤◌}
+use mathlib.Core.Path.{refl, sym, ap, ◌∙◌}
 use native.Mathlib.Omega.{arith}
 use borrow.Author.Rules.{rules}
 use lib.ListN.{length}
 use lib.Ieee.{Float, nan}
-use Rattle.numbers.specs.Each.{each_from, list_of}
+use Rattle.numbers.specs.Each.{list_of}
 use Rattle.numbers.specs.Column.{entry}
 use Rattle.numbers.proofs.Each.{each_step, each_stop, each_list}
 use Rattle.store.proofs.Columns.{column_within}

@@ -1,12 +1,7 @@
 -- The greatest magnitude of the numbers before number k. Assumes nothing.
-use Prim.Native.Nat.{◌-◌, ◌+◌, ◌≤◌}
-use mathlib.Core.Path.{◌≡◌, sym, subst}
-use mathlib.Core.Logic.{⊎_elim}
-use native.Mathlib.Omega.{arith}
-use borrow.Author.Rules.{rules}
+use Prim.Native.Nat.{◌-◌, ◌≤◌}
 use lib.ListN.{length}
 use Rattle.panel_pivots.specs.Outermost.{Greatest}
-use Rattle.panel_pivots.proofs.Outermost.{zero_outermost, greatest_taken, greatest_left}
 use Rattle.panel_pivots.proofs.greatest.Given as goal
 
 abbrev pub invariant-loop-k : goal.invariant-loop-k

@@ -1,7 +1,6 @@
 -- The matrix lies in front of its store. Assumes nothing.
 use mathlib.Core.Path.{subst}
 use native.Mathlib.Omega.{arith}
-use borrow.Author.Rules.{rules}
 use lib.ListN.{length}
 use Rattle.numbers.specs.Column.{Column, zeros}
 use Rattle.crossing.proofs.Factors.{Read, taken_count}
@@ -17,7 +16,7 @@ read_at c =
 
 pub returns-in-Pads : goal.returns-in-Pads
 returns-in-Pads c =
-    λ _. subst (λ (p : Column). Greatest p (length p) c.greatest.result) (read_at (goal.at.returns-in-Pads c).In-Pads).is_matrix c.greatest.ensures
+    λ _. subst (λ (p : Column). Greatest p (length p) c.greatest.result) (read_at (goal.at.returns-in-Pads c).In-Pads).is_matrix_lem c.greatest.ensures
 
 pub returns-in-Refused : goal.returns-in-Refused
 returns-in-Refused c = λ z. absurd (never_refused _ _ c.read.ensures.result_value _ c.in-Refused.is z)

@@ -1,8 +1,7 @@
 -- The least magnitude of the numbers before number k. Assumes nothing.
-use Prim.Native.Nat.{◌-◌, ◌+◌, ◌≤◌}
+use Prim.Native.Nat.{◌+◌}
 use mathlib.Core.Path.{◌≡◌, sym, subst}
 use native.Mathlib.Omega.{arith}
-use borrow.Author.Rules.{rules}
 use lib.ListN.{length}
 use lib.Ieee.{nan_bits}
 use Rattle.panel_pivots.specs.Outermost.{Least}

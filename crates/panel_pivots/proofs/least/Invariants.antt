@@ -1,13 +1,7 @@
 -- The least magnitude of the numbers before number k. Assumes nothing.
-use Prim.Native.Nat.{◌-◌, ◌+◌, ◌≤◌}
-use mathlib.Core.Path.{◌≡◌, sym, subst}
-use mathlib.Core.Logic.{⊎_elim}
-use native.Mathlib.Omega.{arith}
-use borrow.Author.Rules.{rules}
+use Prim.Native.Nat.{◌-◌, ◌≤◌}
 use lib.ListN.{length}
-use lib.Ieee.{nan_bits}
 use Rattle.panel_pivots.specs.Outermost.{Least}
-use Rattle.panel_pivots.proofs.Outermost.{infinity_outermost, least_taken, least_left}
 use Rattle.panel_pivots.proofs.least.Given as goal
 
 abbrev pub invariant-loop-k : goal.invariant-loop-k

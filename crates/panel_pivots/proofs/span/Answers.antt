@@ -1,5 +1,4 @@
 -- The diagonal is copied, then its greatest and its least are looked for. Assumes nothing.
-use borrow.Author.Rules.{rules}
 use Rattle.panel_pivots.proofs.Measured.{spanned}
 use Rattle.panel_pivots.proofs.span.Goals as goal
 

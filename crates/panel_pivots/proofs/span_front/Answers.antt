@@ -1,6 +1,5 @@
 -- The factors and their diagonal lie in front of their stores. Assumes nothing.
 use native.Mathlib.Omega.{arith}
-use borrow.Author.Rules.{rules}
 use lib.Seq.{length-take-le}
 use Rattle.crossing.proofs.Factors.{taken_count}
 use Rattle.panel_file.proofs.Reading.{square}

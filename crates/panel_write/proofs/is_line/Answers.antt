@@ -25,8 +25,8 @@ returns c =
       λ line.
           let all : c.loop-k.k ≡ 16 =
           elim c.loop-k-test.branch [
-            then-loop-k-test+else-digit-lt16 w ↦ absurd (omega (arith, line.0 c.loop-k.k w.loop-k-test.true, w.digit.ensures.0, w.if-digit-lt16.false))
-          | else-loop-k-test w ↦ omega arith
+            | then-loop-k-test+else-digit-lt16 w ↦ absurd (omega (arith, line.0 c.loop-k.k w.loop-k-test.true, w.digit.ensures.0, w.if-digit-lt16.false))
+            | else-loop-k-test w ↦ omega arith
           ] in
           and_both _ _ (eq-eqb c.loop-k.k 16 all) (eq-eqb (get_or g.text.now (g.at + 16) 0) 10 line.1),
     )

@@ -1,7 +1,5 @@
 -- `season_ops::hand_over` is safe and ends: the next file begins within the bytes. The measure is the number of files that are left. Assumes nothing.
 use Prim.Native.Nat.{◌-◌, ◌≤◌}
-use native.Mathlib.Omega.{arith}
-use borrow.Author.Rules.{rules}
 use lib.ListN.{length}
 use Rattle.season_ops.proofs.hand_over.Given as goal
 

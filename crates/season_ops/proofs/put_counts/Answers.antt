@@ -1,6 +1,5 @@
 -- `season_ops::put_counts` is safe and ends: sixteen of seventeen. Assumes nothing.
 use native.Mathlib.Omega.{arith}
-use borrow.Author.Rules.{rules}
 use borrow.Kind.Array.{e_int, good_length}
 use mir.Syntax.{w64}
 use lib.ListN.{length-take}

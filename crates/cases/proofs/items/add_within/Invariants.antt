@@ -1,6 +1,5 @@
 -- `cases::items::add_within` is safe and ends. The measure is the number of whole numbers that are left. Assumes nothing.
 use Prim.Native.Nat.{◌-◌}
-use borrow.Author.Rules.{rules}
 use Rattle.cases.proofs.items.add_within.Given as goal
 
 abbrev pub invariant-loop-k : goal.invariant-loop-k

@@ -1,6 +1,5 @@
 -- `cases::items::bytes_within` is safe and ends, and its count lies within the bytes. Assumes nothing.
 use native.Mathlib.Omega.{arith}
-use borrow.Author.Rules.{rules}
 use lib.ListN.{length-take}
 use Rattle.cases.proofs.items.bytes_within.Goals as goal
 

@@ -1,6 +1,5 @@
 -- `cases::items::floats` is safe and ends, and its count lies within the slice. Assumes nothing.
 use native.Mathlib.Omega.{arith}
-use borrow.Author.Rules.{rules}
 use lib.ListN.{length-append, length-take}
 use Rattle.cases.proofs.items.floats.Goals as goal
 

@@ -1,7 +1,6 @@
 -- `cases::items::floats_of` is safe and ends. The measure is what is left of the slice. Assumes nothing.
 use Prim.Native.Nat.{◌-◌}
 use mathlib.Core.Path.{◌≡◌}
-use borrow.Author.Rules.{rules}
 use lib.ListN.{length}
 use Rattle.cases.proofs.items.floats_of.Given as goal
 

@@ -1,6 +1,5 @@
 -- `cases::items::wholes` is safe and ends, and its count lies within the slice. Assumes nothing.
 use native.Mathlib.Omega.{arith}
-use borrow.Author.Rules.{rules}
 use lib.ListN.{length-append, length-take}
 use Rattle.cases.proofs.items.wholes.Goals as goal
 

@@ -1,6 +1,5 @@
 -- `lines::text::flush` is safe and ends: the place lies within the text. Assumes nothing.
 use native.Mathlib.Omega.{arith}
-use borrow.Author.Rules.{rules}
 use lib.ListN.{length-take}
 use Rattle.lines.proofs.text.flush.Goals as goal
 

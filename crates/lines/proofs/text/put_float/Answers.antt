@@ -1,7 +1,6 @@
 -- `lines::text::put_float` is safe and ends: a number that equals itself is no NaN. Assumes nothing.
 use mathlib.Core.Path.{◌≡◌, sym}
 use mathlib.Core.Bool.{not, false, false≢true}
-use borrow.Author.Rules.{rules}
 use lib.Dec.{T}
 use lib.Ieee.{Float, nan, inf, fin, ne, is_nan}
 use Rattle.lines.proofs.text.put_float.Goals as goal

@@ -1,6 +1,5 @@
 -- `lines::text::put_front` is safe and ends: the part lies within the floats. Assumes nothing.
 use native.Mathlib.Omega.{arith}
-use borrow.Author.Rules.{rules}
 use lib.ListN.{length-take}
 use Rattle.lines.proofs.text.put_front.Goals as goal
 

@@ -1,7 +1,6 @@
 -- `lines::text::put_shown` is safe and ends. The measure is what is left of the word. Assumes nothing.
 use Prim.Native.Nat.{◌-◌}
 use mathlib.Core.Path.{◌≡◌}
-use borrow.Author.Rules.{rules}
 use lib.ListN.{length}
 use Rattle.lines.proofs.text.put_shown.Given as goal
 
