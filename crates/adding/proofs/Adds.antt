@@ -176,7 +176,8 @@ module _ (r : Record) (s c : Column) (store : List ℕ) where
         → AddedTo s c store r (Refused 7 r) s' store
     unfolding adding_settled added record_in adding_answer with_toss_ups and_then record_after
     promise_seven y s' is bad kept zeroed =
-        let not_finite : all_finite (column (swap_in_all n (own_row n x) f.columns ++ own_column n x ∷ []) n) ≡ false = ap all_finite (last_is ∙ sym is) ∙ bad in
+        let not_finite : all_finite (column (swap_in_all n (own_row n x) f.columns ++ own_column n x ∷ []) n) ≡ false =
+        ap all_finite (last_is ∙ sym is) ∙ bad in
         let s-is : s' ≡ take (n * m) s ++ zeros m =
         sym (flat_columns m (n + 1) s' (kept ∙ size)) ∙ ap flat zeroed ∙ flat_snoc (columns m n s) (zeros m)
         ∙ ap (λ (l : Column). l ++ zeros m) (older_flat m n s size) in
@@ -188,13 +189,15 @@ module _ (r : Record) (s c : Column) (store : List ℕ) where
         }
 
     -- it is: the older columns have their two rows exchanged, and the swap is recorded
-    promise_added : (y s' : Column) (p pairs' own dead : ℕ) (store' : List ℕ) → own ≡ own_toss_up m f c → p ≡ own_row n x → y ≡ own_column n x → all_finite y ≡ true
+    promise_added : (y s' : Column) (p pairs' own dead : ℕ) (store' : List ℕ) → own ≡ own_toss_up m f c → p ≡ own_row n x → y ≡ own_column n x
+        → all_finite y ≡ true
         → dead ≡ r.dead + dead_at n y → length s' ≡ length s → columns m (n + 1) s' ≡ swap_in_all n p (columns m n s) ++ y ∷ []
         → Recorded n p r.pairs pairs' store store'
         → AddedTo s c store r (Accepted (record_of m (n + 1) pairs' dead) own) s' store'
     unfolding adding_settled added record_in adding_answer with_toss_ups and_then record_after
     promise_added y s' p pairs' own dead store' counted row is ok died kept made rec =
-        let finite-there : all_finite (column (swap_in_all n (own_row n x) f.columns ++ own_column n x ∷ []) n) ≡ true = ap all_finite (last_is ∙ sym is) ∙ ok in
+        let finite-there : all_finite (column (swap_in_all n (own_row n x) f.columns ++ own_column n x ∷ []) n) ≡ true =
+        ap all_finite (last_is ∙ sym is) ∙ ok in
         let s-is : s' ≡ flat (swap_in_all n (own_row n x) (columns m n s) ++ own_column n x ∷ []) =
         sym (flat_columns m (n + 1) s' (kept ∙ size)) ∙ ap flat made ∙ (λ i. flat (swap_in_all n (row i) (columns m n s) ++ is i ∷ [])) in
         let count_is : pairs' ≡ length (record_swap n (own_row n x) (pairs_of r.pairs store)) =

@@ -234,7 +234,8 @@ module _ (m n : ℕ) (a out : Column) (store : List ℕ) (none : factoring_refus
     worked_alike e =
         let p = passed m (n + 1) (a ++ c) out' store' e in
         let lc : length c ≡ m = omega (arith, widened_long, more, (sized m (n + 1) (a ++ c) p.matrix).size) in
-        let one = tested_none (adding_refusal s c w r) (leaving (slices s w)) (adding_settled s w r (add_column m (older_factors s w r) c)) (same_refusal ∙ e) in
+        let one = tested_none (adding_refusal s c w r) (leaving (slices s w)) (adding_settled s w r (add_column m (older_factors s w r) c)) (same_refusal
+        ∙ e) in
         let two = tested_none refusal (leaving (slices out' store')) (settled m (n + 1) (eliminate m (columns m (n + 1) (a ++ c)))) e in
         rw (one, two, held z, afresh_is lc) (settle_alike lc (all_finite (column (g lc).columns n)) refl (finite_is lc))
 

@@ -115,7 +115,8 @@ module _ (m n pairs : ℕ) (s c : Column) (store : List ℕ) (fits : is_matrix s
       let wide : length cs ≡ n = length_columns m n s in
       let long : length c ≡ length (mid_of (n * m) (n * m + m - n * m) s) = lc ∙ sym (column_length m (n + 1) n s (omega arith) size) in
       let first : columns m (n + 1) t ≡ cs ++ c ∷ [] =
-      slot_lent (λ x. c) m n s c₁ (drop (n * m) s) cs size wide (slot_columns m n s size) k₁ (e₁ ∙ copied_whole c (mid_of (n * m) (n * m + m - n * m) s) long) in
+      slot_lent (λ x. c) m n s c₁ (drop (n * m) s) cs size wide (slot_columns m n s size) k₁ (e₁ ∙ copied_whole c (mid_of (n * m) (n * m + m - n * m) s)
+      long) in
       let size' : length t ≡ (n + 1) * m = same_len_mid (n * m) (n * m + m - n * m) s c₁ k₁ ∙ size in
       let permuted : h c ≡ permute swaps c =
       one_column m (held pairs store) c (sized m (n + 1) s fits).rows_most lc ∙ ap (λ (p : Swaps). permute p c) (held_good m (min m n) pairs store good) in

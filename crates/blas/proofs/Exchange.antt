@@ -82,7 +82,8 @@ module _ {A : Type 0} (d : A) (a b : ℕ) where
       let x = exchanged d a b l in
       exchanged_cases (length l)
       (λ ha hb. ext_get_or d _ l (length_exchanged x ∙ length_exchanged l) λ k h.
-      get_d_exchanged x k (rw length_exchanged ha) (rw length_exchanged hb) ∙ get_d_exchanged l (other a b k) ha hb ∙ ap (λ j. get_or l j d) (other_other a b k))
+      get_d_exchanged x k (rw length_exchanged ha) (rw length_exchanged hb) ∙ get_d_exchanged l (other a b k) ha hb
+      ∙ ap (λ j. get_or l j d) (other_other a b k))
       (λ out. out x (length_exchanged l) ∙ out l refl)
 
 -- a list that lacks one of the two places stays

@@ -60,7 +60,8 @@ module _ (r : Record) (s c : Column) (store : List ℕ) (next : Record) (e : (ad
   unfolding adding_settled number_of
   adding_matches =
       let go = ready-to-add r s c store (no_refusal r s c store (ap number_of e)) in
-      let w : adding s c store r ≡ adding_settled s store r (joined n (own_row n x) (older_factors s store r) (own_column n x)) = worked-adding r s c store go in
+      let w : adding s c store r ≡ adding_settled s store r (joined n (own_row n x) (older_factors s store r) (own_column n x)) =
+      worked-adding r s c store go in
       let given = ap (λ (o : Factoring). o.answer) (sym w) ∙ e in
       test_cases (all_finite (column (exchanged ++ own_column n x ∷ []) n))
       (λ t. ap (λ (q : Record). q.dead) (sym (done_same _ next (rw t at given))) ∙ ap (dead_in m) (sym left_columns))

@@ -246,7 +246,8 @@ module _ (bytes : List ℕ) where
       (g.least, g.most)
 
   -- ---- the stiffness
-  pub stiffness_held : (p : Packed) (answer : ScaledDet) → factors_in bytes ≡ done p → scaled_answer answer ≡ scaled_by p → scaled_answer answer ≡ stiffness bytes
+  pub stiffness_held : (p : Packed) (answer : ScaledDet) → factors_in bytes ≡ done p → scaled_answer answer ≡ scaled_by p → scaled_answer answer
+      ≡ stiffness bytes
   unfolding stiffness and_then
   stiffness_held p answer e d = d ∙ ap (λ (o : Outcome Packed). and_then o scaled_by) (sym e)
 
@@ -254,7 +255,8 @@ module _ (bytes : List ℕ) where
   unfolding stiffness and_then scaled_answer
   stiffness_refused k e = ap (λ (o : Outcome Packed). and_then o scaled_by) (sym e)
 
-  pub tossed_held : (p : Packed) (tossed : ℕ) → factors_in bytes ≡ done p → tossed ≡ toss_ups_in bytes → tossed ≡ tosses_given (factors_in bytes) (toss_ups_in bytes)
+  pub tossed_held : (p : Packed) (tossed : ℕ) → factors_in bytes ≡ done p → tossed ≡ toss_ups_in bytes → tossed
+      ≡ tosses_given (factors_in bytes) (toss_ups_in bytes)
   unfolding tosses_given
   tossed_held p tossed e t = t ∙ ap (λ (o : Outcome Packed). tosses_given o (toss_ups_in bytes)) (sym e)
 

@@ -68,7 +68,8 @@ steps_lasting m k a h = lasting (finite_in (steps k (unfactored a))) (finite_in 
 pub update_finite : (cs : Matrix) (i : ℕ) (c : Column) → all_finite (update cs i c) ≡ true → all_finite c ≡ true
 unfolding update
 update_finite cs i c =
-    cond_cases (λ (x : Column). all_finite x ≡ true → all_finite c ≡ true) (is_zero (entry (column cs i) i)) (λ t e. e) (λ t. step_column_finite i (column cs i) c)
+    cond_cases (λ (x : Column). all_finite x ≡ true → all_finite c ≡ true) (is_zero (entry (column cs i) i)) (λ t e. e)
+    (λ t. step_column_finite i (column cs i) c)
 
 pub reduced_finite : (m : ℕ) (f : Factors) (c : Column) → all_finite (reduced m f c) ≡ true → all_finite c ≡ true
 unfolding reduced

@@ -15,7 +15,8 @@ use Rattle.numbers.proofs.Choice.{test_cases}
 use Rattle.blas.proofs.Exchange.{other, other_range, exchanged_cases, length_exchanged, get_d_exchanged}
 use Rattle.store.specs.Columns.{columns, flat, HasRows, is_matrix, on_columns}
 use Rattle.store.specs.Steps.{Matrix, swap_in_all, rows_swapped}
-use Rattle.store.proofs.Columns.{sized, is_matrix_lem, same_matrix, length_columns, columns_rows, flat_columns, length_flat, on_none, on_flat, on_same, on_columns_lem}
+use Rattle.store.proofs.Columns.{sized, is_matrix_lem, same_matrix, length_columns, columns_rows, flat_columns, length_flat, on_none, on_flat, on_same}
+use Rattle.store.proofs.Columns.{on_columns_lem}
 use Rattle.store.proofs.Steps.{range_all, length_swap_in_all, rows_swap_in_all}
 use Rattle.swap_list.specs.SwapList.{Swaps, pairs_of, held}
 use Rattle.exchanges.specs.Permute.{permuted_by, permute, rows_permuted, exchange_of, in_order}

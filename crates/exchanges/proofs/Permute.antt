@@ -109,7 +109,8 @@ module _ (backwards : Bool) (pairs : ℕ) (store : List ℕ) where
       → permuted_by exchange (drop k (in_order backwards (pairs_of pairs store))) x ≡ x
   unfolding permuted_by
   permuted_end exchange k x h =
-      ap (λ (s : Swaps). permuted_by exchange s x) (drop_of_length-le (in_order backwards (pairs_of pairs store)) {i = k} (rw (length_in_order, length_pairs) h))
+      ap (λ (s : Swaps). permuted_by exchange s x) (drop_of_length-le (in_order backwards (pairs_of pairs store)) {i =
+      k} (rw (length_in_order, length_pairs) h))
 
 -- ---- one column, and each column of a matrix
 

@@ -21,7 +21,8 @@ use Rattle.refusals.proofs.Strength.{OneOutcome, one_outcome, ShutsOut, shut_out
 use Rattle.solve_by_rows.specs.Rows.{pass_of, both_passes}
 use Rattle.triangular_passes.specs.declared.Pass.{Pass}
 use Rattle.triangular_passes.specs.declared.Pass.TheVariants.{Lower, Upper, GivenDiagonal, TransposedLower, TransposedUpper, CorrectedDiagonal}
-use Rattle.triangular_passes.specs.Triangular.{lower_row, upper_row, kept_row, transposed_lower_row, transposed_upper_row, solved_row, turn, solved_column, solved_from}
+use Rattle.triangular_passes.specs.Triangular.{lower_row, upper_row, kept_row, transposed_lower_row, transposed_upper_row, solved_row, turn, solved_column}
+use Rattle.triangular_passes.specs.Triangular.{solved_from}
 use Rattle.triangular_passes.specs.Triangular.{solved_in_place}
 use Rattle.solve.specs.Calls.{sizes_outside, lengths_fit, numbers_finite, zero_on_diagonal, refusal_of, solving}
 use Rattle.factors.specs.declared.Asks.{Asks}
@@ -53,9 +54,11 @@ SolvesTwo pass = by_sides pass diagonal ≡ leaves (n2 ∷ n2 ∷ [])
 
 -- a name for all that has to unfold for a solve to compute
 Solves : Type 0
-unfolding add sub mul div neg eq of_bits each_from turns_from is_zero axpy_from all_finite add_product add_block eight_sums pair_sums dot_of columns flat is_matrix
+unfolding add sub mul div neg eq of_bits each_from turns_from is_zero axpy_from all_finite add_product add_block eight_sums pair_sums dot_of columns flat
+    is_matrix
     on_columns
-    first_holding outside seventh tested lower_row upper_row kept_row transposed_lower_row transposed_upper_row solved_row turn solved_column solved_from solved_in_place
+    first_holding outside seventh tested lower_row upper_row kept_row transposed_lower_row transposed_upper_row solved_row turn solved_column solved_from
+    solved_in_place
     sizes_outside lengths_fit numbers_finite zero_count dead_from dead_in dead_of zero_on_diagonal refusal_of solving
 Solves = Unit {0}
 

@@ -32,9 +32,11 @@ use Rattle.from_factors.proofs.Figures.{leaves, n0, n1, n2}
 
 -- a name for all that has to unfold for these calls to compute
 Runs : Type 0
-unfolding add sub mul div neg eq lt of_bits each_from turns_from is_zero magnitude search_from pivot_row exchanged scale_from axpy_from all_finite copied add_product
+unfolding add sub mul div neg eq lt of_bits each_from turns_from is_zero magnitude search_from pivot_row exchanged scale_from axpy_from all_finite copied
+    add_product
     add_block
-    eight_sums pair_sums dot_of columns flat is_matrix on_columns swap_in_all rows_swapped step_column step_columns eliminated step_by four_steps four_stepped four_stepped_on
+    eight_sums pair_sums dot_of columns flat is_matrix on_columns swap_in_all rows_swapped step_column step_columns eliminated step_by four_steps
+    four_stepped four_stepped_on
     first_holding outside tested
     answered number_of seventh
 Runs = Unit {0}

@@ -48,7 +48,8 @@ use Rattle.triangular_passes.specs.Triangular.{solved_from}
 
 -- a name for all that has to unfold for a file to be read, factored and solved
 Answers : Type 0
-unfolding Transposes Scales shared_from toss_up toss_at toss_from toss_ups first_holding outside tested and_then little_endian field_at headed number_at file_tests file_refusal
+unfolding Transposes Scales shared_from toss_up toss_at toss_from toss_ups first_holding outside tested and_then little_endian field_at headed number_at
+    file_tests file_refusal
     reading_refusal reading factors_of solution_by
     scaled_by factors_in stiffness settled_in ahead insert_pad ranked pads_to loads_of ranks_left ordering moves_refusal moves_of moving
 Answers = Unit {0}

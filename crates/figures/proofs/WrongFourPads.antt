@@ -26,7 +26,8 @@ use Rattle.figures.proofs.WrongFiles.{zero_one}
 
 -- a name for all that has to unfold for four pads to be worked out
 Profiles : Type 0
-unfolding Computes little_endian field_at headed number_at file_tests file_refusal factors_of solution_by factors_in loads_of general_path profile_of four_of general_path_in
+unfolding Computes little_endian field_at headed number_at file_tests file_refusal factors_of solution_by factors_in loads_of general_path profile_of
+    four_of general_path_in
     four_pads_in number_of
 Profiles = Unit {0}
 

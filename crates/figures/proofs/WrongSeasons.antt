@@ -29,7 +29,8 @@ use Rattle.season.specs.Season.{File, one_more_at, counted, handing, counts_of, 
 
 -- a name for all that has to unfold for a file to be handed over
 unfoldable HandsOver : Type 0
-unfolding Computes Ranks to_bits size little_endian field_at headed number_at file_tests file_refusal factors_of solution_by factors_in less_at least_on_diagonal biased
+unfolding Computes Ranks to_bits size little_endian field_at headed number_at file_tests file_refusal factors_of solution_by factors_in less_at
+    least_on_diagonal biased
     band_of band_on telling one_more_at counted handing
 HandsOver = Unit {0}
 

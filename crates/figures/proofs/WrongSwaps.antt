@@ -24,7 +24,8 @@ use Rattle.from_factors.proofs.Figures.{n1, n2}
 
 -- a name for all that has to unfold for a list to be tested and applied
 Applies : Type 0
-unfolding neg of_bits each_from all_finite exchanged columns flat is_matrix on_columns swap_in_all first_holding outside tested pairs_of holds held with_pair good_pair
+unfolding neg of_bits each_from all_finite exchanged columns flat is_matrix on_columns swap_in_all first_holding outside tested pairs_of holds held
+    with_pair good_pair
     good_pairs
     good_list permuted_by in_order sign_of permuting_refusal permuting appending_refusal appending
 Applies = Unit {0}

@@ -64,7 +64,8 @@ module _ (a b : Column) (size : length a ≡ 16) (fine : all_finite a ≡ true) 
   -- past the test of the numbers
   pub four_general : all_finite b ≡ true → four_of a b ≡ profile_of (and_then (factors_of a 4) (λ f. with_loads f (solution_by false f b)))
   unfolding four_of
-  four_general e = ap profile_of (tested_none (first_holding (four_tests a b)) refused (general_path a b) (none_first (four_tests a b) (rw (fine, e), tt)) ∙ general_is)
+  four_general e = ap profile_of (tested_none (first_holding (four_tests a b)) refused (general_path a b) (none_first (four_tests a b) (rw (fine, e), tt))
+      ∙ general_is)
 
 -- ---- a file, as the reader tests it
 abbrev lent : Stores

@@ -46,7 +46,8 @@ module _ (i : ℕ) where
   row_step : (cs : Matrix) (c : Column) (k next : ℕ) (v : Float) → next ≡ k + 1 → i + 4 ≤ k → k < length c → v ≡ add_four i cs (minus_of i c) k (entry c k)
       → tail_of i next cs (set c k v) ≡ tail_of i k cs c
   unfolding tail_of
-  row_step cs c k next v n h hk e = rw (n, e, minus_set c k (add_four i cs (minus_of i c) k (entry c k)) h) (each_step (add_four i cs (minus_of i c)) k c nan hk)
+  row_step cs c k next v n h hk e = rw (n, e, minus_set c k (add_four i cs (minus_of i c) k (entry c k)) h) (each_step (add_four i cs (minus_of i c)) k c
+      nan hk)
 
   -- two rows written, as they are
   two_step : (cs : Matrix) (c : Column) (k q next : ℕ) (v w : Float) → q ≡ k + 1 → next ≡ k + 2 → i + 4 ≤ k → k + 2 ≤ length c
@@ -158,7 +159,8 @@ module _ (i j k m n : ℕ) (s t u : List Float) (f g x y : Four) (len : length s
   fours_first = f_is ∙ sym (minus_four i _ k x below) ∙ ap (minus_of i) (sym (first_is j m n s t u _ _ hj first_made second-made))
 
   pub fours_second : g ≡ minus_of i (column (columns m n u) (j + 1))
-  fours_second = g-is ∙ ap (minus_of i) (sym kept) ∙ sym (minus_four i _ k y below) ∙ ap (minus_of i) (sym (second_is j m n s t u _ _ hj first_made second-made))
+  fours_second = g-is ∙ ap (minus_of i) (sym kept) ∙ sym (minus_four i _ k y below)
+      ∙ ap (minus_of i) (sym (second_is j m n s t u _ _ hj first_made second-made))
 
   pub fours_left : x ≡ four_rows i (columns m n s) f k (column (columns m n s) j) → y ≡ four_rows i (columns m n s) g k (column (columns m n s) (j + 1))
       → tails_left i j (k + 4) (columns m n u) ≡ tails_left i j k (columns m n s)
@@ -221,7 +223,8 @@ both_left i j k m n s t u right first second =
 
 -- so are both where the last row of the one is done, and then that of the other
 pub rows_made : (i j k m n : ℕ) (s t u : List Float) → length s ≡ n * m → i + 4 ≤ j → j + 1 < n → m < k + 2 → length t ≡ length s → length u ≡ length t
-    → tail_left i j (k + 1) (columns m n t) ≡ tail_left i j k (columns m n s) → tail_left i (j + 1) (k + 1) (columns m n u) ≡ tail_left i (j + 1) k (columns m n t)
+    → tail_left i j (k + 1) (columns m n t) ≡ tail_left i j k (columns m n s) → tail_left i (j + 1) (k + 1) (columns m n u)
+    ≡ tail_left i (j + 1) k (columns m n t)
     → columns m n u ≡ tails_left i j k (columns m n s)
 rows_made i j k m n s t u len right hj last same-t same-u first second =
     let lt = same-t ∙ len in

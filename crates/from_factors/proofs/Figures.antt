@@ -36,11 +36,14 @@ use Rattle.from_factors.specs.Determinant.{times_diagonal, diagonal_product, num
 
 -- a name for all that has to unfold for the calls to compute
 unfoldable pub Computes : Type 0
-unfolding add sub mul div neg eq lt of_bits each_from turns_from list_of is_zero magnitude search_from pivot_row exchanged scale_from axpy_from all_finite columns flat
-    is_matrix on_columns swap_in_all step_column step_columns eliminated first_holding outside seventh tested and_then record_after pairs_of holds good_pair good_pairs good_list
+unfolding add sub mul div neg eq lt of_bits each_from turns_from list_of is_zero magnitude search_from pivot_row exchanged scale_from axpy_from all_finite
+    columns flat
+    is_matrix on_columns swap_in_all step_column step_columns eliminated first_holding outside seventh tested and_then record_after pairs_of holds good_pair
+    good_pairs good_list
     permuted_by sign_of upper_row kept_row solved_row turn solved_column zero_count dead_from dead_in dead_of record_swap multipliers scaled pivot_step step
     eliminate numbers_of
-    store_of factoring_refusal settled factoring held_refusal solved solved_all solving unit_column inverting times_diagonal diagonal_product number_or7 producing
+    store_of factoring_refusal settled factoring held_refusal solved solved_all solving unit_column inverting times_diagonal diagonal_product number_or7
+    producing
     determining inverse_test update reduced add_column adding_refusal written adding_settled adding
 Computes = Unit {0}
 

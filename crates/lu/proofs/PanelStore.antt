@@ -114,7 +114,8 @@ module _ (m n i : ℕ) (s : Column) (store : List ℕ) (counts r : Counts) (fits
         (e1 : c1 ≡ on_columns m (n - e)
         (rows_permuted (in_order false (held (r.pairs - counts.pairs) (mid_of (2 * counts.pairs) (length store1 - 2 * counts.pairs) store1))))
         (mid_of z (length t - z) t))
-        (lu : length u ≡ length (put_mid z (length t - z) t c1)) (eu : columns m n u ≡ after_panel i (e - i) e (columns m n (put_mid z (length t - z) t c1))) where
+        (lu : length u ≡ length (put_mid z (length t - z) t c1)) (eu : columns m n u
+        ≡ after_panel i (e - i) e (columns m n (put_mid z (length t - z) t c1))) where
       abbrev v : Column
       v = put_mid z (length t - z) t c1
 

@@ -27,7 +27,8 @@ module _ {A : Type 0} (test : A → Bool) (d : A) where
   failing_before [] k = λ h. absurd (not-suc-le-zero h)
   failing_before (x ∷ l) zero = cond_cases (λ (n : ℕ). 0 < n → test x ≡ true) (test x) (λ t h. t) (λ t h. absurd (not-suc-le-zero h))
   failing_before (x ∷ l) (suc k) =
-      cond_cases (λ (n : ℕ). suc k < n → test (get_or l k d) ≡ true) (test x) (λ t h. failing_before l k (le_of_suc-le-suc h)) (λ t h. absurd (not-suc-le-zero h))
+      cond_cases (λ (n : ℕ). suc k < n → test (get_or l k d) ≡ true) (test x) (λ t h. failing_before l k (le_of_suc-le-suc h))
+      (λ t h. absurd (not-suc-le-zero h))
 
 -- ---- the first answer
 pub or_cases : {R : Type 0} (P : Option R → Type 0) (first second : Option R) → (first ≡ none → P second) → ((r : R) → first ≡ some r → P (some r))

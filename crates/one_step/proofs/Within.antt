@@ -87,7 +87,8 @@ module _ (i j m n : ℕ) (s : List Float) (hi : i < n) (hj : j < n) (len : lengt
   -- one entry of column j, which was lent as its part, c being the part afterwards
   pub within_turn : (u : Float) (k : ℕ) (c : Column) → k < m
       → length c ≡ length (mid_of (j * m) (j * m + m - j * m) s)
-      → c ≡ set (mid_of (j * m) (j * m + m - j * m) s) k (add binary64 (mul binary64 u (get_or s (i * m + k) nan)) (entry (mid_of (j * m) (j * m + m - j * m) s) k))
+      → c ≡ set (mid_of (j * m) (j * m + m - j * m) s) k (add binary64 (mul binary64 u (get_or s (i * m + k) nan))
+      (entry (mid_of (j * m) (j * m + m - j * m) s) k))
       → updating u i j (k + 1) (columns m n (put_mid (j * m) (j * m + m - j * m) s c)) ≡ updating u i j k (columns m n s)
   within_turn u k c hk kept made =
       let cs = columns m n s in

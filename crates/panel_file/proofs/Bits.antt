@@ -17,7 +17,8 @@ use Rattle.numbers.proofs.Walk.{drop_next}
 use Rattle.panel_file.specs.File.{little_endian, field_at, headed, AllBytes}
 
 -- ---- a field by its first byte and the rest
-pub field_next : (width : ℕ) (s : List ℕ) (at next : ℕ) → at < length s → next ≡ at + 1 → field_at (suc width) s at ≡ get_or s at 0 + 256 * field_at width s next
+pub field_next : (width : ℕ) (s : List ℕ) (at next : ℕ) → at < length s → next ≡ at + 1 → field_at (suc width) s at ≡ get_or s at 0
+    + 256 * field_at width s next
 unfolding field_at little_endian
 field_next width s at next h e =
     ap (λ (l : List ℕ). little_endian (take (suc width) l)) (drop_next s at 0 h) ∙ ap (λ (k : ℕ). get_or s at 0 + 256 * little_endian (take width (drop k s)))

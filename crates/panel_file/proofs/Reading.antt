@@ -50,14 +50,16 @@ module _ (fit : Bool) (bytes : List ℕ) where
 
   -- one test within the other, as the code makes them
   pub head_tested : (n : ℕ) (head size : Bool) (third second first : ℕ) → n ≡ pads_of bytes → head ≡ headed bytes → size ≡ outside 1 n
-      → third ≡ cond (not (fit && eqb (length bytes) (file_length n))) 3 0 → second ≡ cond size 1 third → first ≡ cond (not head) 8 second → first ≡ head_refusal
+      → third ≡ cond (not (fit && eqb (length bytes) (file_length n))) 3 0 → second ≡ cond size 1 third → first ≡ cond (not head) 8 second → first
+      ≡ head_refusal
   head_tested n head size third second first n-is h s e3 e2 e1 = rw (e1, e2, e3, s, h, n-is)
 
   pub refused_early : (early : ℕ) → early ≡ head_refusal → (early ≡ 0 → ⊥) → early ≡ first_holding (file_tests fit bytes)
   unfolding file_tests
   refused_early early e n = sym (four _ _ _ _ ∙ rw (← e, ne_eqb early 0 n))
 
-  pub refused_late : (early late : ℕ) (t : Bool) → early ≡ head_refusal → early ≡ 0 → t ≡ all_finite (numbers_of (pads_of bytes) bytes) → late ≡ cond (not t) 5 0
+  pub refused_late : (early late : ℕ) (t : Bool) → early ≡ head_refusal → early ≡ 0 → t ≡ all_finite (numbers_of (pads_of bytes) bytes) → late
+      ≡ cond (not t) 5 0
       → late ≡ first_holding (file_tests fit bytes)
   unfolding file_tests
   refused_late early late t e z d f = f ∙ ap (λ (u : Bool). cond (not u) 5 0) d ∙ sym (four _ _ _ _ ∙ rw (sym e ∙ z))

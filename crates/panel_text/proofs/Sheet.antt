@@ -271,7 +271,8 @@ module _ (bytes : List ℕ) (out : Column) (fits : length out ≡ pads_of bytes)
   loads_ranked ranks lr (refused k) e = refl
 
   -- the file's factors, however they were made, print its sheet
-  sheet_by_lem : (ranks : List ℕ) → length ranks ≡ pads_of bytes → (held : Outcome Packed) → held ≡ factors_in bytes → sheet_by bytes held out ranks ≡ text_of bytes
+  sheet_by_lem : (ranks : List ℕ) → length ranks ≡ pads_of bytes → (held : Outcome Packed) → held ≡ factors_in bytes → sheet_by bytes held out ranks
+      ≡ text_of bytes
   unfolding text_of loads_of
   sheet_by_lem ranks lr held e =
       let n = pads_of bytes in
@@ -281,7 +282,8 @@ module _ (bytes : List ℕ) (out : Column) (fits : length out ≡ pads_of bytes)
       ∙ loads_ranked ranks lr (loads_of bytes) refl
 
   -- and its moves, of a pad of the crossing
-  moves_by_lem : (held : Outcome Packed) → held ≡ factors_in bytes → (pad : ℕ) → moves_refusal bytes pad ≡ 0 → moves_by bytes held pad out ≡ moves_text_of bytes pad
+  moves_by_lem : (held : Outcome Packed) → held ≡ factors_in bytes → (pad : ℕ) → moves_refusal bytes pad ≡ 0 → moves_by bytes held pad out
+      ≡ moves_text_of bytes pad
   unfolding moves_text_of moves_of
   moves_by_lem held e pad none =
       let b = unit_column (pads_of bytes) (pad - 1) in

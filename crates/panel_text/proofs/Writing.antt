@@ -67,7 +67,8 @@ written_more at p a b s now next e d f h = f ∙ ap₂ (λ (q : ℕ) (t : List �
 -- ---- digits, the last first
 pub length_digits : (b k n : ℕ) → length (last_digits b k n) ≡ k
 length_digits b zero n = refl
-length_digits b (suc k) n = length-append (last_digits b k (n / b)) (hex_digit_ascii (n % b) ∷ []) ∙ ap (λ (j : ℕ). j + 1) (length_digits b k (n / b)) ∙ add-one k
+length_digits b (suc k) n = length-append (last_digits b k (n / b)) (hex_digit_ascii (n % b) ∷ []) ∙ ap (λ (j : ℕ). j + 1) (length_digits b k (n / b))
+    ∙ add-one k
 
 -- at digit k: the first k digits of the rest, and what is written behind them, are the whole
 pub record Spelling (at bits : ℕ) (was s : List ℕ) (rest k : ℕ) : Type 0 where
@@ -76,7 +77,8 @@ pub record Spelling (at bits : ℕ) (was s : List ℕ) (rest k : ℕ) : Type 0 w
   pub front : take at s ≡ take at was
   pub left : last_digits 16 k rest ++ drop (at + k) s ≡ last_digits 16 16 bits ++ drop (at + 16) was
 
-pub spell_turn : (at bits : ℕ) (was s : List ℕ) (rest k j g : ℕ) → Spelling at bits was s rest k → k ≡ suc j → at + 16 ≤ length was → g ≡ hex_digit_ascii (rest % 16)
+pub spell_turn : (at bits : ℕ) (was s : List ℕ) (rest k j g : ℕ) → Spelling at bits was s rest k → k ≡ suc j → at + 16 ≤ length was → g
+    ≡ hex_digit_ascii (rest % 16)
     → Spelling at bits was (set s (at + j) g) (rest / 16) j
 spell_turn at bits was s rest k j g p e h d =
     let there : at + j < length s = omega (arith, p.size, p.place) in
@@ -140,7 +142,8 @@ line_room at pad load s s1 s2 space h e d f =
     (omega arith, z2)
 
 pub line_written : (at pad : ℕ) (load : Float) (s s1 s2 : List ℕ) (space : ℕ) → at + 20 ≤ length s
-    → s1 ≡ written at (decimal pad) s → space ≡ at + length (decimal pad) → s2 ≡ written (space + 1) (last_digits 16 16 (to_bits binary64 load)) (set s1 space 32)
+    → s1 ≡ written at (decimal pad) s → space ≡ at + length (decimal pad) → s2 ≡ written (space + 1) (last_digits 16 16 (to_bits binary64 load))
+    (set s1 space 32)
     → (space + 1 + 16 + 1 ≡ at + length (line_of pad load)) × (set s2 (space + 1 + 16) 10 ≡ written at (line_of pad load) s)
 unfolding line_of
 line_written at pad load s s1 s2 space h e d f =

@@ -50,8 +50,11 @@ module _ (exchange : ℕ → ℕ → Matrix → Matrix) (bound : ℕ) (backwards
       → Promise (permuting exchange bound backwards s m n store pairs) Done t
   unfolding answered
   permuting_done t e made =
-      rw (accepted e)
-      (refl, made ∙ ap (λ (swaps : Swaps). on_columns m n (permuted_by exchange (in_order backwards swaps)) s) (held_good bound 64 pairs store (good_permuted e)))
+      rw (accepted e) (
+        refl,
+        made ∙ ap (λ (swaps : Swaps). on_columns m n (permuted_by exchange (in_order backwards swaps)) s)
+            (held_good bound 64 pairs store (good_permuted e)),
+      )
 
   not_refused : number_of (permuting exchange bound backwards s m n store pairs).answer ≡ 0 → permuting_refusal s m n store pairs bound ≡ 0
   unfolding permuting
@@ -76,7 +79,8 @@ Restored s o = o ≡ record { answer = done tt; left = s }
 
 restored : (columns : Bool) (bound : ℕ) (backwards : Bool) (m n pairs : ℕ) (store : List ℕ) (s : Column)
     → number_of (permuting (exchange_of columns) bound backwards s m n store pairs).answer ≡ 0
-    → Restored s (permuting (exchange_of columns) bound (not backwards) (permuting (exchange_of columns) bound backwards s m n store pairs).left m n store pairs)
+    → Restored s (permuting (exchange_of columns) bound (not backwards) (permuting (exchange_of columns) bound backwards s m n store pairs).left m n store
+    pairs)
 restored columns bound backwards m n pairs store s h =
     ap (λ (o : Call (Unit {0}) Column). permuting (exchange_of columns) bound (not backwards) o.left m n store pairs)
     (accepted (exchange_of columns) bound backwards m n pairs store s none)

@@ -30,7 +30,8 @@ pub every_in_front : (P : ℕ → Type 0) (s behind : List ℕ) (i : ℕ) → Ev
 every_in_front P s behind i f h = rw (get_or-append s behind 0 i h) (every_at P s i f h)
 
 -- a place that is written takes what holds of the others
-pub set_every : (P : ℕ → Type 0) (s : List ℕ) (j p k : ℕ) → k ≤ length s → P p → ((i : ℕ) → i < k → P (get_or s i 0)) → (i : ℕ) → i < k → P (get_or (set s j p) i 0)
+pub set_every : (P : ℕ → Type 0) (s : List ℕ) (j p k : ℕ) → k ≤ length s → P p → ((i : ℕ) → i < k → P (get_or s i 0)) → (i : ℕ) → i < k
+    → P (get_or (set s j p) i 0)
 set_every P s j p k l h f i hi =
     test_cases (eqb i j)
     (λ e. let d = eqb-true i j e in rw (← d, get_or-set_same s i p 0 (omega arith)) h)

@@ -23,7 +23,8 @@ use Rattle.adding.proofs.Unread.{Unread}
 use Rattle.removing.specs.Removing.{good_undoing, removing_asks, removing_refusal, erased, removing_made, removing}
 
 -- a pair written over another changes nothing elsewhere
-with_other : (pairs i j : ℕ) (store : List ℕ) (k : ℕ) → (k ≡ 2 * pairs → ⊥) → (k ≡ 2 * pairs + 1 → ⊥) → get_or (with_pair pairs i j store) k 0 ≡ get_or store k 0
+with_other : (pairs i j : ℕ) (store : List ℕ) (k : ℕ) → (k ≡ 2 * pairs → ⊥) → (k ≡ 2 * pairs + 1 → ⊥) → get_or (with_pair pairs i j store) k 0
+    ≡ get_or store k 0
 unfolding with_pair
 with_other pairs i j store k first second =
     get_or-set_other (set store (2 * pairs) i) (2 * pairs + 1) k j 0 second ∙ get_or-set_other store (2 * pairs) k i 0 first

@@ -20,7 +20,8 @@ use Rattle.scaled_determinant.specs.Determinant.{scaled_turn, scaled_product, sc
 
 -- a name for all that has to unfold for the call to compute
 unfoldable pub Computes : Type 0
-unfolding Determines zero_on_diagonal le size determinant_of significand_of exponent_of halved_at_two scaled_times scaled_turn scaled_product scaled_determinant scaling
+unfolding Determines zero_on_diagonal le size determinant_of significand_of exponent_of halved_at_two scaled_times scaled_turn scaled_product
+    scaled_determinant scaling
 Computes = Unit {0}
 
 -- 2 ^ -600 twice on the diagonal, and 2 with 1 behind one swap

@@ -24,7 +24,8 @@ use Rattle.scaled_determinant.proofs.OneWay.{Fine, fits_odd}
 use Rattle.scaled_determinant.proofs.Parts.{value_fine, taken, significand_odd, parts_only}
 
 -- ---- what the fields are read as
-reads_normal : (s : Bool) (k D : ℕ) → T (finite (of_fields binary64 s (suc k) D)) → HasValue (of_fields binary64 s (suc k) D) s ((2 ^ 52 + D) * 2 ^ k) (2 ^ 1074)
+reads_normal : (s : Bool) (k D : ℕ) → T (finite (of_fields binary64 s (suc k) D)) → HasValue (of_fields binary64 s (suc k) D) s ((2 ^ 52 + D) * 2 ^ k)
+    (2 ^ 1074)
 unfolding of_fields
 reads_normal s k D = go (eqb (suc k) 2047) (eqb D 0)
   where

@@ -47,7 +47,8 @@ module _ (x : Float) (t : T (fits binary64 x)) (f : Fine x) where
     normal_read = both (ap (λ (r : Scaled). r.significand) (normal_parts x t f normal)) (ap kept exponent_read ∙ exponent_kept)
 
 -- the parts p of a subnormal number times 2 ^ 54
-module _ (x : Float) (t : T (fits binary64 x)) (f : Fine x) (zero : field_of (to_bits binary64 x) ≡ 0) (p : Scaled) (is : p ≡ parts_of (mul binary64 x lift)) where
+module _ (x : Float) (t : T (fits binary64 x)) (f : Fine x) (zero : field_of (to_bits binary64 x) ≡ 0) (p : Scaled) (is : p
+    ≡ parts_of (mul binary64 x lift)) where
   l : Lifted x
   l = lifted x t f zero
 

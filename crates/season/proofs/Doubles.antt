@@ -1,6 +1,7 @@
 -- The factors of a file are doubles: those of the file are, by their bits; exchanging rows keeps them so, and each sum and product is one. So the biased
 -- exponent of a finite factor is at most 2046. By the steps of the elimination; by the bits. Assumes nothing.
-use Rattle.std.proofs.Common.{◌≡◌, ℕ, zero, suc, ◌+◌, ◌*◌, ◌/◌, ◌%◌, ◌<◌, ◌≤◌, min, true, ◌&&◌, T, eqb, ltb, List, [], ◌∷◌, length, get_or, take, drop, set, ap, ◌∙◌, arith}
+use Rattle.std.proofs.Common.{◌≡◌, ℕ, zero, suc, ◌+◌, ◌*◌, ◌/◌, ◌%◌, ◌<◌, ◌≤◌, min, true, ◌&&◌, T, eqb, ltb, List, [], ◌∷◌, length, get_or, take, drop, set}
+use Rattle.std.proofs.Common.{ap, ◌∙◌, arith}
 use borrow.Author.Tests.{eqb-false, not-true}
 use lib.Ieee.{Float, nan, binary64, neg, mul, add, lt, fits, to_bits}
 use lib.Ieee.Fits.{nan-fits, neg-fits, mul-fits, add-fits, cond-fits}

@@ -1,6 +1,7 @@
 -- A season is the counts of the files handed over, up to 4,000, in whatever order; accepted and refused add to the whole, and the bands to the accepted. By one
 -- file after the other; by the permutation. Assumes nothing.
-use Rattle.std.proofs.Common.{◌≡◌, ℕ, zero, suc, ◌+◌, ◌-◌, ◌^◌, ◌<◌, ◌≤◌, Bool, false, eqb, List, [], ◌∷◌, ◌++◌, length, take, sym, refl, ap, ◌∙◌, append-nil, zero-add, arith, take_all, eq-eqb, ne_eqb, le-leb}
+use Rattle.std.proofs.Common.{◌≡◌, ℕ, zero, suc, ◌+◌, ◌-◌, ◌^◌, ◌<◌, ◌≤◌, Bool, false, eqb, List, [], ◌∷◌, ◌++◌, length, take, sym, refl, ap, ◌∙◌}
+use Rattle.std.proofs.Common.{append-nil, zero-add, arith, take_all, eq-eqb, ne_eqb, le-leb}
 use mathlib.Core.List.Permᴰ
 use mathlib.Core.List.{Permᴰ}
 use borrow.Author.Tests.{lt-leb}

@@ -1,6 +1,8 @@
 -- Rows of counts: one more at a place, as the code counts it and as a test of the place does; the sum of a row; a season's counts in a row and back. By
 -- induction on the row. Assumes nothing.
-use Rattle.std.proofs.Common.{◌≡◌, ℕ, zero, suc, ◌+◌, ◌^◌, ◌<◌, ◌≤◌, Bool, true, false, cond, eqb, List, [], ◌∷◌, length, get_or, set, sym, refl, ap, ◌∙◌, ap₂, le_of_suc-le-suc, not-suc-le-zero, mod-eq_of_lt, add_comm, arith, length-set, get_or-set_other, get_or-set_same, ext_get_or, eqb-true}
+use Rattle.std.proofs.Common.{◌≡◌, ℕ, zero, suc, ◌+◌, ◌^◌, ◌<◌, ◌≤◌, Bool, true, false, cond, eqb, List, [], ◌∷◌, length, get_or, set, sym, refl, ap, ◌∙◌}
+use Rattle.std.proofs.Common.{ap₂, le_of_suc-le-suc, not-suc-le-zero, mod-eq_of_lt, add_comm, arith, length-set, get_or-set_other, get_or-set_same}
+use Rattle.std.proofs.Common.{ext_get_or, eqb-true}
 use borrow.Author.Tests.{eqb-false}
 use lib.Seq.{set_out}
 use Rattle.numbers.specs.Each.{list_of}

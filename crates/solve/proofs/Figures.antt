@@ -31,7 +31,8 @@ unfolding Matrices lower_row kept_row solved_row turn solved_column solved_from 
 Solves = Unit {0}
 
 Computes : Type 0
-unfolding Solves first_holding outside seventh tested sizes_outside lengths_fit numbers_finite zero_count dead_from dead_in dead_of zero_on_diagonal refusal_of solving
+unfolding Solves first_holding outside seventh tested sizes_outside lengths_fit numbers_finite zero_count dead_from dead_in dead_of zero_on_diagonal
+    refusal_of solving
 Computes = Unit {0}
 
 -- ---- numbers, each written in its one way: an odd number times a power of two

@@ -20,7 +20,8 @@ use Rattle.store.specs.Steps.{Matrix, column}
 use Rattle.triangular_passes.specs.declared.Pass.{Pass}
 use Rattle.triangular_passes.specs.declared.Pass.TheVariants.{Lower, Upper, GivenDiagonal, CorrectedDiagonal}
 use Rattle.triangular_passes.specs.declared.Pass.TheVariants.{TransposedLower, TransposedUpper, TransposedUnitLower}
-use Rattle.triangular_passes.specs.Triangular.{lower_row, upper_row, kept_row, less_below, transposed_lower_row, transposed_upper_row, transposed_unit_lower_row}
+use Rattle.triangular_passes.specs.Triangular.{lower_row, upper_row, kept_row, less_below, transposed_lower_row, transposed_upper_row}
+use Rattle.triangular_passes.specs.Triangular.{transposed_unit_lower_row}
 use Rattle.triangular_passes.specs.Triangular.{divisor, row_by, row_at, turns_of, solved_row, turn, solved_column}
 
 -- ---- one row

@@ -31,7 +31,8 @@ use Rattle.triangular_passes.specs.declared.Pass.{Pass}
 use Rattle.triangular_passes.specs.declared.Pass.TheVariants.{Lower, Upper, GivenDiagonal, CorrectedDiagonal}
 use Rattle.triangular_passes.specs.declared.Pass.TheVariants.{TransposedLower, TransposedUpper, TransposedUnitLower}
 use Rattle.dead_columns.specs.Dead.{zero_count, dead_from}
-use Rattle.triangular_passes.specs.Triangular.{lower_row, upper_row, kept_row, transposed_lower_row, transposed_upper_row, transposed_unit_lower_row, divisor, row_by}
+use Rattle.triangular_passes.specs.Triangular.{lower_row, upper_row, kept_row, transposed_lower_row, transposed_upper_row, transposed_unit_lower_row}
+use Rattle.triangular_passes.specs.Triangular.{divisor, row_by}
 use Rattle.triangular_passes.specs.Triangular.{row_at, turns_of, solved_row, turn, solved_column, solved_from, solved_columns}
 use Rattle.solve.specs.Reason.{Stored, stores, first_row, first_in_column, first_in_pass, lowest_zero}
 use Rattle.triangular_passes.proofs.Lengths.{length_row, length_turns}

@@ -21,7 +21,8 @@ use Rattle.solve_by_rows.proofs.Same.{rows_solve}
 use Rattle.solve_by_rows.proofs.Blocks.{full}
 
 -- a pass over a single right-hand column
-one_solved : (pass : Pass) (n : ℕ) (t b : Column) → is_matrix t n n ≡ true → length b ≡ n → solved_in_place pass t n b 1 ≡ solved_column pass n (columns n n t) b
+one_solved : (pass : Pass) (n : ℕ) (t b : Column) → is_matrix t n n ≡ true → length b ≡ n → solved_in_place pass t n b 1
+    ≡ solved_column pass n (columns n n t) b
 unfolding columns flat each_from solved_from
 one_solved pass n t b matrix long =
     let fits = is_matrix_lem n 1 b (sized n n t matrix).rows_most (omega arith) (long ∙ sym (one-mul n)) in

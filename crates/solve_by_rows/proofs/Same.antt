@@ -228,4 +228,5 @@ pub rows_solve : (upward : Bool) (n : ℕ) (cs : Matrix) (b : Column) → ((k : 
 unfolding solved_column
 rows_solve true n cs b full len all = by_rows_lem true n cs (turn Upper n cs) (up_turns n cs full) b len
 rows_solve false n cs b full len all =
-    by_rows_lem false n cs (step n cs full) (down_turns n cs full) b len ∙ steps_kept n cs full 0 n b all ∙ kept_all n cs b len ∙ sym (same_column n cs b len all)
+    by_rows_lem false n cs (step n cs full) (down_turns n cs full) b len ∙ steps_kept n cs full 0 n b all ∙ kept_all n cs b len
+    ∙ sym (same_column n cs b len all)

@@ -235,7 +235,8 @@ module _ {A : Type 0} (m n : ℕ) (f : List (List A) → List (List A)) (s : Lis
   on_same g e = ap (λ (cs : List (List A)). cond (is_matrix s m n) (flat cs) s) e
 
   -- what a caller learns of the columns
-  pub on_columns_lem : is_matrix s m n ≡ true → length (f (columns m n s)) ≡ n → HasRows m (f (columns m n s)) → columns m n (on_columns m n f s) ≡ f (columns m n s)
+  pub on_columns_lem : is_matrix s m n ≡ true → length (f (columns m n s)) ≡ n → HasRows m (f (columns m n s)) → columns m n (on_columns m n f s)
+      ≡ f (columns m n s)
   on_columns_lem h len rows =
       ap (columns m n) (on_flat h) ∙ ap (λ (k : ℕ). columns m k (flat (f (columns m n s)))) (sym len) ∙ columns_flat m (f (columns m n s)) rows
 

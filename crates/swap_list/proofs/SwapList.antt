@@ -102,7 +102,8 @@ module _ (pairs i j : ℕ) (store : List ℕ) where
   with_before : (k : ℕ) → k < 2 * pairs → get_or (with_pair pairs i j store) k 0 ≡ get_or store k 0
   unfolding with_pair
   with_before k h =
-      get_or-set_other (set store (2 * pairs) i) (2 * pairs + 1) k j 0 (λ e. omega (arith, e)) ∙ get_or-set_other store (2 * pairs) k i 0 (λ e. omega (arith, e))
+      get_or-set_other (set store (2 * pairs) i) (2 * pairs + 1) k j 0 (λ e. omega (arith, e))
+      ∙ get_or-set_other store (2 * pairs) k i 0 (λ e. omega (arith, e))
 
   pub pairs_with : 2 * pairs + 1 < length store → pairs_of (pairs + 1) (with_pair pairs i j store) ≡ pairs_of pairs store ++ (i, j) ∷ []
   pairs_with h =

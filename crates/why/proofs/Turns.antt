@@ -53,7 +53,8 @@ module _ (stored : ℕ → Column → List (Result Spot)) (by : ℕ → Column �
       first_append (stored i (by i b)) (turns_results stored by (i + 1) c (by i b))
       ∙ rw (rw (add-zero i) at (h 0 (omega arith))) (turns_none (i + 1) c (by i b) (λ q l. rw (shift q) at (h (suc q) (omega arith))))
 
-  turns_first : (i c : ℕ) (b : Column) (k : ℕ) (p : Spot) → k < c → ((q : ℕ) → q < k → first_overflow (stored (i + q) (by (i + q) (turns_from by i q b))) ≡ none)
+  turns_first : (i c : ℕ) (b : Column) (k : ℕ) (p : Spot) → k < c → ((q : ℕ) → q < k → first_overflow (stored (i + q) (by (i + q) (turns_from by i q b)))
+      ≡ none)
       → first_overflow (stored (i + k) (by (i + k) (turns_from by i k b))) ≡ some p → first_overflow (turns_results stored by i c b) ≡ some p
   unfolding turns_results turns_from or_else
   turns_first i zero b k p h fine bad = absurd (not-suc-le-zero h)

@@ -52,7 +52,8 @@ module _ (bytes : List ℕ) where
 
     -- a good file: why its matrix is not factored
     pub by_matrix : (why : WhyFile) (k : ℕ) → made ≡ Pads k
-        → told_file why ≡ told_in in_factoring (explain_factoring (take (k * k) M) k k (zeros (k * k)) (replicate 128 0)) → told_file why ≡ explain_factors bytes
+        → told_file why ≡ told_in in_factoring (explain_factoring (take (k * k) M) k k (zeros (k * k)) (replicate 128 0)) → told_file why
+        ≡ explain_factors bytes
     unfolding explain_factors
     by_matrix why k t e =
         let w = was_read k t in

@@ -13,4 +13,9 @@ add_tested-requires c = ready _ _ _ _ (sym c.adding_refusal-number.ensures ∙ c
 
 pub returns : goal.returns
 returns c =
-    record { result_value = c.add_tested.ensures.answer; result_value_2 = c.add_tested.ensures.told; s_after = c.add_tested.ensures.factors; swaps_after = c.add_tested.ensures.pairs }
+    record {
+      result_value = c.add_tested.ensures.answer;
+      result_value_2 = c.add_tested.ensures.told;
+      s_after = c.add_tested.ensures.factors;
+      swaps_after = c.add_tested.ensures.pairs;
+    }

@@ -34,10 +34,17 @@ grown : (c : In-Accepted) → let g = c.args in
     (c.add_column-answer.new.s ++ drop (c.loop-k.k * g.m + g.m) c.loop-k.out)
     c.add_column-answer.new.swaps
 grown c =
-    let within : let g = c.args in (c.loop-k.k * g.m + g.m ≤ length g.a.now) × (c.loop-k.k * g.m + g.m ≤ length c.loop-k.out) = let g = c.args in let p = ok _ _ _ _ _ c.requires.swaps_value in (column_within g.m g.n c.loop-k.k g.a.now c.loop-k-test.true (sized _ _ _ p.matrix).size, column_within g.m g.n c.loop-k.k c.loop-k.out c.loop-k-test.true (c.loop-k.invariant.long ∙ (sized _ _ _ p.slice).size)) in
-    let slot_long : let g = c.args in length (take g.m (drop (c.loop-k.k * g.m) c.loop-k.out)) ≡ g.m = let g = c.args in length-take-le g.m (drop (c.loop-k.k * g.m) c.loop-k.out) (omega (arith, within, length-drop (c.loop-k.k * g.m) c.loop-k.out)) in
-    went_on _ _ _ _ _ c.requires.swaps_value _ c.loop-k-test.true _ (slot_long) _ c.loop-k.invariant.accepted _ _ _ _ _ (within).1
-    c.loop-k.invariant.front_is c.loop-k.invariant.store_is refl c.add_column-answer.ensures.result_value c.add_column-answer.ensures.s_after c.add_column-answer.ensures.swaps_after _ _ c.in-Accepted.is
+    let within : let g = c.args in (c.loop-k.k * g.m + g.m ≤ length g.a.now) × (c.loop-k.k * g.m + g.m ≤ length c.loop-k.out) = let g = c.args in
+    let p = ok _ _ _ _ _ c.requires.swaps_value in (
+      column_within g.m g.n c.loop-k.k g.a.now c.loop-k-test.true (sized _ _ _ p.matrix).size,
+      column_within g.m g.n c.loop-k.k c.loop-k.out
+          c.loop-k-test.true (c.loop-k.invariant.long ∙ (sized _ _ _ p.slice).size),
+    ) in
+    let slot_long : let g = c.args in length (take g.m (drop (c.loop-k.k * g.m) c.loop-k.out)) ≡ g.m = let g = c.args in
+    length-take-le g.m (drop (c.loop-k.k * g.m) c.loop-k.out) (omega (arith, within, length-drop (c.loop-k.k * g.m) c.loop-k.out)) in
+    went_on _ _ _ _ _ c.requires.swaps_value _ c.loop-k-test.true _ slot_long _ c.loop-k.invariant.accepted _ _ _ _ _ within.1
+    c.loop-k.invariant.front_is c.loop-k.invariant.store_is refl c.add_column-answer.ensures.result_value c.add_column-answer.ensures.s_after
+    c.add_column-answer.ensures.swaps_after _ _ c.in-Accepted.is
 
 pub loop-k-init : goal.loop-k-init
 loop-k-init c = building_none _ _ _ _ _ c.requires.swaps_value _ _ c.requires.swaps_value_2 refl
@@ -48,8 +55,10 @@ shape_of-swaps-in_default c = c.add_column-answer.auto.swaps ∙ c.loop-k.invari
 pub returns-in_default : goal.returns-in_default
 returns-in_default c =
     not_added _ _ _ _ _ c.requires.swaps_value _ _
-    (gave_up _ _ _ _ _ c.requires.swaps_value _ c.loop-k-test.true _ (slot_long (goal.at.returns-in_default c).In-loop-k) _ c.loop-k.invariant.accepted _ _ _ _ _ (within (goal.at.returns-in_default c).In-loop-k).1
-    c.loop-k.invariant.front_is c.loop-k.invariant.store_is refl c.add_column-answer.ensures.result_value c.add_column-answer.ensures.s_after c.add_column-answer.ensures.swaps_after _ _ c.in_default.is)
+    (gave_up _ _ _ _ _ c.requires.swaps_value _ c.loop-k-test.true _ (slot_long (goal.at.returns-in_default c).In-loop-k) _ c.loop-k.invariant.accepted _ _
+    _ _ _ (within (goal.at.returns-in_default c).In-loop-k).1
+    c.loop-k.invariant.front_is c.loop-k.invariant.store_is refl c.add_column-answer.ensures.result_value c.add_column-answer.ensures.s_after
+    c.add_column-answer.ensures.swaps_after _ _ c.in_default.is)
 
 pub overflow_add-tossed : goal.overflow_add-tossed
 overflow_add-tossed c =
@@ -57,7 +66,8 @@ overflow_add-tossed c =
 
 pub loop-k-preserved : goal.loop-k-preserved
 loop-k-preserved c =
-    let same_long : let g = c.args in length (c.add_column-answer.new.s ++ drop (c.loop-k.k * g.m + g.m) c.loop-k.out) ≡ length g.out.now = let g = c.args in length_front c.loop-k.out c.add_column-answer.new.s (c.loop-k.k * g.m + g.m) c.add_column-answer.auto.s ∙ c.loop-k.invariant.long in
+    let same_long : let g = c.args in length (c.add_column-answer.new.s ++ drop (c.loop-k.k * g.m + g.m) c.loop-k.out) ≡ length g.out.now =
+    let g = c.args in length_front c.loop-k.out c.add_column-answer.new.s (c.loop-k.k * g.m + g.m) c.add_column-answer.auto.s ∙ c.loop-k.invariant.long in
     let next = grown c in
     record {
       long = same_long;
@@ -76,7 +86,8 @@ returns c =
     let p = ok _ _ _ _ _ c.requires.swaps_value in
     let e : c.loop-k.k ≡ g.n = omega (arith, c.loop-k.invariant.within, c.loop-k-test.false) in
     all_added g.m g.n g.a.now _ _ c.requires.swaps_value c.loop-k.out c.loop-k.swaps c.loop-k.told c.loop-k.tossed (rw e at c.loop-k.invariant.counted)
-    (c.loop-k.invariant.long ∙ (sized _ _ _ p.slice).size) (rw e at c.loop-k.invariant.accepted) (rw e at c.loop-k.invariant.front_is) (rw e at c.loop-k.invariant.store_is)
+    (c.loop-k.invariant.long ∙ (sized _ _ _ p.slice).size) (rw e at c.loop-k.invariant.accepted) (rw e at c.loop-k.invariant.front_is)
+    (rw e at c.loop-k.invariant.store_is)
 
 pub overflow_mul-b : goal.overflow_mul-b
 overflow_mul-b c = omega (arith, within c)
@@ -98,7 +109,8 @@ slice_bounds-add_column-end-in-loop-k-2 c = (within (goal.at.slice_bounds-add_co
 
 pub shape_of-out-in_default : goal.shape_of-out-in_default
 shape_of-out-in_default c =
-    let same_long : let g = c.args in length (c.add_column-answer.new.s ++ drop (c.loop-k.k * g.m + g.m) c.loop-k.out) ≡ length g.out.now = let g = c.args in length_front c.loop-k.out c.add_column-answer.new.s (c.loop-k.k * g.m + g.m) c.add_column-answer.auto.s ∙ c.loop-k.invariant.long in
+    let same_long : let g = c.args in length (c.add_column-answer.new.s ++ drop (c.loop-k.k * g.m + g.m) c.loop-k.out) ≡ length g.out.now =
+    let g = c.args in length_front c.loop-k.out c.add_column-answer.new.s (c.loop-k.k * g.m + g.m) c.add_column-answer.auto.s ∙ c.loop-k.invariant.long in
     same_long
 
 pub shape_of-out : goal.shape_of-out

@@ -14,19 +14,24 @@ past c = passed _ _ _ _ _ (sym c.factor_refusal-number.ensures ∙ c.if-number-n
 
 pub returns-then-number-ne0 : goal.returns-then-number-ne0
 returns-then-number-ne0 c =
-    let whole = promise_refused _ _ _ _ _ _ c.factor_refusal-number.ensures c.if-number-ne0.true in record { result_value = whole.0; out_after = whole.1.0; swaps_after = whole.1.1 }
+    let whole = promise_refused _ _ _ _ _ _ c.factor_refusal-number.ensures c.if-number-ne0.true in
+    record { result_value = whole.0; out_after = whole.1.0; swaps_after = whole.1.1 }
 
 pub add_all-answer-requires : goal.add_all-answer-requires
 unfolding store_of numbers_of
 add_all-answer-requires c =
-    record { swaps_value = cleared_refusal _ _ _ _ _ (sym c.factor_refusal-number.ensures ∙ c.if-number-ne0.false) _ c.clear.auto.swaps; swaps_value_2 = c.clear.ensures ∙ ap (λ k. replicate k 0) (past (goal.at.add_all-answer-requires c).After-clear-arg-1).room }
+    record {
+      swaps_value = cleared_refusal _ _ _ _ _ (sym c.factor_refusal-number.ensures ∙ c.if-number-ne0.false) _ c.clear.auto.swaps;
+      swaps_value_2 = c.clear.ensures ∙ ap (λ k. replicate k 0) (past (goal.at.add_all-answer-requires c).After-clear-arg-1).room;
+    }
 
 pub returns-in_default : goal.returns-in_default
 returns-in_default c =
     let p = past (goal.at.returns-in_default c).After-clear-arg-1 in
     let whole = built_seven _ _ _ _ _ (sym c.factor_refusal-number.ensures ∙ c.if-number-ne0.false) _ _ _ c.add_all-answer.ensures _
     c.in_default.is _ _ (c.add_all-answer.auto.out ∙ (sized _ _ _ p.slice).size) c.fill_zero.ensures
-    c.clear-in_default.ensures (c.add_all-answer.auto.swaps ∙ c.clear.auto.swaps ∙ p.room) in record { result_value = whole.0; out_after = whole.1.0; swaps_after = whole.1.1 }
+    c.clear-in_default.ensures (c.add_all-answer.auto.swaps ∙ c.clear.auto.swaps ∙ p.room) in
+    record { result_value = whole.0; out_after = whole.1.0; swaps_after = whole.1.1 }
 
 pub returns : goal.returns
 returns c =

@@ -22,4 +22,7 @@ returns-in_default c =
 pub returns : goal.returns
 unfolding scaled_by
 returns c =
-    record { result_value = ap scaled_answer (sym c.in-Number.is) ∙ c.scaled_determinant-answer.ensures.result_value; answer_ranged = subst AnswerRanged c.in-Number.is c.scaled_determinant-answer.ensures.answer_ranged }
+    record {
+      result_value = ap scaled_answer (sym c.in-Number.is) ∙ c.scaled_determinant-answer.ensures.result_value;
+      answer_ranged = subst AnswerRanged c.in-Number.is c.scaled_determinant-answer.ensures.answer_ranged;
+    }

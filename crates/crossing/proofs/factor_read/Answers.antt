@@ -28,10 +28,13 @@ factor_pads-requires c =
 
 pub returns-in-Pads : goal.returns-in-Pads
 returns-in-Pads c =
-    let whole = held_read c.args.file.now c.args.matrix.now c.args.readings.now c.args.swaps.now c.requires.0 c.requires.1 _ _ _ (read_at (goal.at.returns-in-Pads c).In-Pads) _ _ _
-    c.factor_pads.ensures.result_value c.factor_pads.ensures.a_after c.factor_pads.ensures.swaps_after in record { result_value = whole.0; swaps_after = whole.1 }
+    let whole = held_read c.args.file.now c.args.matrix.now c.args.readings.now c.args.swaps.now c.requires.0 c.requires.1 _ _ _
+    (read_at (goal.at.returns-in-Pads c).In-Pads) _ _ _
+    c.factor_pads.ensures.result_value c.factor_pads.ensures.a_after c.factor_pads.ensures.swaps_after in
+    record { result_value = whole.0; swaps_after = whole.1 }
 
 pub returns-in-Refused : goal.returns-in-Refused
 returns-in-Refused c =
     let whole = held_refused c.args.file.now c.args.matrix.now c.args.readings.now c.args.swaps.now c.requires.0 c.requires.1 c.read.result _ _
-    c.read.ensures.result_value c.read.ensures.matrix_after c.read.ensures.readings_after _ c.in-Refused.is in record { result_value = whole.0; swaps_after = whole.1 }
+    c.read.ensures.result_value c.read.ensures.matrix_after c.read.ensures.readings_after _ c.in-Refused.is in
+    record { result_value = whole.0; swaps_after = whole.1 }

@@ -34,24 +34,31 @@ returns-then-pad-n c =
 
 pub move_pad-requires : goal.move_pad-requires
 move_pad-requires c =
-    let w = filed_ready _ _ _ _ _ (c.factor_file.ensures.result_value, (c.factor_file.ensures.swaps_after, c.factor_file.ensures.matrix_len)) _ _ c.in-Factors.is in
+    let w = filed_ready _ _ _ _ _ (c.factor_file.ensures.result_value, (c.factor_file.ensures.swaps_after, c.factor_file.ensures.matrix_len)) _ _
+    c.in-Factors.is in
     let p = pad_inside _ _ (there (goal.at.move_pad-requires c).After-swaps-1) in
     (p.0, omega (arith, p.1, w.pads), w.most, search rules, search rules)
 
 pub refuse-requires-in-Refused : goal.refuse-requires-in-Refused
 refuse-requires-in-Refused c =
-    let d = filed_refused _ _ _ _ _ (c.factor_file.ensures.result_value, (c.factor_file.ensures.swaps_after, c.factor_file.ensures.matrix_len)) _ c.in-Refused.is in
+    let d = filed_refused _ _ _ _ _ (c.factor_file.ensures.result_value, (c.factor_file.ensures.swaps_after, c.factor_file.ensures.matrix_len)) _
+    c.in-Refused.is in
     ((λ seven. omega (arith, c.pads_of-n.ensures.0, factors_seven _ _ d seven)), search rules)
 
 pub returns-in-Factors : goal.returns-in-Factors
 returns-in-Factors c =
-    let w = filed_ready _ _ _ _ _ (c.factor_file.ensures.result_value, (c.factor_file.ensures.swaps_after, c.factor_file.ensures.matrix_len)) _ _ c.in-Factors.is in
-    let t = filed_tossed _ _ _ _ _ (c.factor_file.ensures.result_value, (c.factor_file.ensures.swaps_after, c.factor_file.ensures.matrix_len)) _ _ c.in-Factors.is in
-    let o = moving_held _ _ (there (goal.at.returns-in-Factors c).After-swaps-1) _ _ _ _ w.factors w.pads _ t _ _ c.move_pad.ensures.result_value c.move_pad.ensures.out_after in
+    let w = filed_ready _ _ _ _ _ (c.factor_file.ensures.result_value, (c.factor_file.ensures.swaps_after, c.factor_file.ensures.matrix_len)) _ _
+    c.in-Factors.is in
+    let t = filed_tossed _ _ _ _ _ (c.factor_file.ensures.result_value, (c.factor_file.ensures.swaps_after, c.factor_file.ensures.matrix_len)) _ _
+    c.in-Factors.is in
+    let o = moving_held _ _ (there (goal.at.returns-in-Factors c).After-swaps-1) _ _ _ _ w.factors w.pads _ t _ _ c.move_pad.ensures.result_value
+    c.move_pad.ensures.out_after in
     record { result_value = o.0; out_after = o.1; out_len = omega (arith, c.move_pad.auto.out) }
 
 pub returns-in-Refused : goal.returns-in-Refused
 returns-in-Refused c =
-    let d = filed_refused _ _ _ _ _ (c.factor_file.ensures.result_value, (c.factor_file.ensures.swaps_after, c.factor_file.ensures.matrix_len)) _ c.in-Refused.is in
-    let o = moving_refused _ _ (there (goal.at.returns-in-Refused c).After-swaps-1) _ _ _ _ _ d c.pads_of-n.ensures.0 c.refuse-in-Refused.ensures.value c.refuse-in-Refused.ensures.out_after in
+    let d = filed_refused _ _ _ _ _ (c.factor_file.ensures.result_value, (c.factor_file.ensures.swaps_after, c.factor_file.ensures.matrix_len)) _
+    c.in-Refused.is in
+    let o = moving_refused _ _ (there (goal.at.returns-in-Refused c).After-swaps-1) _ _ _ _ _ d c.pads_of-n.ensures.0 c.refuse-in-Refused.ensures.value
+    c.refuse-in-Refused.ensures.out_after in
     record { result_value = o.0; out_after = o.1; out_len = search rules }

@@ -24,17 +24,20 @@ rank_loads-requires c =
 
 pub refuse-requires : goal.refuse-requires
 refuse-requires c =
-    let e = filed_refused _ _ _ _ _ (c.factor_file.ensures.result_value, (c.factor_file.ensures.swaps_after, c.factor_file.ensures.matrix_len)) _ c.in-Refused.is in
+    let e = filed_refused _ _ _ _ _ (c.factor_file.ensures.result_value, (c.factor_file.ensures.swaps_after, c.factor_file.ensures.matrix_len)) _
+    c.in-Refused.is in
     ((λ seven. omega (arith, c.pads_of.ensures.0, factors_seven _ _ e seven)), search rules)
 
 pub returns-in-Factors : goal.returns-in-Factors
 returns-in-Factors c =
     let w = ready (goal.at.returns-in-Factors c).After-matrix-in-Factors-1 in
-    let o = ordering_held _ _ _ _ _ _ _ w.factors w.pads w.is_readings _ (tossed (goal.at.returns-in-Factors c).After-matrix-in-Factors-1) _ _ _ c.rank_loads.ensures.result_value c.rank_loads.ensures.ranks_after c.rank_loads.ensures.loads_after in
+    let o = ordering_held _ _ _ _ _ _ _ w.factors w.pads w.is_readings _ (tossed (goal.at.returns-in-Factors c).After-matrix-in-Factors-1) _ _ _
+    c.rank_loads.ensures.result_value c.rank_loads.ensures.ranks_after c.rank_loads.ensures.loads_after in
     record { result_value = o.0; ranks_after = o.1.0; loads_after = o.1.1; loads_len = omega (arith, c.rank_loads.auto.loads) }
 
 pub returns-in-Refused : goal.returns-in-Refused
 returns-in-Refused c =
-    let d = filed_refused _ _ _ _ _ (c.factor_file.ensures.result_value, (c.factor_file.ensures.swaps_after, c.factor_file.ensures.matrix_len)) _ c.in-Refused.is in
+    let d = filed_refused _ _ _ _ _ (c.factor_file.ensures.result_value, (c.factor_file.ensures.swaps_after, c.factor_file.ensures.matrix_len)) _
+    c.in-Refused.is in
     let o = ordering_refused _ _ _ _ _ _ _ d c.pads_of.ensures.0 c.refuse.ensures.value c.refuse.ensures.out_after in
     record { result_value = o.0; ranks_after = o.1.0; loads_after = o.1.1; loads_len = search rules }

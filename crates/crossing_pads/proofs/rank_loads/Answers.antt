@@ -30,15 +30,29 @@ slice_bounds-rank_all-end-in-Pads-2 c = omega (arith, (solved_at c).pads, c.requ
 
 pub slice_bounds-rank_all-end-in-Pads-3 : goal.slice_bounds-rank_all-end-in-Pads-3
 slice_bounds-rank_all-end-in-Pads-3 c =
-    taken_count _ c.args.ranks.now (omega (arith, (solved_at (goal.at.slice_bounds-rank_all-end-in-Pads-3 c).In-Pads).pads, c.requires.le_rows, c.requires.ranks_len))
+    taken_count _ c.args.ranks.now (omega (
+      arith,
+      (solved_at (goal.at.slice_bounds-rank_all-end-in-Pads-3 c).In-Pads).pads,
+      c.requires.le_rows,
+      c.requires.ranks_len,
+    ))
 
 pub returns-in-Pads : goal.returns-in-Pads
 returns-in-Pads c =
     let p = packed_in c.args.matrix.now c.args.swaps.now c.args.told in
     let ranks = c.rank_all.ensures.ranks_after in
     let finite = solution_finite false p (take c.args.told.rows c.args.readings.now) in
-    record { result_value = ap pads_ordered (sym c.in-Pads.is) ∙ c.solve_front.ensures.result_value; ranks_after = ranked_left _ _ _ _ _ (solved_at (goal.at.returns-in-Pads c).In-Pads) finite c.requires.le_rows.0 c.requires.le_rows.1 c.args.ranks.now _ c.requires.ranks_len.0 ranks; loads_after = c.solve_front.ensures.x_after }
+    record {
+      result_value = ap pads_ordered (sym c.in-Pads.is) ∙ c.solve_front.ensures.result_value;
+      ranks_after = ranked_left _ _ _ _ _ (solved_at (goal.at.returns-in-Pads c).In-Pads) finite c.requires.le_rows.0 c.requires.le_rows.1 c.args.ranks.now
+          _ c.requires.ranks_len.0 ranks;
+      loads_after = c.solve_front.ensures.x_after;
+    }
 
 pub returns-in-Refused : goal.returns-in-Refused
 returns-in-Refused c =
-    record { result_value = ap pads_ordered (sym c.in-Refused.is) ∙ c.solve_front.ensures.result_value; ranks_after = ranks_kept _ _ _ _ (not_solved _ _ _ _ c.solve_front.ensures.result_value _ c.in-Refused.is); loads_after = c.solve_front.ensures.x_after }
+    record {
+      result_value = ap pads_ordered (sym c.in-Refused.is) ∙ c.solve_front.ensures.result_value;
+      ranks_after = ranks_kept _ _ _ _ (not_solved _ _ _ _ c.solve_front.ensures.result_value _ c.in-Refused.is);
+      loads_after = c.solve_front.ensures.x_after;
+    }

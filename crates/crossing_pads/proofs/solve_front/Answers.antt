@@ -25,4 +25,7 @@ solve_system-requires c = sym (taken_count c.args.told.rows c.args.x.now (omega 
 
 pub returns : goal.returns
 returns c =
-    record { result_value = c.solve_system.ensures.result_value; x_after = ap (λ (t : Column). t ++ drop c.args.told.rows c.args.x.now) c.solve_system.ensures.x_after }
+    record {
+      result_value = c.solve_system.ensures.result_value;
+      x_after = ap (λ (t : Column). t ++ drop c.args.told.rows c.args.x.now) c.solve_system.ensures.x_after;
+    }

@@ -25,7 +25,7 @@ turn : (c : In-loop-j) → let g = c.args in
 turn c =
     let matrix : let g = c.args in is_matrix g.s.now g.m g.n ≡ true = sym c.is_matrix.ensures ∙ c.if-not-is_matrix.false in
     let g = c.args in
-    record { column = column_within g.m g.n _ g.s.now (omega arith) (sized g.m g.n g.s.now (matrix)).size; row = omega arith }
+    record { column = column_within g.m g.n _ g.s.now (omega arith) (sized g.m g.n g.s.now matrix).size; row = omega arith }
 
 pub returns-then-not-is_matrix : goal.returns-then-not-is_matrix
 unfolding dead_of

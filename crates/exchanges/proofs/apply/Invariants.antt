@@ -16,7 +16,8 @@ turns_left k columns reverse m n pairs swaps s = permuted_by (on_slice (exchange
 
 abbrev pub invariant-loop-k : goal.invariant-loop-k
 invariant-loop-k l =
-    (length l.s ≡ length l.initial.s) × (turns_left l.k l.columns l.reverse l.m l.n l.pairs l.swaps l.s ≡ turns_left 0 l.columns l.reverse l.m l.n l.pairs l.swaps l.initial.s)
+    (length l.s ≡ length l.initial.s) × (turns_left l.k l.columns l.reverse l.m l.n l.pairs l.swaps l.s
+    ≡ turns_left 0 l.columns l.reverse l.m l.n l.pairs l.swaps l.initial.s)
 
 abbrev pub decreases-loop-k : goal.decreases-loop-k
 decreases-loop-k l = l.pairs - l.k

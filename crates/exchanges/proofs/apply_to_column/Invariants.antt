@@ -9,7 +9,8 @@ use Rattle.exchanges.proofs.apply_to_column.Given as goal
 
 abbrev pub invariant-loop-k : goal.invariant-loop-k
 invariant-loop-k l =
-    (length l.col ≡ length l.initial.col) × (permute (drop l.k (in_order false (pairs_of l.pairs l.swaps))) l.col ≡ permute (pairs_of l.pairs l.swaps) l.initial.col)
+    (length l.col ≡ length l.initial.col) × (permute (drop l.k (in_order false (pairs_of l.pairs l.swaps))) l.col
+    ≡ permute (pairs_of l.pairs l.swaps) l.initial.col)
 
 abbrev pub decreases-loop-k : goal.decreases-loop-k
 decreases-loop-k l = l.pairs - l.k

@@ -15,7 +15,8 @@ in_column swaps j c = permute swaps c
 
 abbrev pub invariant-loop-j : goal.invariant-loop-j
 invariant-loop-j l =
-    (length l.s ≡ length l.initial.s) × (each_from (in_column (pairs_of 4 l.four)) l.j (columns l.m l.n l.s) ≡ each_from (in_column (pairs_of 4 l.four)) 0 (columns l.m l.n l.initial.s))
+    (length l.s ≡ length l.initial.s) × (each_from (in_column (pairs_of 4 l.four)) l.j (columns l.m l.n l.s)
+    ≡ each_from (in_column (pairs_of 4 l.four)) 0 (columns l.m l.n l.initial.s))
 
 abbrev pub decreases-loop-j : goal.decreases-loop-j
 decreases-loop-j l = l.n - l.j

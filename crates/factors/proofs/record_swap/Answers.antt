@@ -14,7 +14,10 @@ returns-then-piv-i c = record { value = rw (eq-eqb _ _ c.if-piv-i.true) refl; sw
 pub returns-then-swaps-pairs : goal.returns-then-swaps-pairs
 unfolding pairs_with store_with takes_pair
 returns-then-swaps-pairs c =
-    record { value = rw (ne_eqb _ _ c.if-piv-i.false, le-ltb _ _ c.if-swaps-pairs.true) refl; swaps_after = rw (ne_eqb _ _ c.if-piv-i.false, le-ltb _ _ c.if-swaps-pairs.true) refl }
+    record {
+      value = rw (ne_eqb _ _ c.if-piv-i.false, le-ltb _ _ c.if-swaps-pairs.true) refl;
+      swaps_after = rw (ne_eqb _ _ c.if-piv-i.false, le-ltb _ _ c.if-swaps-pairs.true) refl;
+    }
 
 pub bounds-swaps-pairs-2 : goal.bounds-swaps-pairs-2
 bounds-swaps-pairs-2 c = simp length-set (omega arith)
@@ -22,4 +25,7 @@ bounds-swaps-pairs-2 c = simp length-set (omega arith)
 pub returns : goal.returns
 unfolding pairs_with store_with takes_pair with_pair
 returns c =
-    record { value = rw (ne_eqb _ _ c.if-piv-i.false, lt-ltb _ _ c.if-swaps-pairs.false) refl; swaps_after = rw (ne_eqb _ _ c.if-piv-i.false, lt-ltb _ _ c.if-swaps-pairs.false) refl }
+    record {
+      value = rw (ne_eqb _ _ c.if-piv-i.false, lt-ltb _ _ c.if-swaps-pairs.false) refl;
+      swaps_after = rw (ne_eqb _ _ c.if-piv-i.false, lt-ltb _ _ c.if-swaps-pairs.false) refl;
+    }

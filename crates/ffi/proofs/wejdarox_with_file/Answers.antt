@@ -9,4 +9,7 @@ pub returns : goal.returns
 returns c =
     let same =
     c.with_file-handed.ensures ∙ ap (λ (s : Season). handing s c.args.file.now) c.from_counts.ensures in
-    record { value = c.number_of.ensures ∙ ap (λ (o : Call (Unit {0}) Season). number_of o.answer) same; season_after = c.counts.ensures ∙ ap (λ (o : Call (Unit {0}) Season). counts_of o.left) same }
+    record {
+      value = c.number_of.ensures ∙ ap (λ (o : Call (Unit {0}) Season). number_of o.answer) same;
+      season_after = c.counts.ensures ∙ ap (λ (o : Call (Unit {0}) Season). counts_of o.left) same;
+    }

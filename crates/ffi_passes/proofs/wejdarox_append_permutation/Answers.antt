@@ -8,10 +8,18 @@ pub returns-in-Pairs : goal.returns-in-Pairs
 unfolding number_of appended count_of
 returns-in-Pairs c =
     let is = c.in-Pairs.is in
-    record { value = ap number_of (sym (ap appended is) ∙ c.append_permutation.ensures.result_value); swaps_after = c.append_permutation.ensures.swaps_after; pairs_after = sym (ap count_of is) ∙ c.append_permutation.ensures.result_value_2 }
+    record {
+      value = ap number_of (sym (ap appended is) ∙ c.append_permutation.ensures.result_value);
+      swaps_after = c.append_permutation.ensures.swaps_after;
+      pairs_after = sym (ap count_of is) ∙ c.append_permutation.ensures.result_value_2;
+    }
 
 pub returns-in-Refused : goal.returns-in-Refused
 unfolding number_of appended count_of
 returns-in-Refused c =
     let is = c.in-Refused.is in
-    record { value = ap number_of (sym (ap appended is) ∙ c.append_permutation.ensures.result_value); swaps_after = c.append_permutation.ensures.swaps_after; pairs_after = sym (ap count_of is) ∙ c.append_permutation.ensures.result_value_2 }
+    record {
+      value = ap number_of (sym (ap appended is) ∙ c.append_permutation.ensures.result_value);
+      swaps_after = c.append_permutation.ensures.swaps_after;
+      pairs_after = sym (ap count_of is) ∙ c.append_permutation.ensures.result_value_2;
+    }

@@ -5,4 +5,7 @@ use Rattle.ffi_passes.proofs.wejdarox_solve_lower_triangular_with_diag_corrected
 
 pub returns : goal.returns
 returns c =
-    record { value = c.number_of.ensures ∙ ap number_of c.solve_lower_triangular_with_diag_corrected.ensures.result_value; x_after = c.solve_lower_triangular_with_diag_corrected.ensures.x_after }
+    record {
+      value = c.number_of.ensures ∙ ap number_of c.solve_lower_triangular_with_diag_corrected.ensures.result_value;
+      x_after = c.solve_lower_triangular_with_diag_corrected.ensures.x_after;
+    }

@@ -5,4 +5,7 @@ use Rattle.ffi_passes.proofs.wejdarox_tr_solve_lower_triangular.Goals as goal
 
 pub returns : goal.returns
 returns c =
-    record { value = c.number_of.ensures ∙ ap number_of c.tr_solve_lower_triangular.ensures.result_value; x_after = c.tr_solve_lower_triangular.ensures.x_after }
+    record {
+      value = c.number_of.ensures ∙ ap number_of c.tr_solve_lower_triangular.ensures.result_value;
+      x_after = c.tr_solve_lower_triangular.ensures.x_after;
+    }

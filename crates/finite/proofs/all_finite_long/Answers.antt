@@ -23,7 +23,8 @@ pub loop-k-preserved : goal.loop-k-preserved
 loop-k-preserved c =
     let s = c.args.s.now in
     let fits : length c.loop-k.products ≡ length (take (c.loop-k.k + 24 - c.loop-k.k) (drop c.loop-k.k s)) = simp (length-take, length-drop) (omega arith) in
-    let more = block_more c.loop-k.products (take (c.loop-k.k + 24 - c.loop-k.k) (drop c.loop-k.k s)) _ _ fits c.loop-k.invariant.2 (part_first s c.loop-k.k 24) in
+    let more = block_more c.loop-k.products (take (c.loop-k.k + 24 - c.loop-k.k) (drop c.loop-k.k s)) _ _ fits c.loop-k.invariant.2
+    (part_first s c.loop-k.k 24) in
     (omega arith, c.times_block.auto.products ∙ c.loop-k.invariant.1, rw c.times_block.ensures more.0, rw c.times_block.ensures (more.1 ∙ c.loop-k.invariant.3))
 
 pub returns : goal.returns

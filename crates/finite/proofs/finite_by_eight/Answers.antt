@@ -20,9 +20,11 @@ unfolding each_from
 loop-k-preserved c =
     let s = c.args.s.now in
     let first = eight_first s c.loop-k.k (omega arith) in
-    let more = block_more (eight c.loop-k.t0 c.loop-k.t1 c.loop-k.t2 c.loop-k.t3 c.loop-k.t4 c.loop-k.t5 c.loop-k.t6 c.loop-k.t7) (entries s c.loop-k.k (omega arith)) _ _ refl c.loop-k.invariant.1 first in
+    let more = block_more (eight c.loop-k.t0 c.loop-k.t1 c.loop-k.t2 c.loop-k.t3 c.loop-k.t4 c.loop-k.t5 c.loop-k.t6 c.loop-k.t7)
+    (entries s c.loop-k.k (omega arith)) _ _ refl c.loop-k.invariant.1 first in
     (omega arith, more.0, more.1 ∙ c.loop-k.invariant.2)
 
 pub returns : goal.returns
 returns c =
-    ap₂ ◌&&◌ (eight_tell c.loop-k.t0 c.loop-k.t1 c.loop-k.t2 c.loop-k.t3 c.loop-k.t4 c.loop-k.t5 c.loop-k.t6 c.loop-k.t7 c.loop-k.invariant.1) c.rest_finite-2.ensures ∙ c.loop-k.invariant.2
+    ap₂ ◌&&◌ (eight_tell c.loop-k.t0 c.loop-k.t1 c.loop-k.t2 c.loop-k.t3 c.loop-k.t4 c.loop-k.t5 c.loop-k.t6 c.loop-k.t7 c.loop-k.invariant.1)
+    c.rest_finite-2.ensures ∙ c.loop-k.invariant.2

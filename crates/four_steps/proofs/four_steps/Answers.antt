@@ -39,8 +39,13 @@ steps_from-j-requires c =
 
 pub loop-j-preserved : goal.loop-j-preserved
 loop-j-preserved c =
-    let on = c.steps_from-j.ensures.1 in
-    (c.steps_from-j.auto.s ∙ c.loop-j.invariant.0, omega (arith, c.steps_from-j.ensures.0), λ q h. c.steps_from-j.ensures.1.kept q h ∙ c.loop-j.invariant.2 q h, onward_turn _ _ _ _ _ _ on c.loop-j.invariant.2 ∙ c.loop-j.invariant.3)
+    let on = c.steps_from-j.ensures.1 in (
+      c.steps_from-j.auto.s ∙ c.loop-j.invariant.0,
+      omega (arith, c.steps_from-j.ensures.0),
+      λ q h. c.steps_from-j.ensures.1.kept q h
+          ∙ c.loop-j.invariant.2 q h,
+      onward_turn _ _ _ _ _ _ on c.loop-j.invariant.2 ∙ c.loop-j.invariant.3,
+    )
 
 pub returns : goal.returns
 returns c =

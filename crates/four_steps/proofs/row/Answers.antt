@@ -17,7 +17,10 @@ returns c =
     let h = c.requires in
     let size = (sized _ _ _ h.0).size in
     let made = written_at _ _ _ _ _ c.number.result h.2 h.4 size in
-    record { s_after = row_left _ _ _ _ _ _ size h.1 _ _ h.3 h.2 h.5 _ h.4 c.number.ensures made; f_value = row_minus _ _ _ _ _ _ size h.1 _ _ h.3 h.2 h.5 _ made }
+    record {
+      s_after = row_left _ _ _ _ _ _ size h.1 _ _ h.3 h.2 h.5 _ h.4 c.number.ensures made;
+      f_value = row_minus _ _ _ _ _ _ size h.1 _ _ h.3 h.2 h.5 _ made;
+    }
 
 pub overflow_mul-b : goal.overflow_mul-b
 overflow_mul-b c = omega (arith, within c)

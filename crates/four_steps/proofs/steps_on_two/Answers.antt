@@ -24,8 +24,16 @@ two_by_four-after_fours-requires c = let h = c.requires in (same_matrix _ _ _ _ 
 
 pub two_by_two-after_two-requires : goal.two_by_two-after_two-requires
 two_by_two-after_two-requires c =
-    let h = c.requires in
-    (same_matrix _ _ _ _ (c.two_by_four-after_fours.auto.s ∙ c.head-2.auto.s ∙ c.head.auto.s) ∙ h.0, h.1, h.2, h.3, c.two_by_four-after_fours.ensures.lower_bound.0, c.two_by_four-after_fours.ensures.lower_bound.1, c.two_by_four-after_fours.ensures.lower_bound.2)
+    let h = c.requires in (
+      same_matrix _ _ _ _ (c.two_by_four-after_fours.auto.s ∙ c.head-2.auto.s ∙ c.head.auto.s)
+          ∙ h.0,
+      h.1,
+      h.2,
+      h.3,
+      c.two_by_four-after_fours.ensures.lower_bound.0,
+      c.two_by_four-after_fours.ensures.lower_bound.1,
+      c.two_by_four-after_fours.ensures.lower_bound.2,
+    )
 
 pub two_by_one-requires : goal.two_by_one-requires
 two_by_one-requires c =

@@ -42,9 +42,12 @@ loop-k-preserved c =
       c.write_four-in-loop-k.auto.s ∙ c.write_four.auto.s ∙ c.loop-k.invariant.0,
       omega arith,
       room,
-      fours_first _ _ _ _ _ _ _ _ _ _ _ _ len h.2 c.loop-k.invariant.1 h.3 room c.loop-k.invariant.3 c.loop-k.invariant.4 c.write_four.ensures c.write_four-in-loop-k.ensures,
-      fours_second _ _ _ _ _ _ _ _ _ _ _ _ len h.2 c.loop-k.invariant.1 h.3 room c.loop-k.invariant.3 c.loop-k.invariant.4 c.write_four.ensures c.write_four-in-loop-k.ensures,
-      fours_left _ _ _ _ _ _ _ _ _ _ _ _ len h.2 c.loop-k.invariant.1 h.3 room c.loop-k.invariant.3 c.loop-k.invariant.4 c.write_four.ensures c.write_four-in-loop-k.ensures
+      fours_first _ _ _ _ _ _ _ _ _ _ _ _ len h.2 c.loop-k.invariant.1 h.3 room c.loop-k.invariant.3 c.loop-k.invariant.4 c.write_four.ensures
+          c.write_four-in-loop-k.ensures,
+      fours_second _ _ _ _ _ _ _ _ _ _ _ _ len h.2 c.loop-k.invariant.1 h.3 room c.loop-k.invariant.3 c.loop-k.invariant.4 c.write_four.ensures
+          c.write_four-in-loop-k.ensures,
+      fours_left _ _ _ _ _ _ _ _ _ _ _ _ len h.2 c.loop-k.invariant.1 h.3 room c.loop-k.invariant.3 c.loop-k.invariant.4 c.write_four.ensures
+          c.write_four-in-loop-k.ensures
           c.numbers-x.ensures c.numbers-y.ensures ∙ c.loop-k.invariant.5,
     )
 

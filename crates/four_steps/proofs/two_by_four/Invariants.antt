@@ -9,7 +9,8 @@ use Rattle.four_steps.proofs.two_by_four.Given as goal
 
 abbrev pub invariant-loop-k : goal.invariant-loop-k
 invariant-loop-k l =
-    (length l.s ≡ length l.initial.s) × (l.i + 4 ≤ l.k) × (l.k ≤ l.m) × (l.f ≡ minus_of l.i (column (columns l.m l.n l.s) l.j)) × (l.g ≡ minus_of l.i (column (columns l.m l.n l.s) (l.j + 1)))
+    (length l.s ≡ length l.initial.s) × (l.i + 4 ≤ l.k) × (l.k ≤ l.m) × (l.f ≡ minus_of l.i (column (columns l.m l.n l.s) l.j))
+    × (l.g ≡ minus_of l.i (column (columns l.m l.n l.s) (l.j + 1)))
     × (tails_left l.i l.j l.k (columns l.m l.n l.s) ≡ tails_left l.i l.j (l.i + 4) (columns l.m l.n l.initial.s))
 
 abbrev pub decreases-loop-k : goal.decreases-loop-k

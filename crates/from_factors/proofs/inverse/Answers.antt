@@ -13,14 +13,16 @@ use Rattle.from_factors.proofs.inverse.Goals as goal
 past : (c : After-fill_with_identity-arg-1) → let g = c.args in
     Passed g.factors.now g.swaps.now g.told (inverse_asks g.x.now g.told.rows)
 past c =
-    let number_is : let g = c.args in c.held_refusal-number.result ≡ held_refusal g.factors.now g.swaps.now g.told (inverse_asks g.x.now g.told.rows) = rw c.is_matrix-lengths.ensures at c.held_refusal-number.ensures in
-    passed _ _ _ _ (sym (number_is) ∙ c.if-number-ne0.false)
+    let number_is : let g = c.args in c.held_refusal-number.result ≡ held_refusal g.factors.now g.swaps.now g.told (inverse_asks g.x.now g.told.rows) =
+    rw c.is_matrix-lengths.ensures at c.held_refusal-number.ensures in
+    passed _ _ _ _ (sym number_is ∙ c.if-number-ne0.false)
 
 pub returns-then-number-ne0 : goal.returns-then-number-ne0
 unfolding inverting
 returns-then-number-ne0 c =
-    let number_is : let g = c.args in c.held_refusal-number.result ≡ held_refusal g.factors.now g.swaps.now g.told (inverse_asks g.x.now g.told.rows) = rw c.is_matrix-lengths.ensures at c.held_refusal-number.ensures in
-    let whole = promise_refused _ _ _ _ _ (number_is) c.if-number-ne0.true c.answer_for.ensures in record { result_value = whole.0; x_after = whole.1 }
+    let number_is : let g = c.args in c.held_refusal-number.result ≡ held_refusal g.factors.now g.swaps.now g.told (inverse_asks g.x.now g.told.rows) =
+    rw c.is_matrix-lengths.ensures at c.held_refusal-number.ensures in
+    let whole = promise_refused _ _ _ _ _ number_is c.if-number-ne0.true c.answer_for.ensures in record { result_value = whole.0; x_after = whole.1 }
 
 pub fill_with_identity-requires : goal.fill_with_identity-requires
 fill_with_identity-requires c = (past c).lengths
@@ -40,7 +42,9 @@ solve_mut-requires c =
 pub returns : goal.returns
 unfolding inverting
 returns c =
-    let number_is : let g = c.args in c.held_refusal-number.result ≡ held_refusal g.factors.now g.swaps.now g.told (inverse_asks g.x.now g.told.rows) = rw c.is_matrix-lengths.ensures at c.held_refusal-number.ensures in
+    let number_is : let g = c.args in c.held_refusal-number.result ≡ held_refusal g.factors.now g.swaps.now g.told (inverse_asks g.x.now g.told.rows) =
+    rw c.is_matrix-lengths.ensures at c.held_refusal-number.ensures in
     let told = c.args.told in
-    let whole = promise_solved solved told _ _ _ _ _ _ _ _ _ _ _ (number_is) c.if-number-ne0.false c.solve_mut.ensures
-    c.fill_with_identity.ensures c.settle.ensures.value c.answer_for-2.ensures c.settle.ensures.res_after in record { result_value = whole.0; x_after = whole.1 }
+    let whole = promise_solved solved told _ _ _ _ _ _ _ _ _ _ _ number_is c.if-number-ne0.false c.solve_mut.ensures
+    c.fill_with_identity.ensures c.settle.ensures.value c.answer_for-2.ensures c.settle.ensures.res_after in
+    record { result_value = whole.0; x_after = whole.1 }

@@ -14,14 +14,18 @@ use Rattle.from_factors.proofs.l.Goals as goal
 past : (c : After-lower_columns-arg-1) → let g = c.args in
     Passed g.factors.now g.swaps.now g.told (read_asks g.out.now g.told.rows (min g.told.rows g.told.columns))
 past c =
-    let number_is : let g = c.args in c.held_refusal-number.result ≡ held_refusal g.factors.now g.swaps.now g.told (read_asks g.out.now g.told.rows (min g.told.rows g.told.columns)) = rw (c.is_matrix-lengths.ensures, c.min-k.ensures) at c.held_refusal-number.ensures in
-    passed _ _ _ _ (sym (number_is) ∙ c.if-number-ne0.false)
+    let number_is : let g = c.args in c.held_refusal-number.result
+    ≡ held_refusal g.factors.now g.swaps.now g.told (read_asks g.out.now g.told.rows (min g.told.rows g.told.columns)) =
+    rw (c.is_matrix-lengths.ensures, c.min-k.ensures) at c.held_refusal-number.ensures in
+    passed _ _ _ _ (sym number_is ∙ c.if-number-ne0.false)
 
 pub returns-then-number-ne0 : goal.returns-then-number-ne0
 unfolding lowering
 returns-then-number-ne0 c =
-    let number_is : let g = c.args in c.held_refusal-number.result ≡ held_refusal g.factors.now g.swaps.now g.told (read_asks g.out.now g.told.rows (min g.told.rows g.told.columns)) = rw (c.is_matrix-lengths.ensures, c.min-k.ensures) at c.held_refusal-number.ensures in
-    let whole = promise_refused _ _ _ _ _ (number_is) c.if-number-ne0.true c.answer_for.ensures in record { result_value = whole.0; out_after = whole.1 }
+    let number_is : let g = c.args in c.held_refusal-number.result
+    ≡ held_refusal g.factors.now g.swaps.now g.told (read_asks g.out.now g.told.rows (min g.told.rows g.told.columns)) =
+    rw (c.is_matrix-lengths.ensures, c.min-k.ensures) at c.held_refusal-number.ensures in
+    let whole = promise_refused _ _ _ _ _ number_is c.if-number-ne0.true c.answer_for.ensures in record { result_value = whole.0; out_after = whole.1 }
 
 pub lower_columns-requires : goal.lower_columns-requires
 lower_columns-requires c =
@@ -32,5 +36,8 @@ lower_columns-requires c =
 pub returns : goal.returns
 unfolding lowering
 returns c =
-    let number_is : let g = c.args in c.held_refusal-number.result ≡ held_refusal g.factors.now g.swaps.now g.told (read_asks g.out.now g.told.rows (min g.told.rows g.told.columns)) = rw (c.is_matrix-lengths.ensures, c.min-k.ensures) at c.held_refusal-number.ensures in
-    let whole = promise_read _ _ _ _ _ (number_is) c.if-number-ne0.false (rw c.min-k.ensures at c.lower_columns.ensures) in record { result_value = whole.0; out_after = whole.1 }
+    let number_is : let g = c.args in c.held_refusal-number.result
+    ≡ held_refusal g.factors.now g.swaps.now g.told (read_asks g.out.now g.told.rows (min g.told.rows g.told.columns)) =
+    rw (c.is_matrix-lengths.ensures, c.min-k.ensures) at c.held_refusal-number.ensures in
+    let whole = promise_read _ _ _ _ _ number_is c.if-number-ne0.false (rw c.min-k.ensures at c.lower_columns.ensures) in
+    record { result_value = whole.0; out_after = whole.1 }

@@ -67,15 +67,30 @@ offset_bounds-factors-a c =
 
 pub slice_bounds-lower_column-count-in-loop-j : goal.slice_bounds-lower_column-count-in-loop-j
 slice_bounds-lower_column-count-in-loop-j c =
-    omega (arith, within (goal.at.slice_bounds-lower_column-count-in-loop-j c).In-loop-j, within_factors (goal.at.slice_bounds-lower_column-count-in-loop-j c).In-loop-j)
+    omega (
+      arith,
+      within (goal.at.slice_bounds-lower_column-count-in-loop-j c).In-loop-j,
+      within_factors (goal.at.slice_bounds-lower_column-count-in-loop-j
+          c).In-loop-j,
+    )
 
 pub slice_bounds-lower_column-start-in-loop-j : goal.slice_bounds-lower_column-start-in-loop-j
 slice_bounds-lower_column-start-in-loop-j c =
-    omega (arith, within (goal.at.slice_bounds-lower_column-start-in-loop-j c).In-loop-j, within_factors (goal.at.slice_bounds-lower_column-start-in-loop-j c).In-loop-j)
+    omega (
+      arith,
+      within (goal.at.slice_bounds-lower_column-start-in-loop-j c).In-loop-j,
+      within_factors (goal.at.slice_bounds-lower_column-start-in-loop-j
+          c).In-loop-j,
+    )
 
 pub slice_bounds-lower_column-end-in-loop-j : goal.slice_bounds-lower_column-end-in-loop-j
 slice_bounds-lower_column-end-in-loop-j c =
-    omega (arith, within (goal.at.slice_bounds-lower_column-end-in-loop-j c).In-loop-j, within_factors (goal.at.slice_bounds-lower_column-end-in-loop-j c).In-loop-j)
+    omega (
+      arith,
+      within (goal.at.slice_bounds-lower_column-end-in-loop-j c).In-loop-j,
+      within_factors (goal.at.slice_bounds-lower_column-end-in-loop-j
+          c).In-loop-j,
+    )
 
 pub overflow_add-j : goal.overflow_add-j
 overflow_add-j c = omega (arith, within (goal.at.overflow_add-j c).In-loop-j, within_factors (goal.at.overflow_add-j c).In-loop-j)

@@ -17,8 +17,10 @@ use Rattle.from_factors.proofs.solve_by.Goals as goal
 past : (c : After-copy-arg-1) → let g = c.args in
     Passed g.factors.now g.swaps.now g.told (solve_asks g.b.now g.told.rows g.k g.x.now)
 past c =
-    let number_is : let g = c.args in c.held_refusal-number.result ≡ held_refusal g.factors.now g.swaps.now g.told (solve_asks g.b.now g.told.rows g.k g.x.now) = rw (c.outside-sizes.ensures, c.is_matrix.ensures, c.is_matrix-2.ensures, c.all_finite-numbers.ensures) at c.held_refusal-number.ensures in
-    passed _ _ _ _ (sym (number_is) ∙ c.if-number-ne0.false)
+    let number_is : let g = c.args in c.held_refusal-number.result
+    ≡ held_refusal g.factors.now g.swaps.now g.told (solve_asks g.b.now g.told.rows g.k g.x.now) =
+    rw (c.outside-sizes.ensures, c.is_matrix.ensures, c.is_matrix-2.ensures, c.all_finite-numbers.ensures) at c.held_refusal-number.ensures in
+    passed _ _ _ _ (sym number_is ∙ c.if-number-ne0.false)
 
 -- the right-hand sides and the slice for the solution are matrices
 sides : (c : After-copy-arg-1) → let g = c.args in
@@ -31,8 +33,10 @@ sides c =
 
 pub returns-then-number-ne0 : goal.returns-then-number-ne0
 returns-then-number-ne0 c =
-    let number_is : let g = c.args in c.held_refusal-number.result ≡ held_refusal g.factors.now g.swaps.now g.told (solve_asks g.b.now g.told.rows g.k g.x.now) = rw (c.outside-sizes.ensures, c.is_matrix.ensures, c.is_matrix-2.ensures, c.all_finite-numbers.ensures) at c.held_refusal-number.ensures in
-    let whole = promise_refused _ _ _ _ _ (number_is) c.if-number-ne0.true c.answer_for.ensures in record { result_value = whole.0; x_after = whole.1 }
+    let number_is : let g = c.args in c.held_refusal-number.result
+    ≡ held_refusal g.factors.now g.swaps.now g.told (solve_asks g.b.now g.told.rows g.k g.x.now) =
+    rw (c.outside-sizes.ensures, c.is_matrix.ensures, c.is_matrix-2.ensures, c.all_finite-numbers.ensures) at c.held_refusal-number.ensures in
+    let whole = promise_refused _ _ _ _ _ number_is c.if-number-ne0.true c.answer_for.ensures in record { result_value = whole.0; x_after = whole.1 }
 
 pub solve_mut_by-requires : goal.solve_mut_by-requires
 solve_mut_by-requires c =
@@ -48,12 +52,14 @@ solve_mut_by-requires c =
 
 pub returns : goal.returns
 returns c =
-    let number_is : let g = c.args in c.held_refusal-number.result ≡ held_refusal g.factors.now g.swaps.now g.told (solve_asks g.b.now g.told.rows g.k g.x.now) = rw (c.outside-sizes.ensures, c.is_matrix.ensures, c.is_matrix-2.ensures, c.all_finite-numbers.ensures) at c.held_refusal-number.ensures in
+    let number_is : let g = c.args in c.held_refusal-number.result
+    ≡ held_refusal g.factors.now g.swaps.now g.told (solve_asks g.b.now g.told.rows g.k g.x.now) =
+    rw (c.outside-sizes.ensures, c.is_matrix.ensures, c.is_matrix-2.ensures, c.all_finite-numbers.ensures) at c.held_refusal-number.ensures in
     let g = c.args in
     let n = g.told.rows in
     let fit = sides (goal.at.returns c).After-copy-arg-1 in
     let long = (sized n g.k g.b.now fit.0).size ∙ sym (sized n g.k g.x.now fit.1).size in
     let is = c.copy.ensures ∙ copied_whole g.b.now g.x.now long in
-    let whole = promise_solved (way_of g.transposed) g.told _ _ _ _ _ _ _ _ _ _ _ (number_is) c.if-number-ne0.false
+    let whole = promise_solved (way_of g.transposed) g.told _ _ _ _ _ _ _ _ _ _ _ number_is c.if-number-ne0.false
     c.solve_mut_by.ensures (ap (columns n g.k) is) c.settle.ensures.value c.answer_for-2.ensures
     c.settle.ensures.res_after in record { result_value = whole.0; x_after = whole.1 }

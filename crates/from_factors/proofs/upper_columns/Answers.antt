@@ -76,19 +76,43 @@ slice_bounds-upper_column-end c = omega (arith, within c, within_factors c, whol
 
 pub offset_bounds-factors-b : goal.offset_bounds-factors-b
 offset_bounds-factors-b c =
-    omega (arith, within (goal.at.offset_bounds-factors-b c).In-loop-j, within_factors (goal.at.offset_bounds-factors-b c).In-loop-j, whole (goal.at.offset_bounds-factors-b c).After-shared_slice_known-1)
+    omega (
+      arith,
+      within (goal.at.offset_bounds-factors-b c).In-loop-j,
+      within_factors (goal.at.offset_bounds-factors-b c).In-loop-j,
+      whole
+          (goal.at.offset_bounds-factors-b c).After-shared_slice_known-1,
+    )
 
 pub slice_bounds-upper_column-count-in-loop-j : goal.slice_bounds-upper_column-count-in-loop-j
 slice_bounds-upper_column-count-in-loop-j c =
-    omega (arith, within (goal.at.slice_bounds-upper_column-count-in-loop-j c).In-loop-j, within_factors (goal.at.slice_bounds-upper_column-count-in-loop-j c).In-loop-j, whole (goal.at.slice_bounds-upper_column-count-in-loop-j c).After-shared_slice_known-1)
+    omega (
+      arith,
+      within (goal.at.slice_bounds-upper_column-count-in-loop-j c).In-loop-j,
+      within_factors (goal.at.slice_bounds-upper_column-count-in-loop-j
+          c).In-loop-j,
+      whole (goal.at.slice_bounds-upper_column-count-in-loop-j c).After-shared_slice_known-1,
+    )
 
 pub slice_bounds-upper_column-start-in-loop-j : goal.slice_bounds-upper_column-start-in-loop-j
 slice_bounds-upper_column-start-in-loop-j c =
-    omega (arith, within (goal.at.slice_bounds-upper_column-start-in-loop-j c).In-loop-j, within_factors (goal.at.slice_bounds-upper_column-start-in-loop-j c).In-loop-j, whole (goal.at.slice_bounds-upper_column-start-in-loop-j c).After-shared_slice_known-1)
+    omega (
+      arith,
+      within (goal.at.slice_bounds-upper_column-start-in-loop-j c).In-loop-j,
+      within_factors (goal.at.slice_bounds-upper_column-start-in-loop-j
+          c).In-loop-j,
+      whole (goal.at.slice_bounds-upper_column-start-in-loop-j c).After-shared_slice_known-1,
+    )
 
 pub slice_bounds-upper_column-end-in-loop-j : goal.slice_bounds-upper_column-end-in-loop-j
 slice_bounds-upper_column-end-in-loop-j c =
-    omega (arith, within (goal.at.slice_bounds-upper_column-end-in-loop-j c).In-loop-j, within_factors (goal.at.slice_bounds-upper_column-end-in-loop-j c).In-loop-j, whole (goal.at.slice_bounds-upper_column-end-in-loop-j c).After-shared_slice_known-1)
+    omega (
+      arith,
+      within (goal.at.slice_bounds-upper_column-end-in-loop-j c).In-loop-j,
+      within_factors (goal.at.slice_bounds-upper_column-end-in-loop-j
+          c).In-loop-j,
+      whole (goal.at.slice_bounds-upper_column-end-in-loop-j c).After-shared_slice_known-1,
+    )
 
 pub overflow_add-j : goal.overflow_add-j
 overflow_add-j c =

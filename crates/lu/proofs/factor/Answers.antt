@@ -13,7 +13,8 @@ past c = passed _ _ _ _ _ (sym c.factor_refusal-number.ensures ∙ c.if-number-n
 
 pub returns-then-number-ne0 : goal.returns-then-number-ne0
 returns-then-number-ne0 c =
-    let whole = promise_refused _ _ _ _ _ _ c.factor_refusal-number.ensures c.if-number-ne0.true in record { result_value = whole.0; out_after = whole.1.0; swaps_after = whole.1.1 }
+    let whole = promise_refused _ _ _ _ _ _ c.factor_refusal-number.ensures c.if-number-ne0.true in
+    record { result_value = whole.0; out_after = whole.1.0; swaps_after = whole.1.1 }
 
 pub factor_tested-requires : goal.factor_tested-requires
 factor_tested-requires c =
@@ -24,4 +25,5 @@ pub returns : goal.returns
 returns c =
     let p = past (goal.at.returns c).After-copy-arg-1 in
     let copied = c.copy.ensures ∙ copied_whole _ _ ((sized _ _ _ p.matrix).size ∙ sym (sized _ _ _ p.slice).size) in
-    let whole = promise_settled _ _ _ _ _ _ _ _ _ _ c.factor_refusal-number.ensures c.if-number-ne0.false copied c.factor_tested.ensures in record { result_value = whole.0; out_after = whole.1.0; swaps_after = whole.1.1 }
+    let whole = promise_settled _ _ _ _ _ _ _ _ _ _ c.factor_refusal-number.ensures c.if-number-ne0.false copied c.factor_tested.ensures in
+    record { result_value = whole.0; out_after = whole.1.0; swaps_after = whole.1.1 }

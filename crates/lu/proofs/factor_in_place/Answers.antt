@@ -51,7 +51,10 @@ pub factor_panel-counts-requires : goal.factor_panel-counts-requires
 factor_panel-counts-requires c =
     let pre = c.requires in
     let few = (left c).0 in
-    record { i_bound = (omega arith, omega arith, c.loop-i.invariant.3.0, c.loop-i.invariant.3.1); n_value = (same_matrix _ _ _ _ c.loop-i.invariant.0 ∙ pre.0, c.loop-i.invariant.1 ∙ ap length pre.1 ∙ length_store [] (omega arith)) }
+    record {
+      i_bound = (omega arith, omega arith, c.loop-i.invariant.3.0, c.loop-i.invariant.3.1);
+      n_value = (same_matrix _ _ _ _ c.loop-i.invariant.0 ∙ pre.0, c.loop-i.invariant.1 ∙ ap length pre.1 ∙ length_store [] (omega arith));
+    }
 
 pub loop-i-preserved : goal.loop-i-preserved
 loop-i-preserved c =
@@ -89,7 +92,10 @@ loop-i-preserved c =
 pub factor_steps-requires : goal.factor_steps-requires
 factor_steps-requires c =
     let pre = c.requires in
-    record { from_le_to = (omega (arith, c.loop-i.invariant.2), omega arith, omega arith, c.loop-i.invariant.3.0, c.loop-i.invariant.3.1); n_value = (same_matrix _ _ _ _ c.loop-i.invariant.0 ∙ pre.0, c.loop-i.invariant.1 ∙ ap length pre.1 ∙ length_store [] (omega arith)) }
+    record {
+      from_le_to = (omega (arith, c.loop-i.invariant.2), omega arith, omega arith, c.loop-i.invariant.3.0, c.loop-i.invariant.3.1);
+      n_value = (same_matrix _ _ _ _ c.loop-i.invariant.0 ∙ pre.0, c.loop-i.invariant.1 ∙ ap length pre.1 ∙ length_store [] (omega arith));
+    }
 
 pub returns : goal.returns
 returns c =
@@ -100,7 +106,10 @@ returns c =
     let upto = c.min-min_nrows_ncols.result in
     let steps : turns_from step c.loop-i.i (upto - c.loop-i.i) f ≡ eliminate g.m (columns g.m g.n g.s.now) =
     ap (λ j. turns_from step c.loop-i.i (j - c.loop-i.i) f) e ∙ c.loop-i.invariant.4.1.1 in
-    record { held = subst (λ w. Held c.factor_steps.new.s g.m g.n c.factor_steps.new.swaps c.factor_steps.result.pairs w) steps (c.factor_steps.ensures.steps f h); tossed_value = c.factor_steps.ensures.toss f h ∙ ap (λ j. c.loop-i.counts.tossed + toss_from c.loop-i.i (j - c.loop-i.i) f) e ∙ c.loop-i.invariant.4.1.2 }
+    record {
+      held = subst (λ w. Held c.factor_steps.new.s g.m g.n c.factor_steps.new.swaps c.factor_steps.result.pairs w) steps (c.factor_steps.ensures.steps f h);
+      tossed_value = c.factor_steps.ensures.toss f h ∙ ap (λ j. c.loop-i.counts.tossed + toss_from c.loop-i.i (j - c.loop-i.i) f) e ∙ c.loop-i.invariant.4.1.2;
+    }
 
 pub overflow_add-i : goal.overflow_add-i
 overflow_add-i c = omega (arith, left (goal.at.overflow_add-i c).After-factor_panel-arg-in-loop-i-1)

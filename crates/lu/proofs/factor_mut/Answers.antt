@@ -11,11 +11,13 @@ past c = passed _ _ _ _ _ (sym c.factor_refusal-number.ensures ∙ c.if-number-n
 
 pub returns-then-number-ne0 : goal.returns-then-number-ne0
 returns-then-number-ne0 c =
-    let whole = promise_refused _ _ _ _ _ _ c.factor_refusal-number.ensures c.if-number-ne0.true in record { result_value = whole.0; s_after = whole.1.0; swaps_after = whole.1.1 }
+    let whole = promise_refused _ _ _ _ _ _ c.factor_refusal-number.ensures c.if-number-ne0.true in
+    record { result_value = whole.0; s_after = whole.1.0; swaps_after = whole.1.1 }
 
 pub factor_tested-requires : goal.factor_tested-requires
 factor_tested-requires c = let p = past c in (p.matrix, p.room)
 
 pub returns : goal.returns
 returns c =
-    let whole = promise_settled _ _ _ _ _ _ _ _ _ _ c.factor_refusal-number.ensures c.if-number-ne0.false refl c.factor_tested.ensures in record { result_value = whole.0; s_after = whole.1.0; swaps_after = whole.1.1 }
+    let whole = promise_settled _ _ _ _ _ _ _ _ _ _ c.factor_refusal-number.ensures c.if-number-ne0.false refl c.factor_tested.ensures in
+    record { result_value = whole.0; s_after = whole.1.0; swaps_after = whole.1.1 }

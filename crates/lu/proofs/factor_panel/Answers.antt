@@ -32,7 +32,11 @@ t_long c =
 pairs_within : (c : After-slice_known-4-1) → let g = c.args in
     (2 * g.counts.pairs ≤ 128) × (length g.swaps.now ≡ 128)
 pairs_within c =
-    let ends : ((c.args.i + 4) * c.args.m ≤ length c.args.s.now) × (c.args.m ≤ 64) × (c.args.n ≤ 64) = let fits = sized _ _ _ c.requires.n_value.0 in (front_ends _ _ _ _ c.args.swaps.now c.args.counts c.args.counts c.requires.n_value.0 c.requires.i_bound.0 c.requires.i_bound.1, fits.rows_most, fits.columns_most) in
+    let ends : ((c.args.i + 4) * c.args.m ≤ length c.args.s.now) × (c.args.m ≤ 64) × (c.args.n ≤ 64) = let fits = sized _ _ _ c.requires.n_value.0 in (
+      front_ends _ _ _ _ c.args.swaps.now c.args.counts c.args.counts c.requires.n_value.0 c.requires.i_bound.0 c.requires.i_bound.1,
+      fits.rows_most,
+      fits.columns_most,
+    ) in
     (omega (arith, ends, c.requires.i_bound.0), c.requires.n_value.1)
 
 -- the store before the updates is a matrix still
@@ -41,7 +45,8 @@ swapped_fits : (c : After-update_columns-arg-1) → let g = c.args in
     let t = c.factor_steps-now.new.s ++ drop z g.s.now in
     is_matrix (put_mid z (length t - z) t c.apply_to_rows.new.s) g.m g.n ≡ true
 swapped_fits c =
-    let t_long : let g = c.args in length (c.factor_steps-now.new.s ++ drop ((g.i + 4) * g.m) g.s.now) ≡ length g.s.now = same_long _ _ _ _ _ _ _ c.requires.n_value.0 c.requires.i_bound.0 c.requires.i_bound.1 _ _ c.factor_steps-now.auto.s c.factor_steps-now.ensures in
+    let t_long : let g = c.args in length (c.factor_steps-now.new.s ++ drop ((g.i + 4) * g.m) g.s.now) ≡ length g.s.now =
+    same_long _ _ _ _ _ _ _ c.requires.n_value.0 c.requires.i_bound.0 c.requires.i_bound.1 _ _ c.factor_steps-now.auto.s c.factor_steps-now.ensures in
     let g = c.args in
     let z = (g.i + 4) * g.m in
     let t = c.factor_steps-now.new.s ++ drop z g.s.now in
@@ -54,7 +59,10 @@ slice_bounds-factor_steps-end-2 c = sym (length-take-le _ _ (ends (goal.at.slice
 pub factor_steps-now-requires : goal.factor_steps-now-requires
 factor_steps-now-requires c =
     let g = c.args in
-    record { from_le_to = (omega arith, c.requires.i_bound.0, omega arith, c.requires.i_bound.2, c.requires.i_bound.3); n_value = (front_fits _ _ _ _ g.swaps.now g.counts g.counts c.requires.n_value.0 c.requires.i_bound.0 c.requires.i_bound.1, c.requires.n_value.1) }
+    record {
+      from_le_to = (omega arith, c.requires.i_bound.0, omega arith, c.requires.i_bound.2, c.requires.i_bound.3);
+      n_value = (front_fits _ _ _ _ g.swaps.now g.counts g.counts c.requires.n_value.0 c.requires.i_bound.0 c.requires.i_bound.1, c.requires.n_value.1);
+    }
 
 pub slice_bounds-apply_to_rows-count : goal.slice_bounds-apply_to_rows-count
 slice_bounds-apply_to_rows-count c =
@@ -66,7 +74,8 @@ slice_bounds-apply_to_rows-count-2 c =
 
 pub returns : goal.returns
 returns c =
-    panel_done _ _ _ _ _ _ _ c.requires.n_value.0 c.requires.i_bound.0 c.requires.i_bound.1 _ _ c.factor_steps-now.auto.s c.factor_steps-now.ensures _ _ c.apply_to_rows.auto.s c.apply_to_rows.ensures c.update_columns.auto.s
+    panel_done _ _ _ _ _ _ _ c.requires.n_value.0 c.requires.i_bound.0 c.requires.i_bound.1 _ _ c.factor_steps-now.auto.s c.factor_steps-now.ensures _ _
+    c.apply_to_rows.auto.s c.apply_to_rows.ensures c.update_columns.auto.s
     (updated_columns _ _ _ _ _ _ _ (swapped_fits (goal.at.returns c).After-update_columns-arg-1) c.requires.i_bound.0 (omega arith) c.update_columns.ensures)
 
 pub overflow_mul-z : goal.overflow_mul-z

@@ -20,7 +20,10 @@ loop-i-init c =
 
 pub factor_step-now-requires : goal.factor_step-now-requires
 factor_step-now-requires c =
-    record { i_lt_m = (omega arith, omega arith, c.loop-i.invariant.3.0, c.loop-i.invariant.3.1); n_value = (same_matrix _ _ _ _ c.loop-i.invariant.0 ∙ c.requires.n_value.0, c.loop-i.invariant.1 ∙ c.requires.n_value.1) }
+    record {
+      i_lt_m = (omega arith, omega arith, c.loop-i.invariant.3.0, c.loop-i.invariant.3.1);
+      n_value = (same_matrix _ _ _ _ c.loop-i.invariant.0 ∙ c.requires.n_value.0, c.loop-i.invariant.1 ∙ c.requires.n_value.1);
+    }
 
 pub overflow_add-i : goal.overflow_add-i
 overflow_add-i c = omega (arith, (sized _ _ _ c.requires.n_value.0).rows_most)
@@ -33,7 +36,15 @@ loop-i-preserved c =
       c.factor_step-now.auto.s ∙ c.loop-i.invariant.0,
       search rules,
       omega arith,
-      (c.factor_step-now.ensures.pairs_bound.0, c.factor_step-now.ensures.pairs_bound.1, omega (arith, c.factor_step-now.ensures.pairs_bound.2, c.loop-i.invariant.3.2)),
+      (
+        c.factor_step-now.ensures.pairs_bound.0,
+        c.factor_step-now.ensures.pairs_bound.1,
+        omega (
+          arith,
+          c.factor_step-now.ensures.pairs_bound.2,
+          c.loop-i.invariant.3.2,
+        ),
+      ),
       λ f h.
           let e = c.loop-i.invariant.4 f h in
           let w = e.0 in

@@ -14,7 +14,8 @@ factor_in_place-counts-requires c =
 pub returns-then-all_finite : goal.returns-then-all_finite
 returns-then-all_finite c =
     let pre = c.requires in
-    settled_accepted _ _ _ _ _ _ c.factor_in_place-counts.ensures.held _ _ c.factor_in_place-counts.ensures.tossed_value c.dead_of-dead.ensures pre.0 (sym c.all_finite.ensures ∙ c.if-all_finite.true)
+    settled_accepted _ _ _ _ _ _ c.factor_in_place-counts.ensures.held _ _ c.factor_in_place-counts.ensures.tossed_value c.dead_of-dead.ensures pre.0
+    (sym c.all_finite.ensures ∙ c.if-all_finite.true)
 
 pub returns : goal.returns
 returns c =

@@ -30,7 +30,11 @@ within c =
 
 row : (c : After-icamax-found) → c.icamax-found.result.row < c.args.m
 row c =
-    let past : let g = c.args in Past g.m g.n g.i (is_matrix g.s.now g.m g.n ≡ true) = record { matrix = sym c.is_matrix.ensures ∙ c.if-not-is_matrix.false; row = omega arith; column = omega arith } in
+    let past : let g = c.args in Past g.m g.n g.i (is_matrix g.s.now g.m g.n ≡ true) = record {
+      matrix = sym c.is_matrix.ensures ∙ c.if-not-is_matrix.false;
+      row = omega arith;
+      column = omega arith;
+    } in
     let p = past in
     (pivot_within _ _ _ _ _ p.matrix p.row p.column (found_row _ _ _ c.icamax-found.ensures)).1
 

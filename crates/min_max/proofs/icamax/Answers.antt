@@ -35,7 +35,8 @@ loop-i-preserved c =
 
 pub returns : goal.returns
 returns c =
-    searched_end _ _ _ _ _ c.loop-i.invariant.0 (searched_next _ _ _ _ _ _ c.loop-i.invariant.0 c.loop-i.invariant.1 c.loop-i.invariant.2) c.loop-i-test.false c.is_zero.result
+    searched_end _ _ _ _ _ c.loop-i.invariant.0 (searched_next _ _ _ _ _ _ c.loop-i.invariant.0 c.loop-i.invariant.1 c.loop-i.invariant.2)
+    c.loop-i-test.false c.is_zero.result
     c.is_shared.result (rw (← c.magnitude-the_max.ensures) c.is_zero.ensures)
     (rw (← c.magnitude-the_max.ensures) c.is_shared.ensures)
 

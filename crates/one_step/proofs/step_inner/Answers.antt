@@ -24,7 +24,7 @@ loop-k-init c = (refl, within_start _ _ _ _ _ c.requires.2 c.requires.3 (size (g
 pub step_entry-requires : goal.step_entry-requires
 step_entry-requires c =
     let sized_at : length c.loop-k.s ≡ c.args.n * c.args.m = c.loop-k.invariant.0 ∙ size (goal.at.step_entry-requires c).After-slice_known-1 in
-    rw (column_length _ _ _ c.loop-k.s c.requires.3 (sized_at)) c.loop-k-test.true
+    rw (column_length _ _ _ c.loop-k.s c.requires.3 sized_at) c.loop-k-test.true
 
 pub loop-k-preserved : goal.loop-k-preserved
 loop-k-preserved c =
@@ -32,14 +32,14 @@ loop-k-preserved c =
     let g = c.args in (
       same_len_mid {X = Float} (g.j * g.m) (g.j * g.m + g.m - g.j * g.m) _ c.step_entry.new.c c.step_entry.auto.c
           ∙ c.loop-k.invariant.0,
-      within_turn _ _ _ _ _ c.requires.2 c.requires.3 (sized_at) _ _ _ c.loop-k-test.true c.step_entry.auto.c
+      within_turn _ _ _ _ _ c.requires.2 c.requires.3 sized_at _ _ _ c.loop-k-test.true c.step_entry.auto.c
           c.step_entry.ensures ∙ c.loop-k.invariant.1,
     )
 
 pub returns : goal.returns
 returns c =
     let sized_at : length c.loop-k.s ≡ c.args.n * c.args.m = c.loop-k.invariant.0 ∙ size (goal.at.returns c).After-slice_known-1 in
-    sym (within_stop _ _ _ _ _ c.requires.2 c.requires.3 (sized_at) _ _ c.loop-k-test.false) ∙ c.loop-k.invariant.1
+    sym (within_stop _ _ _ _ _ c.requires.2 c.requires.3 sized_at _ _ c.loop-k-test.false) ∙ c.loop-k.invariant.1
 
 pub overflow_mul-a : goal.overflow_mul-a
 overflow_mul-a c = omega (arith, within c)

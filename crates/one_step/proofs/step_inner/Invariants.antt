@@ -10,7 +10,8 @@ use Rattle.one_step.proofs.step_inner.Given as goal
 
 abbrev pub invariant-loop-k : goal.invariant-loop-k
 invariant-loop-k l =
-    (length l.s ≡ length l.initial.s) × (updating l.u l.i l.j l.k (columns l.m l.n l.s) ≡ set (columns l.m l.n l.initial.s) l.j (step_column l.i (column (columns l.m l.n l.initial.s) l.i) (column (columns l.m l.n l.initial.s) l.j)))
+    (length l.s ≡ length l.initial.s) × (updating l.u l.i l.j l.k (columns l.m l.n l.s)
+    ≡ set (columns l.m l.n l.initial.s) l.j (step_column l.i (column (columns l.m l.n l.initial.s) l.i) (column (columns l.m l.n l.initial.s) l.j)))
 
 abbrev pub decreases-loop-k : goal.decreases-loop-k
 decreases-loop-k l = l.m - l.k

@@ -14,4 +14,8 @@ read_front-requires c =
 pub returns : goal.returns
 unfolding reading reading_refusal reading_beside
 returns c =
-    record { result_value = c.read_front.ensures.result_value; matrix_after = ap (λ (s : Stores). s.matrix) c.read_front.ensures.readings_after; readings_after = ap (λ (s : Stores). s.readings) c.read_front.ensures.readings_after }
+    record {
+      result_value = c.read_front.ensures.result_value;
+      matrix_after = ap (λ (s : Stores). s.matrix) c.read_front.ensures.readings_after;
+      readings_after = ap (λ (s : Stores). s.readings) c.read_front.ensures.readings_after;
+    }

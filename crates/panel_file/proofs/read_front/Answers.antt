@@ -16,7 +16,8 @@ passed c =
 pub returns-then-number-ne0 : goal.returns-then-number-ne0
 returns-then-number-ne0 c =
     let g = c.args in
-    let whole = read_refused g.fit g.file.now g.matrix.now g.readings.now _ c.refusal_beside-number.ensures c.if-number-ne0.true in record { result_value = whole.0; readings_after = whole.1 }
+    let whole = read_refused g.fit g.file.now g.matrix.now g.readings.now _ c.refusal_beside-number.ensures c.if-number-ne0.true in
+    record { result_value = whole.0; readings_after = whole.1 }
 
 pub overflow_mul-entries : goal.overflow_mul-entries
 overflow_mul-entries c = omega (arith, square c.pads_of-n.result 255 (omega (arith, c.pads_of-n.ensures.1)))
@@ -43,4 +44,5 @@ fill-requires-2 c =
 
 pub returns : goal.returns
 returns c =
-    let whole = read_filled _ _ _ _ _ (passed (goal.at.returns c).After-pads_of-n) _ _ c.fill.ensures c.fill-2.ensures in record { result_value = whole.0; readings_after = whole.1 }
+    let whole = read_filled _ _ _ _ _ (passed (goal.at.returns c).After-pads_of-n) _ _ c.fill.ensures c.fill-2.ensures in
+    record { result_value = whole.0; readings_after = whole.1 }

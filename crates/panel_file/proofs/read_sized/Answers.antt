@@ -23,8 +23,13 @@ tested_fit c =
 pub returns-then-is_headed-pads : goal.returns-then-is_headed-pads
 unfolding pads_read
 returns-then-is_headed-pads c =
-    let tested_size : let g = c.args in (c.is_headed.result && not (eqb c.pads_of-pads.result g.n)) ≡ other_size g.file.now g.n (stores g.matrix.now g.readings.now) = let g = c.args in ap₂ (λ (h : Bool) (k : ℕ). h && not (eqb k g.n)) c.is_headed.ensures c.pads_of-pads.ensures.0 in
-    record { result_value = rw (sized_other _ _ _ (sym (tested_size) ∙ c.if-is_headed-pads.true)) refl; readings_after = rw (sized_other _ _ _ (sym (tested_size) ∙ c.if-is_headed-pads.true)) refl }
+    let tested_size : let g = c.args in (c.is_headed.result && not (eqb c.pads_of-pads.result g.n))
+    ≡ other_size g.file.now g.n (stores g.matrix.now g.readings.now) = let g = c.args in
+    ap₂ (λ (h : Bool) (k : ℕ). h && not (eqb k g.n)) c.is_headed.ensures c.pads_of-pads.ensures.0 in
+    record {
+      result_value = rw (sized_other _ _ _ (sym tested_size ∙ c.if-is_headed-pads.true)) refl;
+      readings_after = rw (sized_other _ _ _ (sym tested_size ∙ c.if-is_headed-pads.true)) refl;
+    }
 
 pub read_front-requires : goal.read_front-requires
 read_front-requires c =
@@ -33,10 +38,12 @@ read_front-requires c =
 
 pub returns : goal.returns
 returns c =
-    let tested_size : let g = c.args in (c.is_headed.result && not (eqb c.pads_of-pads.result g.n)) ≡ other_size g.file.now g.n (stores g.matrix.now g.readings.now) = let g = c.args in ap₂ (λ (h : Bool) (k : ℕ). h && not (eqb k g.n)) c.is_headed.ensures c.pads_of-pads.ensures.0 in
+    let tested_size : let g = c.args in (c.is_headed.result && not (eqb c.pads_of-pads.result g.n))
+    ≡ other_size g.file.now g.n (stores g.matrix.now g.readings.now) = let g = c.args in
+    ap₂ (λ (h : Bool) (k : ℕ). h && not (eqb k g.n)) c.is_headed.ensures c.pads_of-pads.ensures.0 in
     let g = c.args in
     let s = stores g.matrix.now g.readings.now in
-    let own = sized_own g.file.now g.n s (sym (tested_size) ∙ c.if-is_headed-pads.false)
+    let own = sized_own g.file.now g.n s (sym tested_size ∙ c.if-is_headed-pads.false)
     ∙ ap (λ (fit : Bool). reading_beside fit g.file.now s) (sym (tested_fit (goal.at.returns c).Else-is_headed-pads)) in
     record { result_value = rw own c.read_front.ensures.result_value; readings_after = rw own c.read_front.ensures.readings_after }
 

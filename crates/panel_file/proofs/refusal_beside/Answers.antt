@@ -16,21 +16,27 @@ few c =
 
 pub returns-then-early-ne0 : goal.returns-then-early-ne0
 returns-then-early-ne0 c =
-    let early_at : c.first-early.result ≡ head_refusal c.args.fit c.args.file.now = head_tested c.args.fit c.args.file.now _ _ _ _ _ _ c.pads_of-n.ensures.0 c.is_headed.ensures c.outside.ensures c.first.ensures c.first-2.ensures c.first-early.ensures in
-    refused_early c.args.fit c.args.file.now _ (early_at) c.if-early-ne0.true
+    let early_at : c.first-early.result ≡ head_refusal c.args.fit c.args.file.now =
+    head_tested c.args.fit c.args.file.now _ _ _ _ _ _ c.pads_of-n.ensures.0 c.is_headed.ensures c.outside.ensures c.first.ensures c.first-2.ensures
+    c.first-early.ensures in
+    refused_early c.args.fit c.args.file.now _ early_at c.if-early-ne0.true
 
 pub numbers_finite-requires : goal.numbers_finite-requires
 numbers_finite-requires c =
-    let early_at : c.first-early.result ≡ head_refusal c.args.fit c.args.file.now = head_tested c.args.fit c.args.file.now _ _ _ _ _ _ c.pads_of-n.ensures.0 c.is_headed.ensures c.outside.ensures c.first.ensures c.first-2.ensures c.first-early.ensures in
+    let early_at : c.first-early.result ≡ head_refusal c.args.fit c.args.file.now =
+    head_tested c.args.fit c.args.file.now _ _ _ _ _ _ c.pads_of-n.ensures.0 c.is_headed.ensures c.outside.ensures c.first.ensures c.first-2.ensures
+    c.first-early.ensures in
     let g = c.args in
-    rw c.pads_of-n.ensures.0 (omega (arith, places_tested g.fit g.file.now _ (early_at) c.if-early-ne0.false))
+    rw c.pads_of-n.ensures.0 (omega (arith, places_tested g.fit g.file.now _ early_at c.if-early-ne0.false))
 
 pub returns : goal.returns
 returns c =
-    let early_at : c.first-early.result ≡ head_refusal c.args.fit c.args.file.now = head_tested c.args.fit c.args.file.now _ _ _ _ _ _ c.pads_of-n.ensures.0 c.is_headed.ensures c.outside.ensures c.first.ensures c.first-2.ensures c.first-early.ensures in
+    let early_at : c.first-early.result ≡ head_refusal c.args.fit c.args.file.now =
+    head_tested c.args.fit c.args.file.now _ _ _ _ _ _ c.pads_of-n.ensures.0 c.is_headed.ensures c.outside.ensures c.first.ensures c.first-2.ensures
+    c.first-early.ensures in
     let g = c.args in
     let numbers = c.numbers_finite.ensures ∙ ap (λ (n : ℕ). all_finite (numbers_of n g.file.now)) c.pads_of-n.ensures.0 in
-    refused_late g.fit g.file.now _ _ _ (early_at) c.if-early-ne0.false numbers c.first-3.ensures
+    refused_late g.fit g.file.now _ _ _ early_at c.if-early-ne0.false numbers c.first-3.ensures
 
 pub overflow_mul-lengths : goal.overflow_mul-lengths
 overflow_mul-lengths c = omega (arith, few c)

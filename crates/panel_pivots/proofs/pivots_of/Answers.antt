@@ -16,9 +16,16 @@ span_front-requires c = ((ready c).most, search rules)
 pub returns-in-Factors : goal.returns-in-Factors
 returns-in-Factors c =
     let w = ready (goal.at.returns-in-Factors c).After-matrix-in-Factors-1 in
-    let tossed = filed_tossed _ _ _ _ _ (c.factor_file.ensures.result_value, (c.factor_file.ensures.swaps_after, c.factor_file.ensures.matrix_len)) _ _ c.in-Factors.is in
+    let tossed = filed_tossed _ _ _ _ _ (c.factor_file.ensures.result_value, (c.factor_file.ensures.swaps_after, c.factor_file.ensures.matrix_len)) _ _
+    c.in-Factors.is in
     measured _ _ _ _ _ _ w.factors w.pads tossed c.greatest_of-most.ensures c.span_front.ensures
 
 pub returns-in-Refused : goal.returns-in-Refused
 returns-in-Refused c =
-    measured_refused _ _ (filed_refused _ _ _ _ _ (c.factor_file.ensures.result_value, (c.factor_file.ensures.swaps_after, c.factor_file.ensures.matrix_len)) _ c.in-Refused.is)
+    measured_refused _ _ (filed_refused _ _ _ _ _ (
+      c.factor_file.ensures.result_value,
+      (
+        c.factor_file.ensures.swaps_after,
+        c.factor_file.ensures.matrix_len,
+      ),
+    ) _ c.in-Refused.is)

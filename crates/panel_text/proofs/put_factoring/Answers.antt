@@ -15,8 +15,10 @@ refusal_at c =
 
 step_at : (c : After-put_spot-arg-1) → Put 0 c.args.out.now (refused_text 7 ++ place_text step_word c.args.step) c.put_place-end.new.out c.put_place-end.result
 step_at c =
-    let refusal_at : Put 0 c.args.out.now (refused_text 7) c.put_refusal-at.new.out c.put_refusal-at.result = put_first _ _ _ _ _ (omega (arith, length_refused 7, c.requires.3)) c.put_refusal-at.ensures.out_after (omega (arith, c.put_refusal-at.ensures.value)) in
-    put_next _ _ _ _ _ (refusal_at) _ _ _ (omega (arith, length_refused 7, length_place step_word c.args.step, c.requires.3))
+    let refusal_at : Put 0 c.args.out.now (refused_text 7) c.put_refusal-at.new.out c.put_refusal-at.result =
+    put_first _ _ _ _ _ (omega (arith, length_refused 7, c.requires.3)) c.put_refusal-at.ensures.out_after
+    (omega (arith, c.put_refusal-at.ensures.value)) in
+    put_next _ _ _ _ _ refusal_at _ _ _ (omega (arith, length_refused 7, length_place step_word c.args.step, c.requires.3))
     c.put_place-end.ensures.out_after c.put_place-end.ensures.value
 
 pub put_place-end-requires : goal.put_place-end-requires

@@ -39,4 +39,5 @@ shape_of-out c =
 
 pub returns : goal.returns
 returns c =
-    let whole = line_written _ _ _ _ _ _ _ c.requires.1 c.put_decimal-space.ensures.out_after c.put_decimal-space.ensures.value c.put_hex.ensures in record { value = whole.0; out_after = whole.1 }
+    let whole = line_written _ _ _ _ _ _ _ c.requires.1 c.put_decimal-space.ensures.out_after c.put_decimal-space.ensures.value c.put_hex.ensures in
+    record { value = whole.0; out_after = whole.1 }

@@ -13,5 +13,6 @@ returns c =
     let g = c.args in
     let few = (length_decimal (g.place + 1)).1 in
     let word = put_first g.at g.out.now g.word.now _ _ (omega arith) c.put_word-end.ensures.out_after c.put_word-end.ensures.value in
-    let both = put_next g.at g.out.now g.word.now _ _ word (decimal (g.place + 1)) _ _ (omega arith) c.put_decimal.ensures.out_after c.put_decimal.ensures.value in
+    let both = put_next g.at g.out.now g.word.now _ _ word (decimal (g.place + 1)) _ _ (omega arith) c.put_decimal.ensures.out_after
+    c.put_decimal.ensures.value in
     record { value = both.count; out_after = both.is }

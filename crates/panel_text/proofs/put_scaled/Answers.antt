@@ -24,16 +24,19 @@ kept_is c = to_z-of_z w32 c.args.r.exponent (record { sfits = omega (arith, rang
 -- the exponent behind the space
 tail : (c : After-slice_known-3-1) → c.put_signed-end.new.out ≡ written 17 (signed c.args.r.exponent) (set c.put_hex.new.out 16 32)
 tail c =
-    let kept_is : to_z w32 (of_z w32 c.args.r.exponent) ≡ c.args.r.exponent = to_z-of_z w32 c.args.r.exponent (record { sfits = omega (arith, ranged_few c.args.r c.requires.1) }) in
-    c.put_signed-end.ensures.out_after ∙ ap (λ (z : ℤ). written 17 (signed z) (set c.put_hex.new.out 16 32)) (kept_is)
+    let kept_is : to_z w32 (of_z w32 c.args.r.exponent) ≡ c.args.r.exponent =
+    to_z-of_z w32 c.args.r.exponent (record { sfits = omega (arith, ranged_few c.args.r c.requires.1) }) in
+    c.put_signed-end.ensures.out_after ∙ ap (λ (z : ℤ). written 17 (signed z) (set c.put_hex.new.out 16 32)) kept_is
 
 place : (c : After-slice_known-3-1) → c.put_signed-end.result ≡ 17 + length (signed c.args.r.exponent)
 place c =
-    let kept_is : to_z w32 (of_z w32 c.args.r.exponent) ≡ c.args.r.exponent = to_z-of_z w32 c.args.r.exponent (record { sfits = omega (arith, ranged_few c.args.r c.requires.1) }) in
-    c.put_signed-end.ensures.value ∙ ap (λ (z : ℤ). 17 + length (signed z)) (kept_is)
+    let kept_is : to_z w32 (of_z w32 c.args.r.exponent) ≡ c.args.r.exponent =
+    to_z-of_z w32 c.args.r.exponent (record { sfits = omega (arith, ranged_few c.args.r c.requires.1) }) in
+    c.put_signed-end.ensures.value ∙ ap (λ (z : ℤ). 17 + length (signed z)) kept_is
 
 -- the line but for its newline
-line : (c : After-slice_known-3-1) → ScaledLine (last_digits 16 16 (to_bits binary64 c.args.r.significand)) c.args.r.exponent c.args.out.now c.put_signed-end.new.out
+line : (c : After-slice_known-3-1) → ScaledLine (last_digits 16 16 (to_bits binary64 c.args.r.significand)) c.args.r.exponent c.args.out.now
+    c.put_signed-end.new.out
     c.put_signed-end.result
 line c =
     let bits = to_bits binary64 c.args.r.significand in

@@ -14,7 +14,7 @@ use Rattle.panel_text.proofs.put_signed.Goals as goal
 pub put_whole-requires : goal.put_whole-requires
 put_whole-requires c =
     let bare_is : c.bare-n.result ≡ nat_abs c.args.e = c.bare-n.ensures ∙ ap nat_abs (kept_is c.args.e c.requires.0) in
-    let few : c.bare-n.result < 100000 = rw (bare_is) (bare_few c.args.e c.requires.0) in
+    let few : c.bare-n.result < 100000 = rw bare_is (bare_few c.args.e c.requires.0) in
     (few, simp length-set (omega arith))
 
 pub shape_of-out-then-e-lt0 : goal.shape_of-out-then-e-lt0
@@ -28,18 +28,19 @@ pub returns-then-e-lt0 : goal.returns-then-e-lt0
 returns-then-e-lt0 c =
     let bare_is : c.bare-n.result ≡ nat_abs c.args.e = c.bare-n.ensures ∙ ap nat_abs (kept_is c.args.e c.requires.0) in
     let below = sign_is c.args.e c.requires.0 true c.if-e-lt0.true in
-    let is = signed_below c.args.e below ∙ ap (λ (n : ℕ). 45 ∷ whole n) (sym (bare_is)) in
-    let whole = minus_written c.args.at c.bare-n.result _ c.args.e c.args.out.now _ c.requires.1 is c.put_whole.ensures.value c.put_whole.ensures.out_after in record { value = whole.0; out_after = whole.1 }
+    let is = signed_below c.args.e below ∙ ap (λ (n : ℕ). 45 ∷ whole n) (sym bare_is) in
+    let whole = minus_written c.args.at c.bare-n.result _ c.args.e c.args.out.now _ c.requires.1 is c.put_whole.ensures.value c.put_whole.ensures.out_after in
+    record { value = whole.0; out_after = whole.1 }
 
 pub put_whole-requires-2 : goal.put_whole-requires-2
 put_whole-requires-2 c =
     let bare_is : c.bare-n.result ≡ nat_abs c.args.e = c.bare-n.ensures ∙ ap nat_abs (kept_is c.args.e c.requires.0) in
-    let few : c.bare-n.result < 100000 = rw (bare_is) (bare_few c.args.e c.requires.0) in
+    let few : c.bare-n.result < 100000 = rw bare_is (bare_few c.args.e c.requires.0) in
     (few, omega arith)
 
 pub returns : goal.returns
 returns c =
     let bare_is : c.bare-n.result ≡ nat_abs c.args.e = c.bare-n.ensures ∙ ap nat_abs (kept_is c.args.e c.requires.0) in
     let above = sign_is c.args.e c.requires.0 false c.if-e-lt0.false in
-    let is = signed_above c.args.e above ∙ ap whole (sym (bare_is)) in
+    let is = signed_above c.args.e above ∙ ap whole (sym bare_is) in
     record { value = rw is c.put_whole-2.ensures.value; out_after = rw is c.put_whole-2.ensures.out_after }

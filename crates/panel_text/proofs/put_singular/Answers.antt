@@ -13,10 +13,13 @@ refusal_at c =
     put_first _ _ _ _ _ (omega (arith, length_refused 6, c.requires.1)) c.put_refusal-at.ensures.out_after
     (omega (arith, c.put_refusal-at.ensures.value))
 
-column_at : (c : After-put_word-arg-3-1) → Put 0 c.args.out.now (refused_text 6 ++ place_text column_word c.args.column) c.put_place-end.new.out c.put_place-end.result
+column_at : (c : After-put_word-arg-3-1) → Put 0 c.args.out.now (refused_text 6 ++ place_text column_word c.args.column) c.put_place-end.new.out
+    c.put_place-end.result
 column_at c =
-    let refusal_at : Put 0 c.args.out.now (refused_text 6) c.put_refusal-at.new.out c.put_refusal-at.result = put_first _ _ _ _ _ (omega (arith, length_refused 6, c.requires.1)) c.put_refusal-at.ensures.out_after (omega (arith, c.put_refusal-at.ensures.value)) in
-    put_next _ _ _ _ _ (refusal_at) _ _ _ (omega (arith, length_refused 6, length_place column_word c.args.column, c.requires.1))
+    let refusal_at : Put 0 c.args.out.now (refused_text 6) c.put_refusal-at.new.out c.put_refusal-at.result =
+    put_first _ _ _ _ _ (omega (arith, length_refused 6, c.requires.1)) c.put_refusal-at.ensures.out_after
+    (omega (arith, c.put_refusal-at.ensures.value)) in
+    put_next _ _ _ _ _ refusal_at _ _ _ (omega (arith, length_refused 6, length_place column_word c.args.column, c.requires.1))
     c.put_place-end.ensures.out_after c.put_place-end.ensures.value
 
 pub put_place-end-requires : goal.put_place-end-requires
@@ -34,6 +37,7 @@ pub returns : goal.returns
 returns c =
     let g = c.args in
     let both = length-append (refused_text 6) (place_text column_word g.column) in
-    let p = put_next _ _ _ _ _ (column_at (goal.at.returns c).After-put_word-arg-3-1) (10 ∷ []) _ _ (omega (arith, length_refused 6, length_place column_word g.column, c.requires.1))
+    let p = put_next _ _ _ _ _ (column_at (goal.at.returns c).After-put_word-arg-3-1) (10 ∷ []) _ _
+    (omega (arith, length_refused 6, length_place column_word g.column, c.requires.1))
     c.put_word.ensures.out_after c.put_word.ensures.value in
     let whole = put_text _ _ _ _ _ p (told_singular g.column) in record { value = whole.0; out_after = whole.1 }

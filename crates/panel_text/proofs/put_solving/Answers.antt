@@ -16,9 +16,11 @@ refusal_at c =
 
 pass_at : (c : After-put_spot-arg-1) → Put 0 c.args.out.now (refused_text 7 ++ pass_word c.args.pass) c.put_word-end.new.out c.put_word-end.result
 pass_at c =
-    let refusal_at : Put 0 c.args.out.now (refused_text 7) c.put_refusal-at.new.out c.put_refusal-at.result = put_first _ _ _ _ _ (omega (arith, length_refused 7, c.requires.2)) c.put_refusal-at.ensures.out_after (omega (arith, c.put_refusal-at.ensures.value)) in
+    let refusal_at : Put 0 c.args.out.now (refused_text 7) c.put_refusal-at.new.out c.put_refusal-at.result =
+    put_first _ _ _ _ _ (omega (arith, length_refused 7, c.requires.2)) c.put_refusal-at.ensures.out_after
+    (omega (arith, c.put_refusal-at.ensures.value)) in
     let name = c.pass_word-name.ensures in
-    put_next _ _ _ _ _ (refusal_at) _ _ _ (omega (arith, length_refused 7, length_pass c.args.pass, c.requires.2))
+    put_next _ _ _ _ _ refusal_at _ _ _ (omega (arith, length_refused 7, length_pass c.args.pass, c.requires.2))
     (c.put_word-end.ensures.out_after ∙ ap (λ (w : List ℕ). written c.put_refusal-at.result w c.put_refusal-at.new.out) name)
     (c.put_word-end.ensures.value ∙ ap (λ (w : List ℕ). c.put_refusal-at.result + length w) name)
 

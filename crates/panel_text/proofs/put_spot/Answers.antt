@@ -15,8 +15,10 @@ column_at c =
 row_at : (c : After-put_word-arg-3-1) → let g = c.args in
     Put g.at g.out.now (place_text column_part g.column ++ place_text row_part g.row) c.put_place-stop.new.out c.put_place-stop.result
 row_at c =
-    let column_at : let g = c.args in Put g.at g.out.now (place_text column_part g.column) c.put_place-end.new.out c.put_place-end.result = put_first _ _ _ _ _ (omega (arith, length_place column_part c.args.column, c.requires.2)) c.put_place-end.ensures.out_after c.put_place-end.ensures.value in
-    put_next _ _ _ _ _ (column_at) _ _ _
+    let column_at : let g = c.args in Put g.at g.out.now (place_text column_part g.column) c.put_place-end.new.out c.put_place-end.result =
+    put_first _ _ _ _ _ (omega (arith, length_place column_part c.args.column, c.requires.2)) c.put_place-end.ensures.out_after
+    c.put_place-end.ensures.value in
+    put_next _ _ _ _ _ column_at _ _ _
     (omega (arith, length_place column_part c.args.column, length_place row_part c.args.row, c.requires.2)) c.put_place-stop.ensures.out_after
     c.put_place-stop.ensures.value
 

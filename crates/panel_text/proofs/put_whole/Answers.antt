@@ -22,4 +22,7 @@ pub returns : goal.returns
 returns c =
     let w = word (goal.at.returns c).After-put_word-arg-1 in
     let g = c.args in
-    record { value = c.put_word.ensures.value ∙ ap (λ (t : List ℕ). g.at + length t) w; out_after = c.put_word.ensures.out_after ∙ ap (λ (t : List ℕ). written g.at t g.out.now) w }
+    record {
+      value = c.put_word.ensures.value ∙ ap (λ (t : List ℕ). g.at + length t) w;
+      out_after = c.put_word.ensures.out_after ∙ ap (λ (t : List ℕ). written g.at t g.out.now) w;
+    }

@@ -14,7 +14,8 @@ use Rattle.panel_text.proofs.text.Goals as goal
 -- what the slices hold where pads are ranked
 shown_at : (c : After-put_pads-arg-1) → Shown c.args.file.now c.in-Pads.n c.pad_order.new.ranks c.pad_order.new.loads
 shown_at c =
-    shown _ _ c.pad_order.ensures.result_value _ _ _ _ c.in-Pads.is c.pad_order.ensures.ranks_after c.pad_order.ensures.loads_after c.pad_order.ensures.loads_len
+    shown _ _ c.pad_order.ensures.result_value _ _ _ _ c.in-Pads.is c.pad_order.ensures.ranks_after c.pad_order.ensures.loads_after
+    c.pad_order.ensures.loads_len
 
 pub slice_bounds-ranks-end : goal.slice_bounds-ranks-end
 slice_bounds-ranks-end c = let w = shown_at c in omega (arith, w.few, w.ranks_count)
@@ -29,7 +30,11 @@ slice_bounds-loads-end c = omega (arith, (shown_at (goal.at.slice_bounds-loads-e
 
 pub slice_bounds-put_pads-end-in-Pads-2 : goal.slice_bounds-put_pads-end-in-Pads-2
 slice_bounds-put_pads-end-in-Pads-2 c =
-    taken_count _ c.pad_order.new.loads (omega (arith, (shown_at (goal.at.slice_bounds-put_pads-end-in-Pads-2 c).After-put_pads-arg-1).few, c.pad_order.ensures.loads_len))
+    taken_count _ c.pad_order.new.loads (omega (
+      arith,
+      (shown_at (goal.at.slice_bounds-put_pads-end-in-Pads-2 c).After-put_pads-arg-1).few,
+      c.pad_order.ensures.loads_len,
+    ))
 
 pub put_pads-requires : goal.put_pads-requires
 put_pads-requires c =

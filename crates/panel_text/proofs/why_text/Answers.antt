@@ -33,28 +33,33 @@ pub returns-in-NoReason : goal.returns-in-NoReason
 unfolding told_file
 returns-in-NoReason c =
     let t = told_case _ _ _ c.why_file.ensures.result_value c.in-NoReason.is in
-    let whole = text_told _ _ _ c.args.out.now _ t c.put_number.ensures.value c.put_number.ensures.out_after in record { prefix_len = whole.0; value = whole.1.0; out_after = whole.1.1 }
+    let whole = text_told _ _ _ c.args.out.now _ t c.put_number.ensures.value c.put_number.ensures.out_after in
+    record { prefix_len = whole.0; value = whole.1.0; out_after = whole.1.1 }
 
 pub returns-in-Refused : goal.returns-in-Refused
 unfolding told_file
 returns-in-Refused c =
     let t = told_case _ _ _ c.why_file.ensures.result_value c.in-Refused.is in
-    let whole = text_told _ _ _ c.args.out.now _ t c.put_number-in-Refused.ensures.value c.put_number-in-Refused.ensures.out_after in record { prefix_len = whole.0; value = whole.1.0; out_after = whole.1.1 }
+    let whole = text_told _ _ _ c.args.out.now _ t c.put_number-in-Refused.ensures.value c.put_number-in-Refused.ensures.out_after in
+    record { prefix_len = whole.0; value = whole.1.0; out_after = whole.1.1 }
 
 pub returns-in-Factoring : goal.returns-in-Factoring
 unfolding told_file
 returns-in-Factoring c =
     let t = told_case _ _ _ c.why_file.ensures.result_value c.in-Factoring.is in
-    let whole = text_told _ _ _ c.args.out.now _ t c.put_factoring.ensures.value c.put_factoring.ensures.out_after in record { prefix_len = whole.0; value = whole.1.0; out_after = whole.1.1 }
+    let whole = text_told _ _ _ c.args.out.now _ t c.put_factoring.ensures.value c.put_factoring.ensures.out_after in
+    record { prefix_len = whole.0; value = whole.1.0; out_after = whole.1.1 }
 
 pub returns-in-Singular : goal.returns-in-Singular
 unfolding told_file
 returns-in-Singular c =
     let t = told_case _ _ _ c.why_file.ensures.result_value c.in-Singular.is in
-    let whole = text_told _ _ _ c.args.out.now _ t c.put_singular.ensures.value c.put_singular.ensures.out_after in record { prefix_len = whole.0; value = whole.1.0; out_after = whole.1.1 }
+    let whole = text_told _ _ _ c.args.out.now _ t c.put_singular.ensures.value c.put_singular.ensures.out_after in
+    record { prefix_len = whole.0; value = whole.1.0; out_after = whole.1.1 }
 
 pub returns-in-Solving : goal.returns-in-Solving
 unfolding told_file
 returns-in-Solving c =
     let t = told_case _ _ _ c.why_file.ensures.result_value c.in-Solving.is in
-    let whole = text_told _ _ _ c.args.out.now _ t c.put_solving.ensures.value c.put_solving.ensures.out_after in record { prefix_len = whole.0; value = whole.1.0; out_after = whole.1.1 }
+    let whole = text_told _ _ _ c.args.out.now _ t c.put_solving.ensures.value c.put_solving.ensures.out_after in
+    record { prefix_len = whole.0; value = whole.1.0; out_after = whole.1.1 }

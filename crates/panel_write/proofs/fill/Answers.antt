@@ -27,11 +27,19 @@ loop-k-preserved c =
 
 pub returns-else-is_line : goal.returns-else-is_line
 returns-else-is_line c =
-    record { are_lines = λ e. absurd (false≢true e); value = λ all. sym c.if-is_line.false ∙ c.is_line.ensures.1 (all c.loop-k.k (omega arith)); numbers_len_unchanged = c.loop-k.invariant.0 }
+    record {
+      are_lines = λ e. absurd (false≢true e);
+      value = λ all. sym c.if-is_line.false ∙ c.is_line.ensures.1 (all c.loop-k.k (omega arith));
+      numbers_len_unchanged = c.loop-k.invariant.0;
+    }
 
 pub returns : goal.returns
 returns c =
-    record { are_lines = λ _. (λ j h. c.loop-k.invariant.2 j (omega arith), sym (each_stop _ _ _ c.loop-k-test.false) ∙ c.loop-k.invariant.1); value = λ _. refl; numbers_len_unchanged = c.loop-k.invariant.0 }
+    record {
+      are_lines = λ _. (λ j h. c.loop-k.invariant.2 j (omega arith), sym (each_stop _ _ _ c.loop-k-test.false) ∙ c.loop-k.invariant.1);
+      value = λ _. refl;
+      numbers_len_unchanged = c.loop-k.invariant.0;
+    }
 
 pub loop-k-init : goal.loop-k-init
 loop-k-init c = (refl, each_list _ _, λ j h. absurd (omega arith))

@@ -6,7 +6,8 @@ use Rattle.permutation_sequence.proofs.permute_or_refuse.Goals as goal
 
 pub returns-then-number-ne0 : goal.returns-then-number-ne0
 returns-then-number-ne0 c =
-    let whole = permuting_refused (exchange_of c.args.columns) _ _ _ _ _ _ _ _ c.permuting_refusal-number.ensures c.if-number-ne0.true in record { result_value = whole.0; s_after = whole.1 }
+    let whole = permuting_refused (exchange_of c.args.columns) _ _ _ _ _ _ _ _ c.permuting_refusal-number.ensures c.if-number-ne0.true in
+    record { result_value = whole.0; s_after = whole.1 }
 
 pub returns : goal.returns
 returns c =

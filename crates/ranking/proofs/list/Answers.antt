@@ -13,7 +13,10 @@ loop-k-init c = (omega arith, filling_begins _ _ _)
 pub insert-requires : goal.insert-requires
 insert-requires c =
     let room : c.loop-k.k < length c.args.ranks.now = omega arith in
-    record { pad = ((omega arith, omega arith), simp length-set (omega (arith, c.loop-k.invariant.1.size, c.loop-k.invariant.1.few))); by_index = held_pads _ _ _ c.loop-k.ranks c.loop-k.count c.loop-k.k c.loop-k.invariant.1 room c.loop-k.invariant.0 }
+    record {
+      pad = ((omega arith, omega arith), simp length-set (omega (arith, c.loop-k.invariant.1.size, c.loop-k.invariant.1.few)));
+      by_index = held_pads _ _ _ c.loop-k.ranks c.loop-k.count c.loop-k.k c.loop-k.invariant.1 room c.loop-k.invariant.0;
+    }
 
 pub loop-k-preserved : goal.loop-k-preserved
 loop-k-preserved c =
@@ -21,11 +24,15 @@ loop-k-preserved c =
     let room : c.loop-k.k < length c.args.ranks.now = omega arith in (
       omega arith,
       elim c.if-is_listed.branch [
-        | then-is_listed w ↦ rw (w.ranks-is, w.count-is) (turn_with _ _ _ c.loop-k.ranks _ c.loop-k.count c.loop-k.k c.loop-k.invariant.1 room (test ∙ w.if-is_listed.true) w.insert.ensures)
-        | else-is_listed w ↦ rw (w.ranks-is, w.count-is) (turn_without _ _ _ c.loop-k.ranks c.loop-k.count c.loop-k.k c.loop-k.invariant.1 room (test ∙ w.if-is_listed.false))
+        | then-is_listed w ↦ rw (w.ranks-is, w.count-is) (turn_with _ _ _ c.loop-k.ranks _ c.loop-k.count c.loop-k.k c.loop-k.invariant.1 room (test
+            ∙ w.if-is_listed.true) w.insert.ensures)
+        | else-is_listed w ↦ rw (w.ranks-is, w.count-is) (turn_without _ _ _ c.loop-k.ranks c.loop-k.count c.loop-k.k c.loop-k.invariant.1 room (test
+            ∙ w.if-is_listed.false))
       ],
     )
 
 pub returns : goal.returns
 returns c =
-    let whole = filling_ends _ _ _ c.args.ranks.now c.loop-k.ranks c.loop-k.count c.loop-k.k c.loop-k.invariant.1 c.loop-k-test.false c.loop-k.invariant.0 c.requires in record { value = whole.0; ranks_after = whole.1 }
+    let whole = filling_ends _ _ _ c.args.ranks.now c.loop-k.ranks c.loop-k.count c.loop-k.k c.loop-k.invariant.1 c.loop-k-test.false c.loop-k.invariant.0
+    c.requires in
+    record { value = whole.0; ranks_after = whole.1 }

@@ -18,4 +18,5 @@ list-requires c = let a = accepted _ _ _ (none c) in a.ranks_length ∙ sym a.lo
 pub returns : goal.returns
 returns c =
     let e = none (goal.at.returns c).After-list-arg-1 in
-    let whole = outcome_ranked _ _ _ _ _ _ e (rw (← (accepted _ _ _ e).loads_length) (c.list.ensures.value, c.list.ensures.ranks_after)) in record { result_value = whole.0; ranks_after = whole.1 }
+    let whole = outcome_ranked _ _ _ _ _ _ e (rw (← (accepted _ _ _ e).loads_length) (c.list.ensures.value, c.list.ensures.ranks_after)) in
+    record { result_value = whole.0; ranks_after = whole.1 }

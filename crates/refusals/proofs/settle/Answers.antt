@@ -12,4 +12,7 @@ returns-then-all_finite c =
 pub returns : goal.returns
 unfolding seventh number_of
 returns c =
-    record { value = rw (sym c.all_finite.ensures ∙ c.if-all_finite.false) refl; res_after = rw (sym c.all_finite.ensures ∙ c.if-all_finite.false) c.fill_zero.ensures }
+    record {
+      value = rw (sym c.all_finite.ensures ∙ c.if-all_finite.false) refl;
+      res_after = rw (sym c.all_finite.ensures ∙ c.if-all_finite.false) c.fill_zero.ensures;
+    }

@@ -12,8 +12,9 @@ use Rattle.removing.proofs.is_good_to_remove.Goals as goal
 its : (c : Then-is_good_list) → let g = c.args in
     Good g.told.rows (min g.told.rows g.told.columns) g.told.pairs g.swaps.now
 its c =
-    let listed : let r = c.args.told in c.is_good_list.result ≡ good_list c.args.swaps.now r.pairs r.rows (min r.rows r.columns) = let g = c.args in c.is_good_list.ensures ∙ ap (λ (k : ℕ). good_list g.swaps.now g.told.pairs g.told.rows k) c.min.ensures in
-    good _ _ _ _ (sym (listed) ∙ c.if-is_good_list.true)
+    let listed : let r = c.args.told in c.is_good_list.result ≡ good_list c.args.swaps.now r.pairs r.rows (min r.rows r.columns) = let g = c.args in
+    c.is_good_list.ensures ∙ ap (λ (k : ℕ). good_list g.swaps.now g.told.pairs g.told.rows k) c.min.ensures in
+    good _ _ _ _ (sym listed ∙ c.if-is_good_list.true)
 
 pub is_removable-requires : goal.is_removable-requires
 is_removable-requires c =
@@ -31,5 +32,6 @@ returns-then-is_good_list c =
 
 pub returns : goal.returns
 returns c =
-    let listed : let r = c.args.told in c.is_good_list.result ≡ good_list c.args.swaps.now r.pairs r.rows (min r.rows r.columns) = let g = c.args in c.is_good_list.ensures ∙ ap (λ (k : ℕ). good_list g.swaps.now g.told.pairs g.told.rows k) c.min.ensures in
-    record { good = λ t. absurd (false≢true (sym (sym (listed) ∙ c.if-is_good_list.false) ∙ t)) }
+    let listed : let r = c.args.told in c.is_good_list.result ≡ good_list c.args.swaps.now r.pairs r.rows (min r.rows r.columns) = let g = c.args in
+    c.is_good_list.ensures ∙ ap (λ (k : ℕ). good_list g.swaps.now g.told.pairs g.told.rows k) c.min.ensures in
+    record { good = λ t. absurd (false≢true (sym (sym listed ∙ c.if-is_good_list.false) ∙ t)) }

@@ -13,4 +13,9 @@ remove_tested-requires c = ready _ _ _ (sym c.removing_refusal-number.ensures âˆ
 
 pub returns : goal.returns
 returns c =
-    record { result_value = c.remove_tested.ensures.answer; result_value_2 = c.remove_tested.ensures.told; s_after = c.remove_tested.ensures.factors; swaps_after = c.remove_tested.ensures.pairs }
+    record {
+      result_value = c.remove_tested.ensures.answer;
+      result_value_2 = c.remove_tested.ensures.told;
+      s_after = c.remove_tested.ensures.factors;
+      swaps_after = c.remove_tested.ensures.pairs;
+    }

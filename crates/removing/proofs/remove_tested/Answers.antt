@@ -36,7 +36,9 @@ overflow_sub-result c = some (goal.at.overflow_sub-result c).After-undo-arg-then
 
 pub returns-then-undoes_swap : goal.returns-then-undoes_swap
 returns-then-undoes_swap c =
-    promise_undone _ _ _ c.requires _ c.fill_zero.auto.s c.fill_zero.ensures _ _ _ (omega (arith, older_dead (goal.at.returns-then-undoes_swap c).After-struct_known-2-1)) (some (goal.at.returns-then-undoes_swap c).After-undo-arg-then-undoes_swap-1)
+    promise_undone _ _ _ c.requires _ c.fill_zero.auto.s c.fill_zero.ensures _ _ _
+    (omega (arith, older_dead (goal.at.returns-then-undoes_swap c).After-struct_known-2-1))
+    (some (goal.at.returns-then-undoes_swap c).After-undo-arg-then-undoes_swap-1)
     (sym c.undoes_swap.ensures ∙ c.if-undoes_swap.true) c.undo.auto.s c.undo.ensures.s_after c.undo.ensures.swaps_after
 
 pub returns : goal.returns

@@ -41,5 +41,6 @@ overflow_sub-result c =
 
 pub returns-then-field-eq0 : goal.returns-then-field-eq0
 returns-then-field-eq0 c =
-    small_read c.args.x (double (goal.at.returns-then-field-eq0 c).Start) (fine (goal.at.returns-then-field-eq0 c).Start) c.if-field-eq0.true c.normal_parts-p.result
+    small_read c.args.x (double (goal.at.returns-then-field-eq0 c).Start) (fine (goal.at.returns-then-field-eq0 c).Start) c.if-field-eq0.true
+    c.normal_parts-p.result
     (c.normal_parts-p.ensures ∙ ap (λ (z : Float). parts_of (mul binary64 c.args.x z)) lift_is)

@@ -22,26 +22,33 @@ returns-then-number-ne0 c = record { result_value = rw (← c.held_refusal-numbe
 pub returns-then-told-ne0 : goal.returns-then-told-ne0
 unfolding scaled_answer scaling
 returns-then-told-ne0 c =
-    let held : let g = c.args in Passed g.factors.now g.swaps.now g.told square_asks = passed _ _ _ _ (sym c.held_refusal-number.ensures ∙ c.if-number-ne0.false) in
-    let zero_there : let g = c.args in zero_on_diagonal g.factors.now g.told.rows ≡ not (eqb g.told.dead 0) = dead_zero _ _ _ square_asks refl (held) in
-    let answered : (x : Scaled) → let g = c.args in x ≡ scaled_determinant g.factors.now g.told.rows g.told.pairs → done x ≡ scaling g.factors.now g.swaps.now g.told = λ x e. ap done e ∙ sym (tested_none _ refused _ (sym c.held_refusal-number.ensures ∙ c.if-number-ne0.false)) in
+    let held : let g = c.args in Passed g.factors.now g.swaps.now g.told square_asks =
+    passed _ _ _ _ (sym c.held_refusal-number.ensures ∙ c.if-number-ne0.false) in
+    let zero_there : let g = c.args in zero_on_diagonal g.factors.now g.told.rows ≡ not (eqb g.told.dead 0) = dead_zero _ _ _ square_asks refl held in
+    let answered : (x : Scaled) → let g = c.args in x ≡ scaled_determinant g.factors.now g.told.rows g.told.pairs → done x
+    ≡ scaling g.factors.now g.swaps.now g.told =
+    λ x e. ap done e ∙ sym (tested_none _ refused _ (sym c.held_refusal-number.ensures ∙ c.if-number-ne0.false)) in
     let g = c.args in
     let some = zero_there ∙ ap not (ne_eqb _ _ c.if-told-ne0.true) in
     record { result_value = answered _ (sym (number_vanished g.told.rows g.factors.now g.told.pairs some)); answer_ranged = inl refl }
 
 pub signed_product-requires : goal.signed_product-requires
 signed_product-requires c =
-    let held : let g = c.args in Passed g.factors.now g.swaps.now g.told square_asks = passed _ _ _ _ (sym c.held_refusal-number.ensures ∙ c.if-number-ne0.false) in
-    let zero_there : let g = c.args in zero_on_diagonal g.factors.now g.told.rows ≡ not (eqb g.told.dead 0) = dead_zero _ _ _ square_asks refl (held) in
+    let held : let g = c.args in Passed g.factors.now g.swaps.now g.told square_asks =
+    passed _ _ _ _ (sym c.held_refusal-number.ensures ∙ c.if-number-ne0.false) in
+    let zero_there : let g = c.args in zero_on_diagonal g.factors.now g.told.rows ≡ not (eqb g.told.dead 0) = dead_zero _ _ _ square_asks refl held in
     let p = held in
     (square_matrix _ _ _ _ refl p, p.finite, zero_there ∙ ap not (eq-eqb _ _ c.if-told-ne0.false))
 
 pub returns : goal.returns
 unfolding scaled_answer scaling
 returns c =
-    let held : let g = c.args in Passed g.factors.now g.swaps.now g.told square_asks = passed _ _ _ _ (sym c.held_refusal-number.ensures ∙ c.if-number-ne0.false) in
-    let zero_there : let g = c.args in zero_on_diagonal g.factors.now g.told.rows ≡ not (eqb g.told.dead 0) = dead_zero _ _ _ square_asks refl (held) in
-    let answered : (x : Scaled) → let g = c.args in x ≡ scaled_determinant g.factors.now g.told.rows g.told.pairs → done x ≡ scaling g.factors.now g.swaps.now g.told = λ x e. ap done e ∙ sym (tested_none _ refused _ (sym c.held_refusal-number.ensures ∙ c.if-number-ne0.false)) in
+    let held : let g = c.args in Passed g.factors.now g.swaps.now g.told square_asks =
+    passed _ _ _ _ (sym c.held_refusal-number.ensures ∙ c.if-number-ne0.false) in
+    let zero_there : let g = c.args in zero_on_diagonal g.factors.now g.told.rows ≡ not (eqb g.told.dead 0) = dead_zero _ _ _ square_asks refl held in
+    let answered : (x : Scaled) → let g = c.args in x ≡ scaled_determinant g.factors.now g.told.rows g.told.pairs → done x
+    ≡ scaling g.factors.now g.swaps.now g.told =
+    λ x e. ap done e ∙ sym (tested_none _ refused _ (sym c.held_refusal-number.ensures ∙ c.if-number-ne0.false)) in
     let g = c.args in
     let none = zero_there ∙ ap not (eq-eqb _ _ c.if-told-ne0.false) in
     let is = number_signed g.told.rows g.factors.now g.told.pairs none in

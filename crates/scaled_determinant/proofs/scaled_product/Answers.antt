@@ -32,8 +32,16 @@ loop-i-init c = (turns_begin _ _ _, bounded_start)
 pub times-r-requires : goal.times-r-requires
 times-r-requires c =
     let few = (sized _ _ _ c.requires.0).rows_most in
-    let i = c.loop-i.i in
-    (parted (goal.at.times-r-requires c).In-loop-i, omega (arith, few, c.loop-i-test.true, mag_within i c.loop-i.r.exponent (omega (arith, few, c.loop-i-test.true)) c.loop-i.invariant.1.within))
+    let i = c.loop-i.i in (
+      parted (goal.at.times-r-requires c).In-loop-i,
+      omega (
+        arith,
+        few,
+        c.loop-i-test.true,
+        mag_within i c.loop-i.r.exponent
+            (omega (arith, few, c.loop-i-test.true)) c.loop-i.invariant.1.within,
+      ),
+    )
 
 pub loop-i-preserved : goal.loop-i-preserved
 unfolding scaled_turn
@@ -44,10 +52,12 @@ loop-i-preserved c =
     let h = c.loop-i-test.true in
     let x = get_or factors (i * n + i) nan in
     let made : c.times-r.result ≡ scaled_times c.loop-i.r x = c.times-r.ensures in (
-      turns_next (scaled_turn (columns n n factors)) i n _ _ h (made ∙ ap (scaled_times c.loop-i.r) (diagonal_is n factors c.requires.0 i h)) ∙ c.loop-i.invariant.0,
+      turns_next (scaled_turn (columns n n factors)) i n _ _ h (made ∙ ap (scaled_times c.loop-i.r) (diagonal_is n factors c.requires.0 i h))
+          ∙ c.loop-i.invariant.0,
       subst (λ (k : ℕ). Bounded k c.times-r.result) (sym (add-one i))
           (subst (Bounded (suc i)) (sym made)
-          (bounded_step i c.loop-i.r x (c.shared_slice_known-in-loop-i-1.given (i * n + i)) (parted_fine x (parted (goal.at.loop-i-preserved c).In-loop-i)) c.loop-i.invariant.1)),
+          (bounded_step i c.loop-i.r x (c.shared_slice_known-in-loop-i-1.given (i * n + i)) (parted_fine x (parted (goal.at.loop-i-preserved c).In-loop-i))
+          c.loop-i.invariant.1)),
     )
 
 pub returns : goal.returns

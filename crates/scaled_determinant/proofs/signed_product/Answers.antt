@@ -25,4 +25,7 @@ returns c =
     let n = c.args.n in
     let factors = c.args.factors.now in
     let sound = diagonal_sound n factors c.requires.0 c.requires.1 c.requires.2 c.shared_slice_known-1.given in
-    record { value = made c; in_range = subst InRange (sym (made c)) (in_range n (columns n n factors) c.args.pairs (sized n n factors c.requires.0).rows_most sound) }
+    record {
+      value = made c;
+      in_range = subst InRange (sym (made c)) (in_range n (columns n n factors) c.args.pairs (sized n n factors c.requires.0).rows_most sound);
+    }

@@ -18,12 +18,15 @@ fine c = parted_fine c.args.x c.requires.0
 
 pub overflow_add-r : goal.overflow_add-r
 overflow_add-r c =
-    sum_held c.args.r c.args.x (double (goal.at.overflow_add-r c).Start) (fine (goal.at.overflow_add-r c).Start) c.requires.1 c.parts_of-parts.result c.parts_of-parts.ensures
+    sum_held c.args.r c.args.x (double (goal.at.overflow_add-r c).Start) (fine (goal.at.overflow_add-r c).Start) c.requires.1 c.parts_of-parts.result
+    c.parts_of-parts.ensures
 
 pub halved_at_two-requires : goal.halved_at_two-requires
 halved_at_two-requires c =
-    sum_room c.args.r c.args.x (double (goal.at.halved_at_two-requires c).Start) (fine (goal.at.halved_at_two-requires c).Start) c.requires.1 c.parts_of-parts.result c.parts_of-parts.ensures
+    sum_room c.args.r c.args.x (double (goal.at.halved_at_two-requires c).Start) (fine (goal.at.halved_at_two-requires c).Start) c.requires.1
+    c.parts_of-parts.result c.parts_of-parts.ensures
 
 pub returns : goal.returns
 returns c =
-    c.halved_at_two.ensures ∙ times_made c.args.r c.args.x (double (goal.at.returns c).Start) (fine (goal.at.returns c).Start) c.requires.1 c.parts_of-parts.result c.parts_of-parts.ensures
+    c.halved_at_two.ensures ∙ times_made c.args.r c.args.x (double (goal.at.returns c).Start) (fine (goal.at.returns c).Start) c.requires.1
+    c.parts_of-parts.result c.parts_of-parts.ensures

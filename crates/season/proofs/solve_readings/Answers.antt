@@ -25,4 +25,7 @@ returns c =
     let g = c.args in
     let p = packed_in g.matrix.now g.swaps.now g.told in
     let fits = sym (taken_count g.told.rows g.loads.now (omega arith)) in
-    record { value = solve_number p _ _ fits _ _ c.number_of.ensures c.solve.ensures.result_value; loads_after = ap (λ (t : Column). t ++ drop g.told.rows g.loads.now) (solved_left false p _ _ _ fits c.solve.ensures.x_after (search rules)) }
+    record {
+      value = solve_number p _ _ fits _ _ c.number_of.ensures c.solve.ensures.result_value;
+      loads_after = ap (λ (t : Column). t ++ drop g.told.rows g.loads.now) (solved_left false p _ _ _ fits c.solve.ensures.x_after (search rules));
+    }

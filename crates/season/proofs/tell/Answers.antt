@@ -22,4 +22,5 @@ returns-in-Factors c =
 
 pub returns-in-Refused : goal.returns-in-Refused
 returns-in-Refused c =
-    telling_refused _ _ (filed_refused _ _ _ _ _ (c.factor_file.ensures.result_value, (c.factor_file.ensures.swaps_after, c.factor_file.ensures.matrix_len)) _ c.in-Refused.is)
+    telling_refused _ _ (filed_refused _ _ _ _ _ (c.factor_file.ensures.result_value, (c.factor_file.ensures.swaps_after, c.factor_file.ensures.matrix_len))
+    _ c.in-Refused.is)

@@ -46,5 +46,6 @@ slice_bounds-band-end c = taken_count _ c.args.matrix.now (omega (arith, c.requi
 pub returns : goal.returns
 returns c =
     let g = c.args in
-    told_share _ (loads (goal.at.returns c).Else-number-ne0) (packed_in g.matrix.now g.swaps.now g.told) _ _ _ (front (goal.at.returns c).Else-number-ne0).1 c.listed.ensures
+    told_share _ (loads (goal.at.returns c).Else-number-ne0) (packed_in g.matrix.now g.swaps.now g.told) _ _ _ (front (goal.at.returns c).Else-number-ne0).1
+    c.listed.ensures
     c.band.ensures

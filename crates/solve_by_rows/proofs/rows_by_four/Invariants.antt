@@ -9,7 +9,8 @@ use Rattle.solve_by_rows.proofs.rows_by_four.Given as goal
 
 abbrev pub invariant-loop-k : goal.invariant-loop-k
 invariant-loop-k l =
-    let f = row_done l.upward l.n (columns l.n l.n l.t) in (l.k ≤ l.n) × (length l.b ≡ l.n) × (turns_from f l.k (l.n - l.k) l.b ≡ turns_from f l.from (l.n - l.from) l.initial.b) × ((l.n - l.k) % 4 ≡ 0)
+    let f = row_done l.upward l.n (columns l.n l.n l.t) in
+    (l.k ≤ l.n) × (length l.b ≡ l.n) × (turns_from f l.k (l.n - l.k) l.b ≡ turns_from f l.from (l.n - l.from) l.initial.b) × ((l.n - l.k) % 4 ≡ 0)
 
 abbrev pub decreases-loop-k : goal.decreases-loop-k
 decreases-loop-k l = l.n - l.k

@@ -21,7 +21,7 @@ within : (c : In-loop-j) → let g = c.args in
     c.loop-j.j * g.n + g.n ≤ length c.loop-j.b
 within c =
     let sides : let g = c.args in is_matrix g.b.now g.n g.k ≡ true = sym c.is_matrix-2.ensures ∙ c.if-not-is_matrix-2.false in
-    left_within _ _ _ _ _ (sides) _ _ c.loop-j.invariant c.loop-j-test.true
+    left_within _ _ _ _ _ sides _ _ c.loop-j.invariant c.loop-j-test.true
 
 pub returns-then-not-is_matrix : goal.returns-then-not-is_matrix
 returns-then-not-is_matrix c = no_matrix _ _ _ _ _ (sym c.is_matrix.ensures ∙ c.if-not-is_matrix.true)
@@ -31,16 +31,21 @@ returns-then-not-is_matrix-2 c =
     no_sides _ _ _ _ _ (matrix (goal.at.returns-then-not-is_matrix-2 c).Else-not-is_matrix) (sym c.is_matrix-2.ensures ∙ c.if-not-is_matrix-2.true)
 
 pub solve_column-requires : goal.solve_column-requires
-solve_column-requires c =
-    (matrix (goal.at.solve_column-requires c).Else-not-is_matrix, left_rows _ _ _ _ _ (sides (goal.at.solve_column-requires c).Else-not-is_matrix-2) _ _ c.loop-j.invariant c.loop-j-test.true)
+solve_column-requires c = (
+  matrix (goal.at.solve_column-requires c).Else-not-is_matrix,
+  left_rows _ _ _ _ _ (sides (goal.at.solve_column-requires c).Else-not-is_matrix-2) _ _
+      c.loop-j.invariant c.loop-j-test.true,
+)
 
 pub loop-j-preserved : goal.loop-j-preserved
 loop-j-preserved c =
-    left_turn _ _ _ _ _ (sides (goal.at.loop-j-preserved c).Else-not-is_matrix-2) _ _ c.loop-j.invariant _ c.loop-j-test.true c.solve_column.auto.b c.solve_column.ensures
+    left_turn _ _ _ _ _ (sides (goal.at.loop-j-preserved c).Else-not-is_matrix-2) _ _ c.loop-j.invariant _ c.loop-j-test.true c.solve_column.auto.b
+    c.solve_column.ensures
 
 pub returns : goal.returns
 returns c =
-    left_none _ _ _ _ _ (sides (goal.at.returns c).Else-not-is_matrix-2) _ _ c.loop-j.invariant (matrix (goal.at.returns c).Else-not-is_matrix) c.loop-j-test.false
+    left_none _ _ _ _ _ (sides (goal.at.returns c).Else-not-is_matrix-2) _ _ c.loop-j.invariant (matrix (goal.at.returns c).Else-not-is_matrix)
+    c.loop-j-test.false
 
 pub loop-j-init : goal.loop-j-init
 loop-j-init c = left_all _ _ _ _ _

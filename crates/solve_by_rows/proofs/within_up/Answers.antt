@@ -33,7 +33,12 @@ loop-k-preserved c =
     let g = c.args in
     let p = c.requires in
     let h = c.loop-k-test.true in (
-      simp (length-append, length-drop, length-set) (omega (arith, within (goal.at.loop-k-preserved c).In-loop-k, simp (length-take, length-set) at c.axpy.auto.y)),
+      simp (length-append, length-drop, length-set) (omega (
+        arith,
+        within (goal.at.loop-k-preserved c).In-loop-k,
+        simp (length-take, length-set) at
+            c.axpy.auto.y,
+      )),
       turns_next _ _ _ _ _ h (up_turn g.n g.t.now (sized _ _ _ p.0).size g.r _ _ _ c.loop-k.v _ h refl p.1 c.axpy.ensures) ∙ c.loop-k.invariant.1,
     )
 

@@ -15,5 +15,6 @@ shape_of-s c =
 
 pub returns : goal.returns
 returns c =
-    columns_exchanged _ _ _ _ _ _ _ _ _ _ _ c.requires.i_lt_n.0 c.requires.i_lt_n.1 c.requires.s_len.0 c.requires.s_len.1 c.requires.s_len.2 c.copy.ensures c.copy-2.ensures
+    columns_exchanged _ _ _ _ _ _ _ _ _ _ _ c.requires.i_lt_n.0 c.requires.i_lt_n.1 c.requires.s_len.0 c.requires.s_len.1 c.requires.s_len.2 c.copy.ensures
+    c.copy-2.ensures
     c.copy-3.auto.dst c.copy-3.ensures c.copy-4.auto.dst c.copy-4.ensures

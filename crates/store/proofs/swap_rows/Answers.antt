@@ -34,8 +34,11 @@ offset_bounds-s-a c = omega (arith, within c)
 
 pub loop-j-preserved : goal.loop-j-preserved
 loop-j-preserved c =
-    let e = c.min-end.ensures in
-    (omega arith, range_turn _ _ _ _ _ _ _ _ (rw (← e) c.loop-j-test.true) (size (goal.at.loop-j-preserved c).In-loop-j) c.swap.auto.col c.swap.ensures ∙ c.loop-j.invariant.1)
+    let e = c.min-end.ensures in (
+      omega arith,
+      range_turn _ _ _ _ _ _ _ _ (rw (← e) c.loop-j-test.true) (size (goal.at.loop-j-preserved c).In-loop-j) c.swap.auto.col c.swap.ensures
+          ∙ c.loop-j.invariant.1,
+    )
 
 -- a row exchanged with itself
 pub returns-then-i-p : goal.returns-then-i-p

@@ -8,7 +8,8 @@ use Rattle.swap_list.proofs.append_permutation.Goals as goal
 
 pub returns-then-number-ne0 : goal.returns-then-number-ne0
 returns-then-number-ne0 c =
-    let whole = outcome_refused _ _ _ _ _ _ c.append_refusal-number.ensures c.if-number-ne0.true in record { result_value = whole.0; result_value_2 = whole.1.0; swaps_after = whole.1.1 }
+    let whole = outcome_refused _ _ _ _ _ _ c.append_refusal-number.ensures c.if-number-ne0.true in
+    record { result_value = whole.0; result_value_2 = whole.1.0; swaps_after = whole.1.1 }
 
 pub overflow_mul-a : goal.overflow_mul-a
 overflow_mul-a c = omega (arith, room _ _ _ _ _ (sym c.append_refusal-number.ensures ∙ c.if-number-ne0.false) c.if-i-i2.true)
@@ -35,8 +36,10 @@ overflow_add-result c = omega (arith, room _ _ _ _ _ (sym c.append_refusal-numbe
 pub returns-then-i-i2 : goal.returns-then-i-i2
 unfolding with_pair
 returns-then-i-i2 c =
-    let whole = outcome_pair _ _ _ _ _ (sym c.append_refusal-number.ensures ∙ c.if-number-ne0.false) c.if-i-i2.true in record { result_value = whole.0; result_value_2 = whole.1.0; swaps_after = whole.1.1 }
+    let whole = outcome_pair _ _ _ _ _ (sym c.append_refusal-number.ensures ∙ c.if-number-ne0.false) c.if-i-i2.true in
+    record { result_value = whole.0; result_value_2 = whole.1.0; swaps_after = whole.1.1 }
 
 pub returns : goal.returns
 returns c =
-    let whole = outcome_same _ _ _ _ _ (sym c.append_refusal-number.ensures ∙ c.if-number-ne0.false) c.if-i-i2.false in record { result_value = whole.0; result_value_2 = whole.1.0; swaps_after = whole.1.1 }
+    let whole = outcome_same _ _ _ _ _ (sym c.append_refusal-number.ensures ∙ c.if-number-ne0.false) c.if-i-i2.false in
+    record { result_value = whole.0; result_value_2 = whole.1.0; swaps_after = whole.1.1 }

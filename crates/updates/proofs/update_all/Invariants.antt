@@ -9,7 +9,8 @@ use Rattle.updates.proofs.update_all.Given as goal
 
 abbrev pub invariant-loop-i : goal.invariant-loop-i
 invariant-loop-i l =
-    (length l.s ≡ length l.initial.s) × (turns_from (updated_at l.n) l.i (l.all - l.i) (columns l.m (l.n + 1) l.s) ≡ turns_from (updated_at l.n) 0 (min l.m l.n) (columns l.m (l.n + 1) l.initial.s))
+    (length l.s ≡ length l.initial.s) × (turns_from (updated_at l.n) l.i (l.all - l.i) (columns l.m (l.n + 1) l.s)
+    ≡ turns_from (updated_at l.n) 0 (min l.m l.n) (columns l.m (l.n + 1) l.initial.s))
 
 abbrev pub decreases-loop-i : goal.decreases-loop-i
 decreases-loop-i l = l.all - l.i

@@ -24,12 +24,12 @@ returns-then-min-to c =
 pub returns-then-to-i : goal.returns-then-to-i
 returns-then-to-i c =
     let left : let g = c.args in g.to ≤ min g.m g.from = omega (arith, c.min.ensures, c.if-min-to.false) in
-    on_done _ _ _ _ _ (fits (goal.at.returns-then-to-i c).Else-not-is_matrix) refl (none_updated _ _ _ _ _ _ (left) (inl c.if-to-i.true))
+    on_done _ _ _ _ _ (fits (goal.at.returns-then-to-i c).Else-not-is_matrix) refl (none_updated _ _ _ _ _ _ left (inl c.if-to-i.true))
 
 pub returns-then-n-from : goal.returns-then-n-from
 returns-then-n-from c =
     let left : let g = c.args in g.to ≤ min g.m g.from = omega (arith, c.min.ensures, c.if-min-to.false) in
-    on_done _ _ _ _ _ (fits (goal.at.returns-then-n-from c).Else-not-is_matrix) refl (none_updated _ _ _ _ _ _ (left) (inr c.if-n-from.true))
+    on_done _ _ _ _ _ (fits (goal.at.returns-then-n-from c).Else-not-is_matrix) refl (none_updated _ _ _ _ _ _ left (inr c.if-n-from.true))
 
 pub update_right-requires : goal.update_right-requires
 update_right-requires c =
@@ -41,4 +41,4 @@ pub returns : goal.returns
 returns c =
     let left : let g = c.args in g.to ≤ min g.m g.from = omega (arith, c.min.ensures, c.if-min-to.false) in
     on_done _ _ _ _ _ (fits (goal.at.returns c).Else-not-is_matrix) c.update_right.auto.s
-    (c.update_right.ensures ∙ sym (updated_is _ _ _ _ _ _ (left)))
+    (c.update_right.ensures ∙ sym (updated_is _ _ _ _ _ _ left))

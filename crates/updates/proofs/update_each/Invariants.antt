@@ -9,7 +9,8 @@ use Rattle.updates.proofs.update_each.Given as goal
 
 abbrev pub invariant-loop-i : goal.invariant-loop-i
 invariant-loop-i l =
-    (length l.s ≡ length l.initial.s) × (turns_from (updated_at l.j) l.i (l.to - l.i) (columns l.m l.n l.s) ≡ turns_from (updated_at l.j) l.from (l.to - l.from) (columns l.m l.n l.initial.s))
+    (length l.s ≡ length l.initial.s) × (turns_from (updated_at l.j) l.i (l.to - l.i) (columns l.m l.n l.s)
+    ≡ turns_from (updated_at l.j) l.from (l.to - l.from) (columns l.m l.n l.initial.s))
 
 abbrev pub decreases-loop-i : goal.decreases-loop-i
 decreases-loop-i l = l.to - l.i

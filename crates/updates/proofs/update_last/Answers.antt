@@ -27,7 +27,7 @@ returns-then-by-lt4 c =
     let fits : let g = c.args in is_matrix g.s.now g.m (g.n + 1) ≡ true = sym c.is_matrix.ensures ∙ c.if-not-is_matrix.false in
     let g = c.args in
     let all : c.min-by.result - 0 ≡ min g.m g.n = omega (arith, c.min-by.ensures) in
-    last_made _ _ _ _ (fits) c.update_each.auto.s
+    last_made _ _ _ _ fits c.update_each.auto.s
     (c.update_each.ensures ∙ ap (λ k. turns_from (updated_at g.n) 0 k (columns g.m (g.n + 1) g.s.now)) all)
 
 pub update_all-requires : goal.update_all-requires
@@ -38,4 +38,4 @@ update_all-requires c =
 pub returns : goal.returns
 returns c =
     let fits : let g = c.args in is_matrix g.s.now g.m (g.n + 1) ≡ true = sym c.is_matrix.ensures ∙ c.if-not-is_matrix.false in
-    last_made _ _ _ _ (fits) c.update_all.auto.s c.update_all.ensures
+    last_made _ _ _ _ fits c.update_all.auto.s c.update_all.ensures

@@ -31,7 +31,7 @@ taken c =
     let in_time : let g = c.args in c.loop-k.k < turns_of (pass_of g.upper) g.n = rw c.turns_of-turns.ensures at c.loop-k-test.true in
     let g = c.args in
     turn_taken (pass_of g.upper) g.n c.loop-k.k g.t.now c.loop-k.b _ c.requires.0 c.loop-k.invariant.long
-    (in_time)
+    in_time
     (c.solve_turn.ensures ∙ ap (λ (p : Pass). turned_by p g.t.now g.n c.loop-k.b c.loop-k.k) c.pass_of.ensures)
 
 -- the length that it keeps
@@ -45,29 +45,46 @@ row_of-requires c =
 
 pub stored_row-row-requires : goal.stored_row-row-requires
 stored_row-row-requires c =
-    omega (arith, below (goal.at.stored_row-row-requires c).In-loop-k, c.row_of.ensures, kept (goal.at.stored_row-row-requires c).After-slice_known-in-loop-k-1, c.loop-k.invariant.long)
+    omega (
+      arith,
+      below (goal.at.stored_row-row-requires c).In-loop-k,
+      c.row_of.ensures,
+      kept
+          (goal.at.stored_row-row-requires c).After-slice_known-in-loop-k-1,
+      c.loop-k.invariant.long,
+    )
 
 pub returns-then-row-n : goal.returns-then-row-n
 unfolding first_row
 returns-then-row-n c =
-    let row_is : let g = c.args in c.stored_row-row.result ≡ first_row (pass_of g.upper) g.n c.loop-k.k c.solve_turn.new.b = let b = c.solve_turn.new.b in c.stored_row-row.ensures ∙ ap (λ (i : ℕ). cond (finite (entry b i)) (first_failing finite b) i) c.row_of.ensures in
+    let row_is : let g = c.args in c.stored_row-row.result ≡ first_row (pass_of g.upper) g.n c.loop-k.k c.solve_turn.new.b = let b = c.solve_turn.new.b in
+    c.stored_row-row.ensures ∙ ap (λ (i : ℕ). cond (finite (entry b i)) (first_failing finite b) i) c.row_of.ensures in
     let g = c.args in
     let now = c.loop-k.invariant in
     let low = c.if-row-n.true in
-    let bad = row_spoilt (pass_of g.upper) g.n _ _ _ (kept (goal.at.returns-then-row-n c).After-slice_known-in-loop-k-1 ∙ c.loop-k.invariant.long) (below (goal.at.returns-then-row-n c).In-loop-k) (row_is) low in
+    let bad = row_spoilt (pass_of g.upper) g.n _ _ _ (kept (goal.at.returns-then-row-n c).After-slice_known-in-loop-k-1 ∙ c.loop-k.invariant.long)
+    (below (goal.at.returns-then-row-n c).In-loop-k) row_is low in
     record {
       fine = λ h. absurd (let n : ⊥ = omega arith in n);
-      spoilt = λ _. (c.loop-k.k, turning_found _ _ _ _ _ _ now (in_time (goal.at.returns-then-row-n c).In-loop-k) _ (kept (goal.at.returns-then-row-n c).After-slice_known-in-loop-k-1) (taken (goal.at.returns-then-row-n c).After-slice_known-in-loop-k-1) _ bad (row_is));
+      spoilt = λ _. (
+        c.loop-k.k,
+        turning_found _ _ _ _ _ _ now (in_time (goal.at.returns-then-row-n c).In-loop-k) _
+            (kept (goal.at.returns-then-row-n c).After-slice_known-in-loop-k-1) (taken (goal.at.returns-then-row-n c).After-slice_known-in-loop-k-1) _ bad
+            row_is,
+      );
     }
 
 pub loop-k-preserved : goal.loop-k-preserved
 unfolding first_row
 loop-k-preserved c =
-    let row_is : let g = c.args in c.stored_row-row.result ≡ first_row (pass_of g.upper) g.n c.loop-k.k c.solve_turn.new.b = let b = c.solve_turn.new.b in c.stored_row-row.ensures ∙ ap (λ (i : ℕ). cond (finite (entry b i)) (first_failing finite b) i) c.row_of.ensures in
+    let row_is : let g = c.args in c.stored_row-row.result ≡ first_row (pass_of g.upper) g.n c.loop-k.k c.solve_turn.new.b = let b = c.solve_turn.new.b in
+    c.stored_row-row.ensures ∙ ap (λ (i : ℕ). cond (finite (entry b i)) (first_failing finite b) i) c.row_of.ensures in
     let g = c.args in
     let now = c.loop-k.invariant in
-    let fine = row_fine (pass_of g.upper) g.n _ _ _ (kept (goal.at.loop-k-preserved c).After-slice_known-in-loop-k-1 ∙ c.loop-k.invariant.long) (below (goal.at.loop-k-preserved c).In-loop-k) (row_is) c.if-row-n.false in
-    turning_on _ _ _ _ _ _ now (in_time (goal.at.loop-k-preserved c).In-loop-k) _ (kept (goal.at.loop-k-preserved c).After-slice_known-in-loop-k-1) (taken (goal.at.loop-k-preserved c).After-slice_known-in-loop-k-1) fine
+    let fine = row_fine (pass_of g.upper) g.n _ _ _ (kept (goal.at.loop-k-preserved c).After-slice_known-in-loop-k-1 ∙ c.loop-k.invariant.long)
+    (below (goal.at.loop-k-preserved c).In-loop-k) row_is c.if-row-n.false in
+    turning_on _ _ _ _ _ _ now (in_time (goal.at.loop-k-preserved c).In-loop-k) _ (kept (goal.at.loop-k-preserved c).After-slice_known-in-loop-k-1)
+    (taken (goal.at.loop-k-preserved c).After-slice_known-in-loop-k-1) fine
 
 pub returns : goal.returns
 returns c =

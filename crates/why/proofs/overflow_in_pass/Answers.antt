@@ -22,14 +22,16 @@ within : (c : In-loop-j) → let g = c.args in c.loop-j.j * g.n + g.n ≤ length
 within c = let g = c.args in column_within g.n g.k c.loop-j.j c.loop-j.x c.loop-j-test.true (size c)
 
 -- the part that is lent is column j, as it is now and as it was before
-part_now : (c : In-loop-j) → let g = c.args in mid_of (c.loop-j.j * g.n) (c.loop-j.j * g.n + g.n - c.loop-j.j * g.n) c.loop-j.x ≡ column (columns g.n g.k c.loop-j.x) c.loop-j.j
+part_now : (c : In-loop-j) → let g = c.args in mid_of (c.loop-j.j * g.n) (c.loop-j.j * g.n + g.n - c.loop-j.j * g.n) c.loop-j.x
+    ≡ column (columns g.n g.k c.loop-j.x) c.loop-j.j
 part_now c = let g = c.args in part_column g.n g.k c.loop-j.j c.loop-j.x c.loop-j-test.true
 
-part_is : (c : In-loop-j) → let g = c.args in mid_of (c.loop-j.j * g.n) (c.loop-j.j * g.n + g.n - c.loop-j.j * g.n) c.loop-j.x ≡ column (columns g.n g.k g.x.now) c.loop-j.j
+part_is : (c : In-loop-j) → let g = c.args in mid_of (c.loop-j.j * g.n) (c.loop-j.j * g.n + g.n - c.loop-j.j * g.n) c.loop-j.x
+    ≡ column (columns g.n g.k g.x.now) c.loop-j.j
 part_is c =
     let wide_now : let g = c.args in length (columns g.n g.k c.loop-j.x) ≡ g.k = let g = c.args in length_columns g.n g.k c.loop-j.x in
     let wide : let g = c.args in length (columns g.n g.k g.x.now) ≡ g.k = let g = c.args in length_columns g.n g.k g.x.now in
-    part_now c ∙ same_column _ _ _ _ _ _ _ c.loop-j.invariant.1 (wide) (wide_now)
+    part_now c ∙ same_column _ _ _ _ _ _ _ c.loop-j.invariant.1 wide wide_now
 
 pub overflow_in_column-row-requires : goal.overflow_in_column-row-requires
 overflow_in_column-row-requires c =
@@ -45,7 +47,7 @@ returns-then-row-n c =
       fine = λ l. absurd (let n : ⊥ = omega arith in n);
       spoilt = λ _. (
         found.0,
-        passing_found _ _ _ _ _ _ _ c.loop-j.invariant.1 (wide) (wide_now) h found.0 _
+        passing_found _ _ _ _ _ _ _ c.loop-j.invariant.1 wide wide_now h found.0 _
             (ap (first_in_column _ _ _ 0) (sym (part_is (goal.at.returns-then-row-n c).In-loop-j)) ∙ found.1),
       );
     }
@@ -54,19 +56,22 @@ pub loop-j-preserved : goal.loop-j-preserved
 loop-j-preserved c =
     let wide_now : let g = c.args in length (columns g.n g.k c.loop-j.x) ≡ g.k = let g = c.args in length_columns g.n g.k c.loop-j.x in
     let wide : let g = c.args in length (columns g.n g.k g.x.now) ≡ g.k = let g = c.args in length_columns g.n g.k g.x.now in
-    let kept : let g = c.args in length c.overflow_in_column-row.new.b ≡ length (mid_of (c.loop-j.j * g.n) (c.loop-j.j * g.n + g.n - c.loop-j.j * g.n) c.loop-j.x) = c.overflow_in_column-row.auto.b in
-    let long : let g = c.args in length (put_mid (c.loop-j.j * g.n) (c.loop-j.j * g.n + g.n - c.loop-j.j * g.n) c.loop-j.x c.overflow_in_column-row.new.b) ≡ length g.x.now = let g = c.args in same_len_mid (c.loop-j.j * g.n) (c.loop-j.j * g.n + g.n - c.loop-j.j * g.n) c.loop-j.x c.overflow_in_column-row.new.b (kept) ∙ c.loop-j.invariant.0 in
+    let kept : let g = c.args in length c.overflow_in_column-row.new.b
+    ≡ length (mid_of (c.loop-j.j * g.n) (c.loop-j.j * g.n + g.n - c.loop-j.j * g.n) c.loop-j.x) = c.overflow_in_column-row.auto.b in
+    let long : let g = c.args in length (put_mid (c.loop-j.j * g.n) (c.loop-j.j * g.n + g.n - c.loop-j.j * g.n) c.loop-j.x c.overflow_in_column-row.new.b)
+    ≡ length g.x.now = let g = c.args in same_len_mid (c.loop-j.j * g.n) (c.loop-j.j * g.n + g.n - c.loop-j.j * g.n) c.loop-j.x
+    c.overflow_in_column-row.new.b kept ∙ c.loop-j.invariant.0 in
     let g = c.args in
     let h = c.loop-j-test.true in
     let part = c.overflow_in_column-row.new.b in
     let fine = c.overflow_in_column-row.ensures.fine c.if-row-n.false in
     let now = c.loop-j.invariant.1 in
     let cs = columns g.n g.n g.t.now in
-    let put = column_lent (λ _. part) g.n g.k c.loop-j.j c.loop-j.x part h (size (goal.at.loop-j-preserved c).In-loop-j) (kept) refl in
+    let put = column_lent (λ _. part) g.n g.k c.loop-j.j c.loop-j.x part h (size (goal.at.loop-j-preserved c).In-loop-j) kept refl in
     let seen = part_is (goal.at.loop-j-preserved c).In-loop-j in (
       long,
       rw put
-          (passing_on _ _ _ _ _ _ _ now (wide) (wide_now) h part (ap (first_in_column (pass_of g.upper) g.n cs 0) (sym seen) ∙ fine.0)
+          (passing_on _ _ _ _ _ _ _ now wide wide_now h part (ap (first_in_column (pass_of g.upper) g.n cs 0) (sym seen) ∙ fine.0)
           (fine.1 ∙ ap (solved_column (pass_of g.upper) g.n cs) (part_now (goal.at.loop-j-preserved c).In-loop-j))),
     )
 
@@ -75,7 +80,7 @@ returns c =
     let wide_now : let g = c.args in length (columns g.n g.k c.loop-j.x) ≡ g.k = let g = c.args in length_columns g.n g.k c.loop-j.x in
     let wide : let g = c.args in length (columns g.n g.k g.x.now) ≡ g.k = let g = c.args in length_columns g.n g.k g.x.now in
     let g = c.args in
-    let end = passing_end _ _ _ _ _ _ _ c.loop-j.invariant.1 (wide) (wide_now) c.loop-j-test.false in
+    let end = passing_end _ _ _ _ _ _ _ c.loop-j.invariant.1 wide wide_now c.loop-j-test.false in
     record { fine = λ _. end; spoilt = λ h. absurd (let n : ⊥ = omega arith in n) }
 
 pub loop-j-init : goal.loop-j-init
@@ -95,8 +100,11 @@ slice_bounds-overflow_in_column-end c = within c
 
 pub shape_of-x-then-row-n : goal.shape_of-x-then-row-n
 shape_of-x-then-row-n c =
-    let kept : let g = c.args in length c.overflow_in_column-row.new.b ≡ length (mid_of (c.loop-j.j * g.n) (c.loop-j.j * g.n + g.n - c.loop-j.j * g.n) c.loop-j.x) = c.overflow_in_column-row.auto.b in
-    let long : let g = c.args in length (put_mid (c.loop-j.j * g.n) (c.loop-j.j * g.n + g.n - c.loop-j.j * g.n) c.loop-j.x c.overflow_in_column-row.new.b) ≡ length g.x.now = let g = c.args in same_len_mid (c.loop-j.j * g.n) (c.loop-j.j * g.n + g.n - c.loop-j.j * g.n) c.loop-j.x c.overflow_in_column-row.new.b (kept) ∙ c.loop-j.invariant.0 in
+    let kept : let g = c.args in length c.overflow_in_column-row.new.b
+    ≡ length (mid_of (c.loop-j.j * g.n) (c.loop-j.j * g.n + g.n - c.loop-j.j * g.n) c.loop-j.x) = c.overflow_in_column-row.auto.b in
+    let long : let g = c.args in length (put_mid (c.loop-j.j * g.n) (c.loop-j.j * g.n + g.n - c.loop-j.j * g.n) c.loop-j.x c.overflow_in_column-row.new.b)
+    ≡ length g.x.now = let g = c.args in same_len_mid (c.loop-j.j * g.n) (c.loop-j.j * g.n + g.n - c.loop-j.j * g.n) c.loop-j.x
+    c.overflow_in_column-row.new.b kept ∙ c.loop-j.invariant.0 in
     long
 
 pub shape_of-x : goal.shape_of-x

@@ -47,13 +47,16 @@ none_low : (c : After-overflow_in_pass-arg-2-1) → let g = c.args in let n = g.
     × (columns n g.k c.overflow_in_pass-low.new.x ≡ lower_sides n (columns n n g.factors.now) swaps (columns n g.k g.x.now))
 unfolding in_order
 none_low c =
-    let sides : let g = c.args in columns g.told.rows g.k c.apply_to_rows.new.s ≡ swapped_sides (pairs_of g.told.pairs g.swaps.now) (columns g.told.rows g.k g.x.now) = let g = c.args in (by_swaps g.told.rows g.k false _ _ g.swaps.now g.x.now _ c.requires.rows_value.1 c.requires.rows_value_2.0 c.apply_to_rows.ensures c.apply_to_rows.auto.s).each in
+    let sides : let g = c.args in columns g.told.rows g.k c.apply_to_rows.new.s ≡ swapped_sides (pairs_of g.told.pairs g.swaps.now)
+    (columns g.told.rows g.k g.x.now) = let g = c.args in
+    (by_swaps g.told.rows g.k false _ _ g.swaps.now g.x.now _ c.requires.rows_value.1 c.requires.rows_value_2.0 c.apply_to_rows.ensures
+    c.apply_to_rows.auto.s).each in
     let g = c.args in
     let n = g.told.rows in
     let cs = columns n n g.factors.now in
     let fine = c.overflow_in_pass-low.ensures.fine c.if-low-k.false in (
-      ap (first_in_pass (GivenDiagonal one64) n cs) (sym (sides)) ∙ fine.0,
-      fine.1 ∙ ap (solved_columns (GivenDiagonal one64) n cs) (sides),
+      ap (first_in_pass (GivenDiagonal one64) n cs) (sym sides) ∙ fine.0,
+      fine.1 ∙ ap (solved_columns (GivenDiagonal one64) n cs) sides,
     )
 
 pub overflow_in_pass-low-requires : goal.overflow_in_pass-low-requires
@@ -63,19 +66,25 @@ pub returns-then-low-k : goal.returns-then-low-k
 returns-then-low-k c =
     let found = c.overflow_in_pass-low.ensures.spoilt c.if-low-k.true in
     let g = c.args in
-    found_lower g.told.rows _ (pairs_of g.told.pairs g.swaps.now) _ (rows (goal.at.returns-then-low-k c).After-overflow_in_pass-arg-1) (ok (goal.at.returns-then-low-k c).After-overflow_in_pass-arg-1) found.0 _ _
+    found_lower g.told.rows _ (pairs_of g.told.pairs g.swaps.now) _ (rows (goal.at.returns-then-low-k c).After-overflow_in_pass-arg-1)
+    (ok (goal.at.returns-then-low-k c).After-overflow_in_pass-arg-1) found.0 _ _
     (ap (first_in_pass _ _ _) (sym (sides (goal.at.returns-then-low-k c).After-overflow_in_pass-arg-1)) ∙ found.1)
 
 pub overflow_in_pass-up-requires : goal.overflow_in_pass-up-requires
-overflow_in_pass-up-requires c =
-    (c.requires.rows_value.0, shaped (goal.at.overflow_in_pass-up-requires c).After-overflow_in_pass-arg-1 _ (c.overflow_in_pass-low.auto.x ∙ c.apply_to_rows.auto.s), c.requires.rows_value.2)
+overflow_in_pass-up-requires c = (
+  c.requires.rows_value.0,
+  shaped (goal.at.overflow_in_pass-up-requires c).After-overflow_in_pass-arg-1 _ (c.overflow_in_pass-low.auto.x
+      ∙ c.apply_to_rows.auto.s),
+  c.requires.rows_value.2,
+)
 
 pub returns-then-up-k : goal.returns-then-up-k
 returns-then-up-k c =
     let g = c.args in
     let low = none_low (goal.at.returns-then-up-k c).After-overflow_in_pass-arg-2-1 in
     let found = c.overflow_in_pass-up.ensures.spoilt c.if-up-k.true in
-    found_upper g.told.rows _ (pairs_of g.told.pairs g.swaps.now) _ (rows (goal.at.returns-then-up-k c).After-overflow_in_pass-arg-1) (ok (goal.at.returns-then-up-k c).After-overflow_in_pass-arg-1) low.0 found.0 _ _
+    found_upper g.told.rows _ (pairs_of g.told.pairs g.swaps.now) _ (rows (goal.at.returns-then-up-k c).After-overflow_in_pass-arg-1)
+    (ok (goal.at.returns-then-up-k c).After-overflow_in_pass-arg-1) low.0 found.0 _ _
     (ap (first_in_pass Upper _ _) (sym low.1) ∙ found.1)
 
 pub returns : goal.returns
@@ -83,5 +92,6 @@ returns c =
     let g = c.args in
     let low = none_low (goal.at.returns c).After-overflow_in_pass-arg-2-1 in
     let fine = c.overflow_in_pass-up.ensures.fine c.if-up-k.false in
-    found_none g.told.rows _ (pairs_of g.told.pairs g.swaps.now) _ (rows (goal.at.returns c).After-overflow_in_pass-arg-1) (ok (goal.at.returns c).After-overflow_in_pass-arg-1) low.0
+    found_none g.told.rows _ (pairs_of g.told.pairs g.swaps.now) _ (rows (goal.at.returns c).After-overflow_in_pass-arg-1)
+    (ok (goal.at.returns c).After-overflow_in_pass-arg-1) low.0
     (ap (first_in_pass Upper _ _) (sym low.1) ∙ fine.0)

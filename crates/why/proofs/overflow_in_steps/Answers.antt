@@ -19,13 +19,15 @@ nonzero_div-result c = let h = before_end (goal.at.nonzero_div-result c).After-p
 pub returns-then-at-s : goal.returns-then-at-s
 returns-then-at-s c =
     let found = c.first_not_finite-at.ensures in
-    stepping_found _ _ _ c.requires.0 _ _ _ c.loop-i.invariant (before_end (goal.at.returns-then-at-s c).After-plain_step-arg-1) c.plain_step.auto.s c.plain_step.ensures _
+    stepping_found _ _ _ c.requires.0 _ _ _ c.loop-i.invariant (before_end (goal.at.returns-then-at-s c).After-plain_step-arg-1) c.plain_step.auto.s
+    c.plain_step.ensures _
     (failing_some _ (rw found at c.if-at-s.true)) found
 
 pub loop-i-preserved : goal.loop-i-preserved
 loop-i-preserved c =
     let found = c.first_not_finite-at.ensures in
-    stepping_on _ _ _ c.requires.0 _ _ _ c.loop-i.invariant (before_end (goal.at.loop-i-preserved c).After-plain_step-arg-1) c.plain_step.auto.s c.plain_step.ensures
+    stepping_on _ _ _ c.requires.0 _ _ _ c.loop-i.invariant (before_end (goal.at.loop-i-preserved c).After-plain_step-arg-1) c.plain_step.auto.s
+    c.plain_step.ensures
     (failing_all _ (rw found at c.if-at-s.false))
 
 pub returns : goal.returns

@@ -21,6 +21,12 @@ returns-in-Factors c =
 
 pub returns-in-Refused : goal.returns-in-Refused
 returns-in-Refused c =
-    let e = by_factors _ _ _ (filed_refused _ _ _ _ _ (c.factor_file.ensures.result_value, (c.factor_file.ensures.swaps_after, c.factor_file.ensures.matrix_len)) _ c.in-Refused.is)
+    let e = by_factors _ _ _ (filed_refused _ _ _ _ _ (
+      c.factor_file.ensures.result_value,
+      (
+        c.factor_file.ensures.swaps_after,
+        c.factor_file.ensures.matrix_len,
+      ),
+    ) _ c.in-Refused.is)
     c.why_factors.ensures in
     record { result_value = e; placed = placed _ _ e }

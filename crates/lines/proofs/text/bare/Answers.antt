@@ -36,20 +36,24 @@ cast (negsuc n) held h = absurd (true≢false h)
 
 pub overflow_sub-result : goal.overflow_sub-result
 overflow_sub-result c =
-    let held : SFits w32 (to_z w32 (of_z w32 c.args.number)) = let fits : SFits w32 c.args.number = record { sfits = c.well_formed.0 } in subst (SFits w32) (sym (to_z-of_z w32 c.args.number fits)) fits in
-    minus_held _ (held) c.if-number-lt0.true
+    let held : SFits w32 (to_z w32 (of_z w32 c.args.number)) = let fits : SFits w32 c.args.number = record { sfits = c.well_formed.0 } in
+    subst (SFits w32) (sym (to_z-of_z w32 c.args.number fits)) fits in
+    minus_held _ held c.if-number-lt0.true
 
 pub overflow_cast-result : goal.overflow_cast-result
 overflow_cast-result c =
-    let held : SFits w32 (to_z w32 (of_z w32 c.args.number)) = let fits : SFits w32 c.args.number = record { sfits = c.well_formed.0 } in subst (SFits w32) (sym (to_z-of_z w32 c.args.number fits)) fits in
-    minus_cast _ (held) c.if-number-lt0.true
+    let held : SFits w32 (to_z w32 (of_z w32 c.args.number)) = let fits : SFits w32 c.args.number = record { sfits = c.well_formed.0 } in
+    subst (SFits w32) (sym (to_z-of_z w32 c.args.number fits)) fits in
+    minus_cast _ held c.if-number-lt0.true
 
 pub overflow_add-result : goal.overflow_add-result
 overflow_add-result c =
-    let held : SFits w32 (to_z w32 (of_z w32 c.args.number)) = let fits : SFits w32 c.args.number = record { sfits = c.well_formed.0 } in subst (SFits w32) (sym (to_z-of_z w32 c.args.number fits)) fits in
-    minus_more _ (held) c.if-number-lt0.true
+    let held : SFits w32 (to_z w32 (of_z w32 c.args.number)) = let fits : SFits w32 c.args.number = record { sfits = c.well_formed.0 } in
+    subst (SFits w32) (sym (to_z-of_z w32 c.args.number fits)) fits in
+    minus_more _ held c.if-number-lt0.true
 
 pub overflow_cast-result-2 : goal.overflow_cast-result-2
 overflow_cast-result-2 c =
-    let held : SFits w32 (to_z w32 (of_z w32 c.args.number)) = let fits : SFits w32 c.args.number = record { sfits = c.well_formed.0 } in subst (SFits w32) (sym (to_z-of_z w32 c.args.number fits)) fits in
-    cast _ (held) c.if-number-lt0.false
+    let held : SFits w32 (to_z w32 (of_z w32 c.args.number)) = let fits : SFits w32 c.args.number = record { sfits = c.well_formed.0 } in
+    subst (SFits w32) (sym (to_z-of_z w32 c.args.number fits)) fits in
+    cast _ held c.if-number-lt0.false
