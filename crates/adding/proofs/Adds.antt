@@ -33,9 +33,9 @@ use Rattle.elimination.specs.Adding.{reduced, add_column}
 use Rattle.elimination.specs.Own.{own_row, own_column}
 use Rattle.elimination.specs.TossUps.{toss_at, own_toss_up}
 use Rattle.elimination.proofs.Own.{joined, own_from, length_own, length_reduced, adding_joins}
-use Rattle.lu.specs.Factoring.{with_toss_ups}
+use Rattle.lu.specs.Factoring.{with_toss_ups, factored}
 use Rattle.adding.specs.declared.Added.TheVariants.{Accepted, Refused}
-use Rattle.adding.specs.Adding.{adding_asks, older_in, adding_refusal, older_factors, adding_settled, adding, added, record_in, adding_answer}
+use Rattle.adding.specs.Adding.{adding_asks, older_in, adding_refusal, older_factors, adding_settled, adding, adding_answer, record_left}
 use Rattle.adding.specs.Inner.{Ready, with_reduced, Joined, AddedTo}
 use Rattle.adding.proofs.Slot.{older, older_flat, slot_lent, slot_part, older_exchanged}
 
@@ -123,7 +123,7 @@ module _ (r : Record) (s c : Column) (store : List ℕ) where
       no t = rw (fits ∙ t) (without_room t (good_list store r.pairs m (min m n)) (all_finite (take a s) && all_finite c) (dead_of (take a s) m n))
 
   pub refused_by : (number : ℕ) → number ≡ adding_refusal s c store r → (number ≡ 0 → ⊥) → AddedTo s c store r (Refused number r) s store
-  unfolding adding added record_in adding_answer with_toss_ups and_then record_after
+  unfolding adding adding_answer with_toss_ups record_after
   refused_by number e ne =
       let w = tested_some (adding_refusal s c store r) (leaving (slices s store)) (adding_settled s store r (add_column m (older_factors s store r) c))
       (λ z. ne (e ∙ z)) in
@@ -174,7 +174,7 @@ module _ (r : Record) (s c : Column) (store : List ℕ) where
     -- the new column is not finite: the slot holds zeros
     promise_seven : (y s' : Column) → y ≡ own_column n x → all_finite y ≡ false → length s' ≡ length s → columns m (n + 1) s' ≡ columns m n s ++ zeros m ∷ []
         → AddedTo s c store r (Refused 7 r) s' store
-    unfolding adding_settled added record_in adding_answer with_toss_ups and_then record_after
+    unfolding adding_settled adding_answer with_toss_ups record_after
     promise_seven y s' is bad kept zeroed =
         let not_finite : all_finite (column (swap_in_all n (own_row n x) f.columns ++ own_column n x ∷ []) n) ≡ false =
         ap all_finite (last_is ∙ sym is) ∙ bad in
@@ -194,7 +194,7 @@ module _ (r : Record) (s c : Column) (store : List ℕ) where
         → dead ≡ r.dead + dead_at n y → length s' ≡ length s → columns m (n + 1) s' ≡ swap_in_all n p (columns m n s) ++ y ∷ []
         → Recorded n p r.pairs pairs' store store'
         → AddedTo s c store r (Accepted (record_of m (n + 1) pairs' dead) own) s' store'
-    unfolding adding_settled added record_in adding_answer with_toss_ups and_then record_after
+    unfolding adding_settled adding_answer with_toss_ups record_after
     promise_added y s' p pairs' own dead store' counted row is ok died kept made rec =
         let finite-there : all_finite (column (swap_in_all n (own_row n x) f.columns ++ own_column n x ∷ []) n) ≡ true =
         ap all_finite (last_is ∙ sym is) ∙ ok in
@@ -276,7 +276,7 @@ pub adding_changes : (r : Record) (s c : Column) (store : List ℕ) → number_o
     let p = own_row n x in
     ((adding s c store r).left.factors ≡ flat (swap_in_all n p (columns m n s)) ++ own_column n x)
     × ((adding s c store r).left.store ≡ cond (eqb p n) store (with_pair r.pairs n p store))
-unfolding adding_settled number_of
+unfolding adding_settled
 adding_changes r s c store e =
     let m = r.rows in
     let n = r.columns in
@@ -291,7 +291,7 @@ adding_changes r s c store e =
 -- THEOREM. And the new column is finite.
 pub adding_finite : (r : Record) (s c : Column) (store : List ℕ) → number_of (adding s c store r).answer ≡ 0
     → all_finite (own_column r.columns (reduced r.rows (older_factors s store r) c)) ≡ true
-unfolding adding_settled number_of
+unfolding adding_settled
 adding_finite r s c store e =
     let go = ready r s c store (no_refusal r s c store e) in
     test_cases (all_finite (own_column r.columns (reduced r.rows (older_factors s store r) c))) (λ t. t)

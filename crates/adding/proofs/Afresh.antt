@@ -71,7 +71,6 @@ pub record Given (m n : ℕ) (a out : Column) (store : List ℕ) (told : Record)
   pub told_is : told ≡ record_for m n (factors_of m n a)
 
 pub accepted_given : (m n : ℕ) (a out : Column) (store : List ℕ) (told : Record) → (factoring a m n out store).answer ≡ done told → Given m n a out store told
-unfolding number_of
 accepted_given m n a out store told e =
     let zero : number_of (factoring a m n out store).answer ≡ 0 = ap number_of e in
     let none = no_refusal m n a out store zero in
@@ -210,7 +209,7 @@ module _ (m n : ℕ) (a out : Column) (store : List ℕ) (none : factoring_refus
       settle_alike : (t : Bool) → all_finite (column g.columns n) ≡ t → all_finite (flat g.columns) ≡ t
           → ((adding_settled s w r g).answer ≡ (settled m (n + 1) g).answer)
           × (number_of (settled m (n + 1) g).answer ≡ 0 → adding_settled s w r g ≡ settled m (n + 1) g)
-      unfolding adding_settled settled number_of
+      unfolding adding_settled settled
       settle_alike true e d =
           rw (e, d) (
             refl,
@@ -240,7 +239,7 @@ module _ (m n : ℕ) (a out : Column) (store : List ℕ) (none : factoring_refus
         rw (one, two, held z, afresh_is lc) (settle_alike lc (all_finite (column (g lc).columns n)) refl (finite_is lc))
 
     refused_alike : (refusal ≡ 0 → ⊥) → Same added fresh
-    unfolding adding factoring number_of
+    unfolding adding factoring
     refused_alike h =
         let one = tested_some (adding_refusal s c w r) (leaving (slices s w)) (adding_settled s w r (add_column m (older_factors s w r) c))
         (λ z. h (sym same_refusal ∙ z)) in

@@ -1,20 +1,20 @@
 -- What adding a column answers and leaves, on every input: document 01, "Adding a column" and "Refusal numbers". A store s with room for one column more behind
 -- those of the record r, the raw column c, and the swap store.
-use Rattle.std.specs.Prelude.{true, false, cond, ◌&&◌, List, ◌++◌, ℕ, ◌+◌, ◌*◌, leb, eqb, length, take}
+use Rattle.std.specs.Prelude.{true, false, cond, ◌&&◌, List, ◌++◌, ℕ, ◌+◌, ◌*◌, leb, eqb, length, take, Result, Ok, Err}
 use Rattle.numbers.specs.Column.{Column, zeros}
 use Rattle.finite.specs.Finite.{all_finite}
 use Rattle.store.specs.Columns.{flat, is_matrix}
 use Rattle.store.specs.Steps.{column}
 use Rattle.refusals.specs.Outcome.{Outcome, done, refused, tested, leaving}
+use Rattle.refusals.specs.declared.Refusal.{Refusal}
 use Rattle.factors.specs.declared.Record.{Record}
 use Rattle.factors.specs.declared.Asks.{Asks}
 use Rattle.factors.specs.Factors.{Factors, written, record_for, factors_in, slices, Factoring}
 use Rattle.factors.specs.Held.{held_refusal}
 use Rattle.elimination.specs.Adding.{add_column}
 use Rattle.elimination.specs.TossUps.{own_toss_up}
+use Rattle.lu.specs.declared.Factored.{Factored}
 use Rattle.lu.specs.Factoring.{with_toss_ups}
-use Rattle.adding.specs.declared.Added.{Added}
-use Rattle.adding.specs.declared.Added.TheVariants.{Accepted, Refused}
 
 -- what adding asks besides: "n of 64 gives 1"; the store has room for one column more, and the raw column has m entries; it is finite
 abbrev pub adding_asks : Column → Column → Record → Asks
@@ -54,14 +54,10 @@ adding s c store r =
 
 -- ---- the answer: the record with the column's own toss-up (document 02, request 3), or the refusal; and in either case the record that is left
 
--- what each case of the answer stands for
-unfoldable pub added : Added → Outcome (Record × ℕ)
-added (Accepted told tossed) = done (told, tossed)
-added (Refused number told) = refused number
-
-unfoldable pub record_in : Added → Record
-record_in (Accepted told tossed) = told
-record_in (Refused number told) = told
+-- the record that the caller then holds: the one that is answered, or else the one before
+abbrev pub record_left : Record → Result Factored Refusal → Record
+record_left old (Ok f) = f.told
+record_left old (Err refusal) = old
 
 unfoldable pub adding_answer : Column → Column → List ℕ → Record → Outcome (Record × ℕ)
 adding_answer s c store r = with_toss_ups (own_toss_up r.rows (older_factors s store r) c) (adding s c store r).answer

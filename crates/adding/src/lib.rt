@@ -5,20 +5,17 @@ ghost use Rattle.std.specs.Prelude.{◌≡◌, true, cond, ◌+◌, ◌*◌, ◌
 ghost use Rattle.min_max.specs.TossUp.{toss_up};
 ghost use Rattle.store.specs.Columns.{columns, is_matrix};
 ghost use Rattle.swap_list.specs.SwapList.{good_list};
+ghost use Rattle.refusals.specs.Outcome.{outcome, number_of};
 ghost use Rattle.factors.specs.Factors.{record_after};
 ghost use Rattle.elimination.specs.Own.{own_row, own_column};
-ghost use Rattle.adding.specs.Adding.{adding_refusal, adding, added, record_in, adding_answer};
+ghost use Rattle.adding.specs.Adding.{adding_refusal, adding, record_left, adding_answer};
+ghost use Rattle.lu.specs.Factoring.{factored};
 ghost use Rattle.adding.specs.Inner.{Ready, with_reduced, Joined, AddedTo};
 
-use factors::{Asks, Record};
+use factors::Record;
+use lu::Factored;
 use min_max::FoundPivot;
-
-// What adding a column answers: the new record with 0 or 1 for a toss-up of its own pivot, or a refusal's number with the old record.
-#[derive(Clone, Copy)]
-pub enum Added {
-    Accepted { told: Record, toss_ups: usize },
-    Refused { number: usize, told: Record },
-}
+use refusals::Refusal;
 
 // Whether s holds n columns of m entries and room for one more.
 fn has_room(s: &[f64], m: usize, n: usize) -> bool
@@ -41,9 +38,9 @@ fn older(s: &[f64], m: usize, n: usize, room: bool) -> usize
     0
 }
 
-// The number of the refusal before the work, 0 for none.
-fn adding_refusal(s: &[f64], c: &[f64], swaps: &[usize], told: Record) -> usize
-    ensures { result ≡ adding_refusal s.now c.now swaps.now told }
+// Refuses what adding refuses before the work, by the tests in their order.
+fn test_adding(s: &[f64], c: &[f64], swaps: &[usize], told: Record) -> Result<(), Refusal>
+    ensures { number_of (outcome result) ≡ adding_refusal s.now c.now swaps.now told }
 {
     let m = told.rows;
     let n = told.columns;
@@ -55,9 +52,13 @@ fn adding_refusal(s: &[f64], c: &[f64], swaps: &[usize], told: Record) -> usize
     let front = &s[..a];
     let numbers = finite::all_finite_long(front) & finite::all_finite(c);
     let dead = dead_columns::dead_of(front, m, n);
-    let from5 = refusals::first(5, !numbers, refusals::first(9, told.dead != dead, 0));
-    let from4 = refusals::first(4, !list, from5);
-    refusals::first(1, sizes, refusals::first(3, !lengths, from4))
+    refusals::first_of(&[
+        (Refusal::Size, sizes),
+        (Refusal::Length, !lengths),
+        (Refusal::SwapList, !list),
+        (Refusal::NotFinite, !numbers),
+        (Refusal::DeadColumns, told.dead != dead),
+    ])
 }
 
 // The raw column c in the slot behind the n columns: permuted by the list, then updated by the older columns.
@@ -120,7 +121,12 @@ fn join(s: &mut [f64], swaps: &mut [usize], told: Record, piv: usize, dead: usiz
 }
 
 // Adds the raw column, past the tests.
-fn add_tested(s: &mut [f64], c: &[f64], swaps: &mut [usize], told: Record) -> Added
+fn add_tested(
+    s: &mut [f64],
+    c: &[f64],
+    swaps: &mut [usize],
+    told: Record,
+) -> Result<Factored, Refusal>
     requires { Ready s.old c.now swaps.old told }
     ensures { AddedTo s.old c.now swaps.old told result s.new swaps.new }
 {
@@ -132,28 +138,31 @@ fn add_tested(s: &mut [f64], c: &[f64], swaps: &mut [usize], told: Record) -> Ad
     let found = own_step(&mut s[a..e], n);
     if !finite::all_finite(&s[a..e]) {
         blas::fill_zero(&mut s[a..e]);
-        return Added::Refused { number: 7, told };
+        return Err(Refusal::Overflow);
     }
     let toss_ups = factors::count(found.tossed);
     let own = dead_columns::dead_at(&s[a..e], n);
     let dead = told.dead + own;
     let new = join(s, swaps, told, found.row, dead);
-    Added::Accepted {
+    Ok(Factored {
         told: new,
         toss_ups,
-    }
+    })
 }
 
-// Adds the raw column c to the factors in s, which has room for it behind its columns.
-pub fn add_column(s: &mut [f64], c: &[f64], swaps: &mut [usize], told: Record) -> Added
-    ensures result_value { added result ≡ adding_answer s.old c.now swaps.old told }
-    ensures result_value_2 { record_in result ≡ record_after told (adding s.old c.now swaps.old told).answer }
+// Adds the raw column c to the factors in s, which has room for it behind its columns. Answers the new record, and 0 or 1 for a toss-up of the column's own
+// pivot; a caller who is refused still holds the record before.
+pub fn add_column(
+    s: &mut [f64],
+    c: &[f64],
+    swaps: &mut [usize],
+    told: Record,
+) -> Result<Factored, Refusal>
+    ensures result_value { factored result ≡ adding_answer s.old c.now swaps.old told }
+    ensures record_value { record_left told result ≡ record_after told (adding s.old c.now swaps.old told).answer }
     ensures s_after { s.new ≡ (adding s.old c.now swaps.old told).left.factors }
     ensures swaps_after { swaps.new ≡ (adding s.old c.now swaps.old told).left.store }
 {
-    let number = adding_refusal(s, c, swaps, told);
-    if number != 0 {
-        return Added::Refused { number, told };
-    }
+    test_adding(s, c, swaps, told)?;
     add_tested(s, c, swaps, told)
 }

@@ -31,7 +31,7 @@ use Rattle.lu.proofs.Told.{Passed, passed, passes, worked, told_accepted, told_r
 use Rattle.lu.proofs.Shape.{factors_of, size_f, accepted_is, settled_number}
 use Rattle.adding.specs.declared.Added.{Added}
 use Rattle.adding.specs.declared.Added.TheVariants.{Accepted, Refused}
-use Rattle.adding.specs.Adding.{adding, added, adding_answer}
+use Rattle.adding.specs.Adding.{adding, adding_answer}
 use Rattle.adding.proofs.Afresh.{accepted_given, adding_afresh}
 use Rattle.adding.proofs.Front.{finite_front}
 use Rattle.adding.proofs.Tossed.{toss_added}
@@ -161,8 +161,8 @@ module _ (m n : ℕ) (a out : Column) (store : List ℕ) (none : factoring_refus
 
     -- THEOREM. Adding the next column to the outcome for k columns answers what factoring k + 1 columns answers, and where that is accepted leaves the same.
     pub next_built : let o = outcome_at m k a in
-        let added = adding (o.left.factors ++ z) next o.left.store x in
-        (added.answer ≡ (outcome_at m (k + 1) a).answer) × (number_of (outcome_at m (k + 1) a).answer ≡ 0 → added ≡ outcome_at m (k + 1) a)
+        let factored = adding (o.left.factors ++ z) next o.left.store x in
+        (factored.answer ≡ (outcome_at m (k + 1) a).answer) × (number_of (outcome_at m (k + 1) a).answer ≡ 0 → factored ≡ outcome_at m (k + 1) a)
     next_built =
         rw grown
         (adding_afresh m k (take (k * m) a) (zeros (k * m)) (replicate 128 0) x good next z (zeros ((k + 1) * m)) (replicate 128 0) lz
@@ -172,7 +172,7 @@ module _ (m n : ℕ) (a out : Column) (store : List ℕ) (none : factoring_refus
     module _ (s : Column) (store' : List ℕ) (t : Column) (store'' : List ℕ) (answer : Added) (room : k * m + m ≤ length s)
         (front_is : take (k * m) s ≡ (outcome_at m k a).left.factors) (store_is : store' ≡ (outcome_at m k a).left.store)
         (z-is : z ≡ take m (drop (k * m) s))
-        (called : added answer ≡ adding_answer (take (k * m + m) s) (take (k * m + m - k * m) (drop (k * m) a)) store' x)
+        (called : factored answer ≡ adding_answer (take (k * m + m) s) (take (k * m + m - k * m) (drop (k * m) a)) store' x)
         (t-is : t ≡ (adding (take (k * m + m) s) (take (k * m + m - k * m) (drop (k * m) a)) store' x).left.factors)
         (store''-is : store'' ≡ (adding (take (k * m + m) s) (take (k * m + m - k * m) (drop (k * m) a)) store' x).left.store) where
       abbrev o : Factoring
@@ -188,14 +188,14 @@ module _ (m n : ℕ) (a out : Column) (store : List ℕ) (none : factoring_refus
       same : adding (take (k * m + m) s) (take (k * m + m - k * m) (drop (k * m) a)) store' x ≡ adding whole next o.left.store x
       same = λ i. adding (part_is i) (take (add-sub_cancel_left (k * m) m i) (drop (k * m) a)) (store_is i) x
 
-      answer_is : added answer ≡ adding_answer whole next o.left.store x
+      answer_is : factored answer ≡ adding_answer whole next o.left.store x
       answer_is = called ∙ (λ i. adding_answer (part_is i) (take (add-sub_cancel_left (k * m) m i) (drop (k * m) a)) (store_is i) x)
 
       -- the call answered a record: the outcome for one column more, and its toss-ups
       pub went_on : (y : Record) (own : ℕ) → answer ≡ Accepted y own → Grown m k a y own (t ++ drop (k * m + m) s) store''
-      unfolding added adding_answer number_of own_toss_up
+      unfolding adding_answer own_toss_up
       went_on y own e =
-          let took = told_accepted _ _ y own (sym (ap added e) ∙ answer_is) in
+          let took = told_accepted _ _ y own (sym (ap factored e) ∙ answer_is) in
           let reached : (outcome_at m (k + 1) a).answer ≡ done y = sym next_built.0 ∙ took.0 in
           let all = same ∙ next_built.1 (ap number_of reached) in
           let long : length t ≡ (k + 1) * m = ap length (t-is ∙ ap (λ (q : Factoring). q.left.factors) all) ∙ outcome_long (k + 1) (omega arith) y reached in
@@ -212,9 +212,9 @@ module _ (m n : ℕ) (a out : Column) (store : List ℕ) (none : factoring_refus
 
       -- it refused: the whole is refused with 7
       pub gave_up : (number : ℕ) (y : Record) → answer ≡ Refused number y → all_finite (flat (factors_of m n a).columns) ≡ false
-      unfolding added adding_answer
+      unfolding adding_answer
       gave_up number y e =
-          let told = told_refused _ _ number (sym (ap added e) ∙ answer_is) in
+          let told = told_refused _ _ number (sym (ap factored e) ∙ answer_is) in
           let given : (outcome_at m (k + 1) a).answer ≡ refused number = sym next_built.0 ∙ told in
           front_refused (k + 1) (omega arith) (λ zero.
           let acc = accepted_is m (k + 1) (take ((k + 1) * m) a) (zeros ((k + 1) * m)) (replicate 128 0) (front_none (k + 1) (omega arith)) zero in
@@ -228,11 +228,11 @@ module _ (m n : ℕ) (a out : Column) (store : List ℕ) (none : factoring_refus
   whole_a : take (n * m) a ≡ a
   whole_a = take_all (n * m) a (omega (arith, (sized m n a (passed m n a out store none).matrix).size))
 
-  -- all columns were added
+  -- all columns were factored
   pub all_added : (s : Column) (store' : List ℕ) (r : Record) (tossed : ℕ) → tossed ≡ toss_ups m (columns m n (take (n * m) a)) → length s ≡ n * m
       → (outcome_at m n a).answer ≡ done r → take (n * m) s ≡ (outcome_at m n a).left.factors → store' ≡ (outcome_at m n a).left.store
       → AllAdded a m n (Done r tossed) s store'
-  unfolding settled factored with_toss_ups and_then
+  unfolding settled with_toss_ups
   all_added s store' r tossed counted len good s-is store_is =
       let given = accepted_given m n (take (n * m) a) (zeros (n * m)) (replicate 128 0) r good in
       let fin : all_finite (flat (factors_of m n a).columns) ≡ true = rw whole_a at given.finite in
@@ -248,7 +248,7 @@ module _ (m n : ℕ) (a out : Column) (store : List ℕ) (none : factoring_refus
 
   -- some column was not
   pub not_added : (s : Column) (store' : List ℕ) → all_finite (flat (factors_of m n a).columns) ≡ false → AllAdded a m n (Seventh 7) s store'
-  unfolding settled factored with_toss_ups and_then
+  unfolding settled with_toss_ups
   not_added s store' bad = record { answer = rw bad refl; held = λ fin. absurd (false≢true (sym bad ∙ fin)) }
 
   -- ---- the promise of building up, which is that of factoring
@@ -262,7 +262,7 @@ module _ (m n : ℕ) (a out : Column) (store : List ℕ) (none : factoring_refus
     -- the answer is a refusal: it is 7, and zeros are left
     pub built_seven : (number : ℕ) → r ≡ Seventh number → (zeroed : Column) (cleared : List ℕ) → length s ≡ n * m → zeroed ≡ zeros (length s)
         → cleared ≡ replicate (length store') 0 → length store' ≡ 128 → Promise m n a out store r zeroed cleared
-    unfolding settled factored factoring_answer with_toss_ups and_then store_of numbers_of
+    unfolding settled factoring_answer with_toss_ups store_of numbers_of
     built_seven number e zeroed cleared len z-is c-is room =
         let w = worked m n a out store none in
         test_cases (all_finite (flat (factors_of m n a).columns))
@@ -274,7 +274,7 @@ module _ (m n : ℕ) (a out : Column) (store : List ℕ) (none : factoring_refus
 
     -- it is a record: the outcome is factoring's
     pub built_all : (x : Record) (tossed : ℕ) → r ≡ Done x tossed → Promise m n a out store r s store'
-    unfolding settled factored factoring_answer with_toss_ups and_then
+    unfolding settled factoring_answer with_toss_ups
     built_all x tossed e =
         let w = worked m n a out store none in
         test_cases (all_finite (flat (factors_of m n a).columns))

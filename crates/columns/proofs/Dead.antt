@@ -45,7 +45,6 @@ module _ (r : Record) (s c : Column) (store : List ℕ) (next : Record) (e : (ad
 
   -- what is left, by its columns
   left_columns : columns m (n + 1) (adding s c store r).left.factors ≡ exchanged ++ own_column n x ∷ []
-  unfolding number_of
   left_columns =
       let go = ready-to-add r s c store (no_refusal r s c store (ap number_of e)) in
       let rows = rows_swap_in_all n m (own_row n x) (columns m n s) (older_rows m n s (sized m (n + 1) s go.room).size) in
@@ -57,7 +56,7 @@ module _ (r : Record) (s c : Column) (store : List ℕ) (next : Record) (e : (ad
 
   -- THEOREM. An accepted adding tells how many columns of the factors that it leaves are dead.
   pub adding_matches : next.dead ≡ dead_in m (columns m (n + 1) (adding s c store r).left.factors)
-  unfolding adding_settled number_of
+  unfolding adding_settled
   adding_matches =
       let go = ready-to-add r s c store (no_refusal r s c store (ap number_of e)) in
       let w : adding s c store r ≡ adding_settled s store r (joined n (own_row n x) (older_factors s store r) (own_column n x)) =
@@ -79,7 +78,7 @@ module _ (r : Record) (s : Column) (store : List ℕ) (next : Record) (e : (remo
   g = remove_column last f
 
   go : Ready s store r
-  unfolding number_of removing
+  unfolding removing
   go = ready r s store (none_given (removing_refusal s store r) (slices s store) (removing_made store r f) (ap number_of e))
 
   -- the columns that remain have m rows each

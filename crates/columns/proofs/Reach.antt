@@ -51,7 +51,6 @@ module _ (m n : ℕ) (a c z : Column) (r : Record) (o : Factoring) (h : Afresh m
 
 -- THEOREM. What was reached is what factoring those columns afresh gives: accepted, and the same record, factors and swap store.
 pub reached : (m n : ℕ) (a : Column) (r : Record) (o : Factoring) → Reached m n a r o → Afresh m n a r o
-unfolding number_of
 reached m n a r o (fresh n' a' out₀ store₀ r' good) = (good, λ out store lo ls. same_outcome m n a out₀ store₀ (ap number_of good) out store lo ls)
 reached m k b r o (added n a c z was next p how lz good) =
     let before = reached m n a was p how in (

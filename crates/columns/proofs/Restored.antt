@@ -175,7 +175,6 @@ module _ (m n : ℕ) (a out : Column) (store : List ℕ) (told : Record) (good :
       → let o = factoring a m (n + 1) out store in
       let left = factoring (take (n * m) a) m n out' store' in
       (number_of left.answer ≡ 0) × (removing o.left.factors o.left.store told ≡ slotted m left)
-  unfolding number_of
   removing_afresh out' store' lo ls =
       let yes : number_of (outcome_at m n a).answer ≡ 0 = front_accepted m (n + 1) a out store none n within (ap number_of good) in
       let left_is : factoring front m n out' store' ≡ accepted_as m n f =
@@ -203,7 +202,6 @@ pub removing_added : (m n : ℕ) (a out : Column) (store : List ℕ) (told : Rec
     → let o = factoring a m n out store in
     let added = adding (o.left.factors ++ z) c o.left.store told in
     (next : Record) → added.answer ≡ done next → removing added.left.factors added.left.store next ≡ slotted m o
-unfolding number_of
 removing_added m n a out store told good c z lz next accepted =
     let given = accepted_given m n a out store told good in
     let p = ok m n a out store given.none in

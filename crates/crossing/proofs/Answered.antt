@@ -30,7 +30,7 @@ factored_passes n a f e =
 -- THEOREM. Where a file's matrix is factored, its quick check is answered; so its refusals are the reader's 8, 1, 3, 5 and factoring's 7.
 pub stiffness_answered : (bytes : List ℕ) (f : Packed) → factors_in bytes ≡ done f
     → stiffness bytes ≡ done (scaled_determinant f.factors f.told.rows f.told.pairs)
-unfolding stiffness factors_in and_then scaled_by scaling
+unfolding stiffness factors_in scaled_by scaling
 stiffness_answered bytes f e =
     let o = tested_done (file_refusal bytes) (factors_of (matrix_of (pads_of bytes) bytes) (pads_of bytes)) f e in
     ap (λ (q : Outcome Packed). and_then q scaled_by) e

@@ -14,8 +14,8 @@ use Rattle.finite.specs.Finite.{all_finite}
 use Rattle.numbers.proofs.Choice.{cond_cases, test_cases}
 use Rattle.store.specs.Columns.{columns, flat}
 use Rattle.store.proofs.Columns.{is_matrix_lem, same_matrix}
-use Rattle.refusals.specs.Outcome.{Outcome, done, refused, number_of, first_holding, tested, and_then, Call, leaving}
-use Rattle.refusals.specs.Refusals.{answered, seventh}
+use Rattle.refusals.specs.Outcome.{Outcome, done, refused, number_of, first_holding, tested, and_then, Call, leaving, outcome}
+use Rattle.refusals.specs.Refusals.{seventh}
 use Rattle.refusals.specs.declared.Answer.{Answer}
 use Rattle.refusals.proofs.Outcomes.{tested_none, tested_some}
 use Rattle.factors.specs.declared.Record.{Record}
@@ -32,7 +32,7 @@ use Rattle.refusals.proofs.Cases.{done_same, refused_same, never_both}
 use Rattle.crossing.specs.declared.Held.{Held}
 use Rattle.crossing.specs.declared.Held.TheVariants.{Factors, Refused as NotHeld}
 use Rattle.crossing.specs.Below.{Packed, factors_of, toss_ups_of, system_of, solution_by}
-use Rattle.crossing.specs.Factors.{settled_in, swaps_left, factors_held}
+use Rattle.crossing.specs.Factors.{settled_in, swaps_left}
 
 empty_store : length {A = ℕ} (replicate 128 0) ≡ 128
 empty_store = length-replicate {A = ℕ} 128 0
@@ -42,8 +42,7 @@ abbrev pub held_for : Factored → Held
 held_for (Accepted told tossed) = Factors told tossed
 held_for (Refused number) = NotHeld number
 
-held_answer : (r : Factored) → factors_held (held_for r) ≡ factored r
-unfolding factors_held factored
+held_answer : (r : Factored) → factored (held_for r) ≡ factored r
 held_answer (Accepted told tossed) = refl
 held_answer (Refused number) = refl
 
@@ -76,7 +75,7 @@ module _ (n : ℕ) (a : Column) where
         → ((p : Packed) → p.told.rows ≡ n → P (done p) (record { answer = done p.told; left = slices p.factors p.swaps }))
         → P (refused 7) (leaving (slices (zeros (n * n)) (replicate 128 0)) 7)
         → (s : List ℕ) → length s ≡ 128 → P (factors_of a n) (factoring a n n a s)
-    unfolding factors_of settled and_then store_of numbers_of
+    unfolding factors_of settled store_of numbers_of
     factored_cases P accepts refuses s l =
         rw (is_settled s l, is_settled (replicate 128 0) empty_store)
         (test_cases (all_finite (flat made.columns)) (λ t. rw t (accepts _ refl)) (λ t. rw t refuses))
@@ -85,14 +84,14 @@ module _ (n : ℕ) (a : Column) where
         made = eliminate n (columns n n a)
 
     factored_told : (s : List ℕ) → length s ≡ 128 → (r : Factored) → factored r ≡ factoring_answer a n n a s
-        → factors_held (held_for r) ≡ and_then (factors_of a n) (λ p. done (p.told, toss_ups_of a n))
-    unfolding and_then factoring_answer with_toss_ups
+        → factored (held_for r) ≡ and_then (factors_of a n) (λ p. done (p.told, toss_ups_of a n))
+    unfolding factoring_answer with_toss_ups
     factored_told s l r e =
         held_answer r ∙ e
         ∙ factored_cases (λ o f. with_toss_ups (toss_ups_of a n) f.answer ≡ and_then o (λ p. done (p.told, toss_ups_of a n))) (λ p _. refl) refl s l
 
     factored_matrix : (s : List ℕ) → length s ≡ 128 → (factoring a n n a s).left.factors ≡ settled_in (and_then (factors_of a n) (λ p. done p.factors)) a
-    unfolding settled_in and_then
+    unfolding settled_in
     factored_matrix s l =
         factored_cases (λ o f. f.left.factors ≡ settled_in (and_then o (λ p. done p.factors)) a) (λ p _. refl) (ap zeros (sym good.size)) s l
 
@@ -104,10 +103,10 @@ module _ (n : ℕ) (a : Column) where
     pub factored_call : (s : List ℕ) → length s ≡ 128 → (made : Factored) (a₁ : Column) (s₁ : List ℕ)
         → (factored made ≡ factoring_answer a n n a s) × ((a₁ ≡ (factoring a n n a s).left.factors) × (s₁ ≡ (factoring a n n a s).left.store))
         → (held : Held) → held_for made ≡ held
-        → (factors_held held ≡ and_then (factors_of a n) (λ p. done (p.told, toss_ups_of a n)))
+        → (factored held ≡ and_then (factors_of a n) (λ p. done (p.told, toss_ups_of a n)))
         × ((a₁ ≡ settled_in (and_then (factors_of a n) (λ p. done p.factors)) a) × (s₁ ≡ swaps_left (factors_of a n) s))
     factored_call s l made a₁ s₁ e held h =
-        let told = ap factors_held (sym h) ∙ factored_told s l made e.0 in
+        let told = ap factored (sym h) ∙ factored_told s l made e.0 in
         (told, (e.1.0 ∙ factored_matrix s l, e.1.1 ∙ factored_swaps s l))
 
     pub factored_rows : (p : Packed) → factors_of a n ≡ done p → p.told.rows ≡ n
@@ -122,7 +121,7 @@ module _ (n : ℕ) (a : Column) where
     -- what it leaves goes by the length of what was there
     pub factored_settled : (x y : Column) → length x ≡ length y
         → settled_in (and_then (factors_of a n) (λ p. done p.factors)) x ≡ settled_in (and_then (factors_of a n) (λ p. done p.factors)) y
-    unfolding settled_in and_then
+    unfolding settled_in
     factored_settled x y e =
         factored_cases (λ o f. settled_in (and_then o (λ p. done p.factors)) x ≡ settled_in (and_then o (λ p. done p.factors)) y) (λ p _. refl)
         (ap zeros e) (replicate 128 0) empty_store
@@ -156,7 +155,7 @@ module _ (b was : Column) (P : Outcome Column → Call (Unit {0}) Column → Typ
     (seven : (m : ℕ) → P (refused 7) (leaving (zeros m) 7)) where
   solving_cases : (way : Way) (r : Record) (f : Column) (s : List ℕ) → length was ≡ r.rows
       → P (let o = solving_by way f s r b 1 (zeros r.rows) in and_then o.answer (λ _. done o.left)) (solving_by way f s r b 1 was)
-  unfolding seventh tested and_then
+  unfolding seventh tested
   solving_cases way r f s l =
       rw (same_matrix r.rows 1 (zeros r.rows) was (l ∙ sym (length-replicate r.rows zero64)))
       (test_cases (eqb number 0)
@@ -176,10 +175,9 @@ module _ (b was : Column) (P : Outcome Column → Call (Unit {0}) Column → Typ
   solution_cases false p = solving_cases solved p.told p.factors p.swaps
 
 module _ (t : Bool) (p : Packed) (b : Column) where
-  pub solved_answer : {A : Type 0} (was : Column) → length was ≡ p.told.rows → (answer : Answer) (number : ℕ) (n : A) → number ≡ number_of (answered answer)
-      → answered answer ≡ (system_of t p.factors p.swaps p.told b 1 was).answer
+  pub solved_answer : {A : Type 0} (was : Column) → length was ≡ p.told.rows → (answer : Answer) (number : ℕ) (n : A) → number ≡ number_of (outcome answer)
+      → outcome answer ≡ (system_of t p.factors p.swaps p.told b 1 was).answer
       → tested number refused (done n) ≡ and_then (solution_by t p b) (λ _. done n)
-  unfolding and_then number_of
   solved_answer was l answer number n d e =
       rw (d ∙ ap number_of e)
       (solution_cases b was (λ o f. tested (number_of f.answer) refused (done n) ≡ and_then o (λ _. done n)) (λ x _. tested_none 0 refused (done n) refl)

@@ -13,23 +13,23 @@ use Rattle.finite.specs.Finite.{all_finite}
 use Rattle.numbers.proofs.Each.{length_list}
 use Rattle.finite.proofs.Finite.{finite_append}
 use Rattle.numbers.proofs.Choice.{and_both, and_first}
-use Rattle.refusals.specs.Outcome.{Outcome, done, refused, tested, and_then, Call, leaving}
+use Rattle.refusals.specs.Outcome.{Outcome, done, refused, tested, and_then, Call, leaving, outcome}
 use Rattle.refusals.proofs.Outcomes.{tested_none, tested_some, tested_map}
 use Rattle.factors.specs.declared.Record.{Record}
 use Rattle.scaled_determinant.specs.declared.ScaledDet.{ScaledDet}
 use Rattle.scaled_determinant.specs.declared.ScaledDet.TheVariants.{Refused as NoNumber}
-use Rattle.scaled_determinant.specs.Determinant.{scaled_answer}
 use Rattle.panel_file.specs.declared.Panel.{Panel}
 use Rattle.panel_file.specs.declared.Panel.TheVariants.{Pads, Refused as NotRead}
 use Rattle.panel_file.specs.File.{pads_of, matrix_of, readings_of}
-use Rattle.panel_file.specs.Reading.{file_refusal, Stores as Lent, stores as lent, filled, reading, pads_read}
+use Rattle.panel_file.specs.Reading.{file_refusal, Stores as Lent, stores as lent, filled, reading}
 use Rattle.refusals.proofs.Cases.{done_same, never_both, tested_done, tested_refused, then_done, then_refused}
 use Rattle.panel_file.proofs.Reading.{square, file_whole, file_among, reading_fit}
 use Rattle.panel_file.proofs.Files.{numbers_parts}
 use Rattle.crossing.specs.declared.Held.{Held}
 use Rattle.crossing.specs.declared.Held.TheVariants.{Factors, Refused}
 use Rattle.crossing.specs.Below.{Packed, packed_in, factors_of, toss_ups_of, scaled_by}
-use Rattle.crossing.specs.Factors.{factors_in, toss_ups_in, tosses_given, stiffness, settled_in, fronted, swaps_left, Stores, stores, holding, factors_held}
+use Rattle.lu.specs.Factoring.{factored}
+use Rattle.crossing.specs.Factors.{factors_in, toss_ups_in, tosses_given, stiffness, settled_in, fronted, swaps_left, Stores, stores, holding}
 use Rattle.crossing.proofs.Below.{Good, factored_rows, factored_seven, factored_settled}
 
 pub taken_count : {A : Type 0} (k : ℕ) (s : List A) → k ≤ length s → k ≡ length (take k s)
@@ -95,16 +95,15 @@ module _ (bytes : List ℕ) where
     read_is : reading bytes (lent matrix readings) ≡ tested (file_refusal bytes) (leaving (lent matrix readings)) ready
     read_is = reading_fit bytes (lent matrix readings) (and_both _ _ (eq-eqb _ _ lm) (eq-eqb _ _ lr))
 
-    read_told : (made : Panel) → pads_read made ≡ (reading bytes (lent matrix readings)).answer → pads_read made ≡ tested (file_refusal bytes) refused (done n)
+    read_told : (made : Panel) → outcome made ≡ (reading bytes (lent matrix readings)).answer → outcome made ≡ tested (file_refusal bytes) refused (done n)
     read_told made m =
         m ∙ ap (λ (o : Call ℕ Lent). o.answer) read_is ∙ tested_map (λ (o : Call ℕ Lent). o.answer) (file_refusal bytes) (leaving (lent matrix readings)) ready
 
-    module _ (made : Panel) (M R : Column) (m : pads_read made ≡ (reading bytes (lent matrix readings)).answer)
+    module _ (made : Panel) (M R : Column) (m : outcome made ≡ (reading bytes (lent matrix readings)).answer)
         (em : M ≡ (reading bytes (lent matrix readings)).left.matrix) (er : R ≡ (reading bytes (lent matrix readings)).left.readings) where
       pub file_read : (k : ℕ) → made ≡ Pads k → Read bytes matrix readings M R k
-      unfolding pads_read
       file_read k t =
-          let told = tested_done (file_refusal bytes) (done n) k (sym (read_told made m) ∙ ap pads_read t) in
+          let told = tested_done (file_refusal bytes) (done n) k (sym (read_told made m) ∙ ap outcome t) in
           let same : k ≡ n = done_same k n (sym told.1) in
           let is = read_is ∙ tested_none (file_refusal bytes) (leaving (lent matrix readings)) ready told.0 in
           let whole : M ≡ matrix_of n bytes ++ drop (n * n) matrix = em ∙ ap (λ (o : Call ℕ Lent). o.left.matrix) is in
@@ -122,11 +121,11 @@ module _ (bytes : List ℕ) where
           }
 
       pub held_refused : (k : ℕ) → made ≡ NotRead k
-          → (factors_held (Refused k) ≡ (holding bytes (stores matrix readings swaps)).answer)
+          → (factored (Refused k) ≡ (holding bytes (stores matrix readings swaps)).answer)
           × (stores M R swaps ≡ (holding bytes (stores matrix readings swaps)).left)
-      unfolding holding pads_read factors_held and_then swaps_left
+      unfolding holding swaps_left
       held_refused k t =
-          tested_refused (file_refusal bytes) (done n) k (sym (read_told made m) ∙ ap pads_read t) (λ z e. never_both n k e)
+          tested_refused (file_refusal bytes) (done n) k (sym (read_told made m) ∙ ap outcome t) (λ z e. never_both n k e)
           (λ some e.
           let is = read_is ∙ tested_some (file_refusal bytes) (leaving (lent matrix readings)) ready some in
           rw (
@@ -140,10 +139,10 @@ module _ (bytes : List ℕ) where
           ))
 
     pub held_read : (M R : Column) (k : ℕ) → Read bytes matrix readings M R k → (held : Held) (A : Column) (S : List ℕ)
-        → factors_held held ≡ and_then (factors_of (take (k * k) M) k) (λ p. done (p.told, toss_ups_of (take (k * k) M) k))
+        → factored held ≡ and_then (factors_of (take (k * k) M) k) (λ p. done (p.told, toss_ups_of (take (k * k) M) k))
         → A ≡ settled_in (and_then (factors_of (take (k * k) M) k) (λ p. done p.factors)) (take (k * k) M)
         → S ≡ swaps_left (factors_of (take (k * k) M) k) swaps
-        → (factors_held held ≡ (holding bytes (stores matrix readings swaps)).answer)
+        → (factored held ≡ (holding bytes (stores matrix readings swaps)).answer)
         × (stores (A ++ drop (k * k) M) R S ≡ (holding bytes (stores matrix readings swaps)).left)
     unfolding holding
     held_read M R k w held A S h a s =
@@ -162,10 +161,10 @@ module _ (bytes : List ℕ) where
         (h ∙ ap₂ (λ (o : Outcome Packed) (t : ℕ). and_then o (λ p. done (p.told, t))) all tossed, (λ i. stores (front i ++ w.rest i) (read i) (swapped i)))
 
     -- ---- what a caller knows
-    module _ (held : Held) (M R : Column) (S : List ℕ) (h : factors_held held ≡ (holding bytes (stores matrix readings swaps)).answer)
+    module _ (held : Held) (M R : Column) (S : List ℕ) (h : factored held ≡ (holding bytes (stores matrix readings swaps)).answer)
         (l : stores M R S ≡ (holding bytes (stores matrix readings swaps)).left) where
       ready_by : (told : Record) (p : Packed) → factors_in bytes ≡ done p → p.told ≡ told → length M ≡ 4096 → Ready bytes M R S told
-      unfolding holding factors_in settled_in and_then swaps_left
+      unfolding holding factors_in settled_in swaps_left
       ready_by told p e d count =
           let passed = tested_done (file_refusal bytes) (factors_of (matrix_of n bytes) n) p e in
           let g = file_good passed.0 in
@@ -189,23 +188,23 @@ module _ (bytes : List ℕ) where
           }
 
       held_factors : (told : Record) (tossed : ℕ) → held ≡ Factors told tossed → length M ≡ 4096 → Ready bytes M R S told × (tossed ≡ toss_ups_in bytes)
-      unfolding holding factors_held
+      unfolding holding
       held_factors told tossed t count =
-          then_done (factors_in bytes) (λ p. done (p.told, toss_ups_in bytes)) (told, tossed) (sym h ∙ ap factors_held t)
+          then_done (factors_in bytes) (λ p. done (p.told, toss_ups_in bytes)) (told, tossed) (sym h ∙ ap factored t)
           (λ p e d.
           let same = done_same (p.told, toss_ups_in bytes) (told, tossed) d in
           (ready_by told p e (ap (λ (x : Record × ℕ). x.0) same) count, sym (ap (λ (x : Record × ℕ). x.1) same)))
 
       not_held : (k : ℕ) → held ≡ Refused k → factors_in bytes ≡ refused k
-      unfolding holding factors_held
+      unfolding holding
       not_held k t =
-          then_refused (factors_in bytes) (λ p. done (p.told, toss_ups_in bytes)) k (sym h ∙ ap factors_held t) (λ e. e)
+          then_refused (factors_in bytes) (λ p. done (p.told, toss_ups_in bytes)) k (sym h ∙ ap factored t) (λ e. e)
           (λ p e d. never_both (p.told, toss_ups_in bytes) k d)
 
   -- what `factor_file` ensures where its stores held zeros
   abbrev pub Filed : Held → Column → Column → List ℕ → Type 0
   Filed held M R S =
-      (factors_held held ≡ (holding bytes (stores (zeros 4096) (zeros 64) (replicate 128 0))).answer)
+      (factored held ≡ (holding bytes (stores (zeros 4096) (zeros 64) (replicate 128 0))).answer)
       × ((stores M R S ≡ (holding bytes (stores (zeros 4096) (zeros 64) (replicate 128 0))).left)
       × ((length M ≡ 4096) × (length R ≡ 64) × (length S ≡ 128)))
 
@@ -246,13 +245,13 @@ module _ (bytes : List ℕ) where
       (g.least, g.most)
 
   -- ---- the stiffness
-  pub stiffness_held : (p : Packed) (answer : ScaledDet) → factors_in bytes ≡ done p → scaled_answer answer ≡ scaled_by p → scaled_answer answer
+  pub stiffness_held : (p : Packed) (answer : ScaledDet) → factors_in bytes ≡ done p → outcome answer ≡ scaled_by p → outcome answer
       ≡ stiffness bytes
-  unfolding stiffness and_then
+  unfolding stiffness
   stiffness_held p answer e d = d ∙ ap (λ (o : Outcome Packed). and_then o scaled_by) (sym e)
 
-  pub stiffness_refused : (k : ℕ) → factors_in bytes ≡ refused k → scaled_answer (NoNumber k) ≡ stiffness bytes
-  unfolding stiffness and_then scaled_answer
+  pub stiffness_refused : (k : ℕ) → factors_in bytes ≡ refused k → outcome (NoNumber k) ≡ stiffness bytes
+  unfolding stiffness
   stiffness_refused k e = ap (λ (o : Outcome Packed). and_then o scaled_by) (sym e)
 
   pub tossed_held : (p : Packed) (tossed : ℕ) → factors_in bytes ≡ done p → tossed ≡ toss_ups_in bytes → tossed

@@ -3,11 +3,11 @@
 
 ghost use Rattle.std.specs.Prelude.{◌≡◌, true, ◌*◌, ◌≤◌, length};
 ghost use Rattle.finite.specs.Finite.{all_finite};
-ghost use Rattle.refusals.specs.Outcome.{done, and_then};
-ghost use Rattle.scaled_determinant.specs.Determinant.{scaled_answer};
+ghost use Rattle.refusals.specs.Outcome.{done, and_then, outcome};
 ghost use Rattle.scaled_determinant.specs.Range.{AnswerRanged};
 ghost use Rattle.crossing.specs.Below.{packed_in, factors_of, toss_ups_of, scaled_by};
-ghost use Rattle.crossing.specs.Factors.{factors_in, toss_ups_in, stiffness, tosses_given, settled_in, swaps_left, stores, holding, factors_held};
+ghost use Rattle.lu.specs.Factoring.{factored};
+ghost use Rattle.crossing.specs.Factors.{factors_in, toss_ups_in, stiffness, tosses_given, settled_in, swaps_left, stores, holding};
 
 use factors::Record;
 use lu::Factored;
@@ -31,7 +31,7 @@ pub struct QuickCheck {
 // Factors the n by n matrix a where it lies.
 fn factor_pads(n: usize, a: &mut [f64], swaps: &mut [usize]) -> Held
     requires { (1 ≤ n) × (n ≤ 64) × (length a.old ≡ n * n) × (all_finite a.old ≡ true) × (length swaps.old ≡ 128) }
-    ensures result_value { factors_held result ≡ and_then (factors_of a.old n) (λ p. done (p.told, toss_ups_of a.old n)) }
+    ensures result_value { factored result ≡ and_then (factors_of a.old n) (λ p. done (p.told, toss_ups_of a.old n)) }
     ensures a_after { a.new ≡ settled_in (and_then (factors_of a.old n) (λ p. done p.factors)) a.old }
     ensures swaps_after { swaps.new ≡ swaps_left (factors_of a.old n) swaps.old }
 {
@@ -44,7 +44,7 @@ fn factor_pads(n: usize, a: &mut [f64], swaps: &mut [usize]) -> Held
 // The same for the matrix of a file, in stores of 4096, 64 and 128.
 fn factor_read(file: &[u8], matrix: &mut [f64], readings: &mut [f64], swaps: &mut [usize]) -> Held
     requires { (length matrix.old ≡ 4096) × (length readings.old ≡ 64) × (length swaps.old ≡ 128) }
-    ensures result_value { factors_held result ≡ (holding file.now (stores matrix.old readings.old swaps.old)).answer }
+    ensures result_value { factored result ≡ (holding file.now (stores matrix.old readings.old swaps.old)).answer }
     ensures swaps_after { stores matrix.new readings.new swaps.new
         ≡ (holding file.now (stores matrix.old readings.old swaps.old)).left }
 {
@@ -64,7 +64,7 @@ pub fn factor_file(
     readings: &mut [f64; 64],
     swaps: &mut [usize; 128],
 ) -> Held
-    ensures result_value { factors_held result ≡ (holding file.now (stores matrix.old readings.old swaps.old)).answer }
+    ensures result_value { factored result ≡ (holding file.now (stores matrix.old readings.old swaps.old)).answer }
     ensures swaps_after { stores matrix.new readings.new swaps.new
         ≡ (holding file.now (stores matrix.old readings.old swaps.old)).left }
     ensures matrix_len { (length matrix.new ≡ 4096) × (length readings.new ≡ 64) × (length swaps.new ≡ 128) }
@@ -75,7 +75,7 @@ pub fn factor_file(
 // The scaled determinant by the factors in front of their store, or the refusal handed on.
 fn determinant_of(matrix: &[f64], swaps: &[usize], told: Record) -> ScaledDet
     requires { (told.rows ≤ 64) × (length matrix.now ≡ 4096) }
-    ensures result_value { scaled_answer result ≡ scaled_by (packed_in matrix.now swaps.now told) }
+    ensures result_value { outcome result ≡ scaled_by (packed_in matrix.now swaps.now told) }
     ensures answer_ranged { AnswerRanged result }
 {
     let n = told.rows;
@@ -89,7 +89,7 @@ fn determinant_of(matrix: &[f64], swaps: &[usize], told: Record) -> ScaledDet
 
 // The quick check of a crossing's stiffness: the scaled determinant of a panel file's matrix, or the refusal.
 pub fn stiffness(file: &[u8]) -> QuickCheck
-    ensures determinant_value { scaled_answer result.determinant ≡ stiffness file.now }
+    ensures determinant_value { outcome result.determinant ≡ stiffness file.now }
     ensures answer_ranged { AnswerRanged result.determinant }
     ensures toss_ups_value { result.toss_ups ≡ tosses_given (factors_in file.now) (toss_ups_in file.now) }
 {

@@ -77,7 +77,7 @@ module _ (bytes : List ℕ) (pad : ℕ) where
         behind ∙ rw there (tested_cases (file_refusal bytes) (λ k. k) 0 (λ x. x ≡ file_refusal bytes) (λ z. sym z) (λ _. refl))
 
     moves_are : moves_of bytes pad ≡ and_then (factors_in bytes) next
-    unfolding moves_of factors_in and_then
+    unfolding moves_of factors_in
     moves_are =
         rw same_refusal
         (tested_cases (file_refusal bytes) refused (and_then (factors_in bytes) next) (λ o. o ≡ and_then (factors_in bytes) next) (λ _. refl)
@@ -89,7 +89,7 @@ module _ (bytes : List ℕ) (pad : ℕ) where
           → pads_ordered answer ≡ and_then (solution_by true (packed_in M S told) (unit_column told.rows (pad - 1))) (λ _. done (told.rows, tossed))
           → x ≡ fronted told.rows (solution_by true (packed_in M S told) (unit_column told.rows (pad - 1))) out
           → (pads_ordered answer ≡ (moving bytes pad out).answer) × (x ≡ (moving bytes pad out).left)
-      unfolding moving and_then
+      unfolding moving
       moving_held told M S e d tossed t answer x p f =
           let same : solution_by true (packed_in M S told) (unit_column told.rows (pad - 1)) ≡ moves_of bytes pad =
           ap (λ (k : ℕ). solution_by true (packed_in M S told) (unit_column k (pad - 1))) d ∙ ap (λ (o : Outcome Packed). and_then o next) (sym e)
@@ -98,7 +98,7 @@ module _ (bytes : List ℕ) (pad : ℕ) where
 
       pub moving_refused : (k m : ℕ) (answer : Order) (x : Column) → factors_in bytes ≡ refused k → m ≡ n → answer ≡ Refused k → x ≡ fronted m (refused k) out
           → (pads_ordered answer ≡ (moving bytes pad out).answer) × (x ≡ (moving bytes pad out).left)
-      unfolding moving and_then pads_ordered
+      unfolding moving pads_ordered
       moving_refused k m answer x e d a f =
           let same : refused k ≡ moves_of bytes pad = ap (λ (o : Outcome Packed). and_then o next) (sym e) ∙ sym moves_are in
           (ap pads_ordered a ∙ ap (λ (o : Outcome Column). and_then o (λ _. done (n, toss_ups_in bytes))) same, f ∙ (λ i. fronted (d i) (same i) out))
@@ -128,7 +128,7 @@ module _ (bytes : List ℕ) (pad : ℕ) where
 
     pub moving_nowhere : (out : Column) (m : ℕ) (answer : Order) (x : Column) → m ≡ n → answer ≡ Refused k → x ≡ fronted m (refused k) out
         → (pads_ordered answer ≡ (moving bytes pad out).answer) × (x ≡ (moving bytes pad out).left)
-    unfolding moving moves_of and_then pads_ordered
+    unfolding moving moves_of pads_ordered
     moving_nowhere out m answer x c a f =
         let same : refused k ≡ moves_of bytes pad = ap refused (sym is) ∙ sym (tested_some (moves_refusal bytes pad) refused _ (λ z. some (sym is ∙ z))) in
         (ap pads_ordered a ∙ ap (λ (o : Outcome Column). and_then o (λ _. done (n, toss_ups_in bytes))) same, f ∙ (λ i. fronted (c i) (same i) out))

@@ -93,7 +93,7 @@ module _ (bytes : List ℕ) where
         → r ≡ ranks_left told.rows (solution_in false M S told R) ranks → x ≡ fronted told.rows (solution_in false M S told R) loads
         → (pads_ordered answer ≡ (ordering bytes ranks loads).answer)
         × ((r ≡ (ordering bytes ranks loads).left.ranks) × (x ≡ (ordering bytes ranks loads).left.loads))
-    unfolding ordering loads_of and_then
+    unfolding ordering loads_of
     ordering_held told M R S e d b tossed t answer r x p q f =
         let same : solution_in false M S told R ≡ loads_of bytes =
         ap (solution_by false (packed_in M S told)) b ∙ ap (λ (o : Outcome Packed). and_then o (λ f. solution_by false f (readings_of n bytes))) (sym e) in
@@ -102,7 +102,7 @@ module _ (bytes : List ℕ) where
     pub ordering_refused : (k m : ℕ) (answer : Order) (x : Column) → factors_in bytes ≡ refused k → m ≡ n → answer ≡ Refused k → x ≡ fronted m (refused k) loads
         → (pads_ordered answer ≡ (ordering bytes ranks loads).answer)
         × ((ranks ≡ (ordering bytes ranks loads).left.ranks) × (x ≡ (ordering bytes ranks loads).left.loads))
-    unfolding ordering loads_of and_then pads_ordered ranks_left
+    unfolding ordering loads_of pads_ordered ranks_left
     ordering_refused k m answer x e d a f =
         let same : refused k ≡ loads_of bytes = ap (λ (o : Outcome Packed). and_then o (λ f. solution_by false f (readings_of n bytes))) (sym e) in (
           ap pads_ordered a ∙ ap (λ (o : Outcome Column). and_then o (λ _. done (n, toss_ups_in bytes))) same,

@@ -2,9 +2,11 @@
 #![tactic(auto)]
 
 ghost use Rattle.std.specs.Prelude.{◌≡◌, cond, length, replicate};
-ghost use Rattle.refusals.specs.Outcome.{first_holding};
+ghost use Rattle.refusals.specs.Outcome.{outcome, number_of};
 ghost use Rattle.factors.specs.Factors.{pairs_with, store_with};
-ghost use Rattle.factors.specs.Held.{dead_tests, held_refusal};
+ghost use Rattle.factors.specs.Held.{held_refusal};
+
+use refusals::Refusal;
 
 // What factoring tells beside the lent factors and swap store: the sizes, the recorded pairs and the dead columns. Every call on factors takes the three
 // together.
@@ -28,34 +30,32 @@ pub struct Asks {
     pub numbers: bool,
 }
 
-// The tests 9 and 6 on the number of dead columns, 0 for none.
-fn dead_refusal(factors: &[f64], told: Record, solves: bool) -> usize
-    ensures { result ≡ first_holding (dead_tests factors.now told solves) }
-{
-    let dead = dead_columns::dead_of(factors, told.rows, told.columns);
-    let singular = solves & (told.dead != 0);
-    refusals::first(9, told.dead != dead, refusals::first(6, singular, 0))
-}
-
-// The refusal that a call on factors meets, 0 for none: the factors, the swap store and the record tested together.
-pub fn held_refusal(factors: &[f64], swaps: &[usize], told: Record, asks: Asks) -> usize
-    ensures { result ≡ held_refusal factors.now swaps.now told asks }
+// Refuses what every call on factors refuses: the factors, the swap store and the record tested together, in the order of the numbers but for 9, which
+// comes before 6.
+pub fn test_held(
+    factors: &[f64],
+    swaps: &[usize],
+    told: Record,
+    asks: Asks,
+) -> Result<(), Refusal>
+    ensures { number_of (outcome result) ≡ held_refusal factors.now swaps.now told asks }
 {
     let m = told.rows;
     let n = told.columns;
     let sizes = refusals::outside(1, m) | refusals::outside(0, n) | !asks.sizes;
-    let shape = asks.square & (m != n);
     let lengths = store::is_matrix(factors, m, n) & (swaps.len() == 128) & asks.lengths;
     let good = swap_list::is_good_list(swaps, told.pairs, m, store::min(m, n));
-    let list = good & asks.list;
     let numbers = finite::all_finite_long(factors) & asks.numbers;
-    let from9 = dead_refusal(factors, told, asks.solves);
-    let from4 = refusals::first(4, !list, refusals::first(5, !numbers, from9));
-    refusals::first(
-        1,
-        sizes,
-        refusals::first(2, shape, refusals::first(3, !lengths, from4)),
-    )
+    let dead = dead_columns::dead_of(factors, m, n);
+    refusals::first_of(&[
+        (Refusal::Size, sizes),
+        (Refusal::NotSquare, asks.square & (m != n)),
+        (Refusal::Length, !lengths),
+        (Refusal::SwapList, !(good & asks.list)),
+        (Refusal::NotFinite, !numbers),
+        (Refusal::DeadColumns, told.dead != dead),
+        (Refusal::Singular, asks.solves & (told.dead != 0)),
+    ])
 }
 
 // A truth as a number.

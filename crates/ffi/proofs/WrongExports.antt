@@ -39,7 +39,7 @@ use Rattle.ffi.specs.Exports.{value_after, result_after, pads_in, count_in}
 
 -- a name for all that has to unfold for a call to be refused
 Refuses : Type 0
-unfolding is_matrix number_of first_holding outside tested and_then ranking_refusal ranking record_after held_refusal factoring_refusal factoring
+unfolding is_matrix first_holding outside tested ranking_refusal ranking record_after held_refusal factoring_refusal factoring
     with_toss_ups factoring_answer
     pairs_in dead_columns_in tossed_in adding_refusal adding adding_answer solving inverting producing determining scaling inverse_test little_endian
     field_at headed

@@ -6,8 +6,8 @@ pub mod four;
 
 ghost use Rattle.std.specs.Prelude.{◌≡◌};
 ghost use Rattle.numbers.specs.Numbers.{zero64};
-ghost use Rattle.refusals.specs.Outcome.{number_of};
-ghost use Rattle.ranking.specs.Ranking.{loaded, every_pad, ranking, pads_listed};
+ghost use Rattle.refusals.specs.Outcome.{number_of, outcome};
+ghost use Rattle.ranking.specs.Ranking.{loaded, every_pad, ranking};
 ghost use Rattle.factors.specs.Factors.{record_of, record_after};
 ghost use Rattle.lu.specs.Factoring.{factoring, factoring_answer, pairs_in, dead_columns_in, tossed_in};
 ghost use Rattle.adding.specs.Adding.{adding, adding_answer};
@@ -265,8 +265,8 @@ pub fn wejdarox_is_invertible(
 
 // The number of listed pads through count, 0 where the ranking was refused. Answers the refusal's number.
 fn tell_count(answer: Listed, count: &mut usize) -> usize
-    ensures value { result ≡ number_of (pads_listed answer) }
-    ensures count_after { count.new ≡ count_in (pads_listed answer) }
+    ensures value { result ≡ number_of (outcome answer) }
+    ensures count_after { count.new ≡ count_in (outcome answer) }
 {
     match answer {
         Listed::Pads(listed) => {

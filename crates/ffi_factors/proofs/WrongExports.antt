@@ -19,7 +19,7 @@ use Rattle.ffi.proofs.WrongExports.{no_sizes, one_by_one, swapped, numbered}
 
 -- a name for all that has to unfold for a call to be refused
 Refuses : Type 0
-unfolding is_matrix number_of first_holding outside tested record_after held_refusal removing_refusal removing lowering uppering tr_solving
+unfolding is_matrix first_holding outside tested record_after held_refusal removing_refusal removing lowering uppering tr_solving
 Refuses = Unit {0}
 
 -- ---- removing: the pairs, or the dead columns, lost where it is refused

@@ -19,7 +19,7 @@ use Rattle.ffi_files.specs.Files.{writing_answer}
 
 -- a name for all that has to unfold for a call to be refused
 Refuses : Type 0
-unfolding number_of first_holding tested and_then outside tossed_in little_endian field_at headed file_tests reading_refusal reading writing_refusal
+unfolding first_holding tested outside tossed_in little_endian field_at headed file_tests reading_refusal reading writing_refusal
     moves_refusal moves_of
     moving pads_in count_in
 Refuses = Unit {0}

@@ -21,7 +21,7 @@ use Rattle.ffi_reasons.specs.Why.{place_or, place_told, spot_or, spot_told}
 
 -- a name for all that has to unfold for a call to be refused
 Refuses : Type 0
-unfolding is_matrix number_of first_holding outside tested held_refusal factoring_refusal factoring with_toss_ups factoring_answer solving
+unfolding is_matrix first_holding outside tested held_refusal factoring_refusal factoring with_toss_ups factoring_answer solving
 Refuses = Unit {0}
 
 -- ---- the number that is told and its place; the sizes exchanged

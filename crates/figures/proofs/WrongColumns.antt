@@ -25,8 +25,8 @@ use Rattle.one_step.specs.OneStep.{step_column, step_columns, eliminated}
 use Rattle.four_steps.specs.FourSteps.{step_by, four_steps, four_stepped, four_stepped_on}
 use Rattle.refusals.specs.declared.Answer.{Answer}
 use Rattle.refusals.specs.declared.Answer.TheVariants.{Done, Refused}
-use Rattle.refusals.specs.Outcome.{Outcome, done, refused, number_of, first_holding, tested, Call}
-use Rattle.refusals.specs.Refusals.{outside, answered, seventh}
+use Rattle.refusals.specs.Outcome.{Outcome, done, refused, number_of, first_holding, tested, Call, outcome}
+use Rattle.refusals.specs.Refusals.{outside, seventh}
 use Rattle.refusals.proofs.Strength.{ShutsOut, shut_out, TwoShutOut, two, done_refused}
 use Rattle.from_factors.proofs.Figures.{leaves, n0, n1, n2}
 
@@ -38,7 +38,7 @@ unfolding add sub mul div neg eq lt of_bits each_from turns_from is_zero magnitu
     eight_sums pair_sums dot_of columns flat is_matrix on_columns swap_in_all rows_swapped step_column step_columns eliminated step_by four_steps
     four_stepped four_stepped_on
     first_holding outside tested
-    answered number_of seventh
+    outcome number_of seventh
 Runs = Unit {0}
 
 abbrev -n1 : Float
@@ -288,7 +288,7 @@ answer_for = two answers_for refused 0 0 1 done_refused done_refused
 
 -- 1 for every refusal
 abbrev numbers : Answer → ℕ
-numbers answer = number_of (answered answer)
+numbers answer = number_of (outcome answer)
 
 abbrev told_one : Answer → ℕ
 told_one Done = 0

@@ -48,7 +48,7 @@ use Rattle.triangular_passes.specs.Triangular.{solved_from}
 
 -- a name for all that has to unfold for a file to be read, factored and solved
 Answers : Type 0
-unfolding Transposes Scales shared_from toss_up toss_at toss_from toss_ups first_holding outside tested and_then little_endian field_at headed number_at
+unfolding Transposes Scales shared_from toss_up toss_at toss_from toss_ups first_holding outside tested little_endian field_at headed number_at
     file_tests file_refusal
     reading_refusal reading factors_of solution_by
     scaled_by factors_in stiffness settled_in ahead insert_pad ranked pads_to loads_of ranks_left ordering moves_refusal moves_of moving
@@ -136,7 +136,7 @@ abbrev idle : (Crossing → Outcome ℕ) → Crossing → Call ℕ (List ℕ)
 idle answer x = record { answer = answer x; left = x.out }
 
 pub write : StrongBy Writes ((answer : Crossing → Outcome ℕ) → Keeps Writes (idle answer) → ⊥)
-unfolding Answers writing_refusal bytes_written number_of
+unfolding Answers writing_refusal bytes_written
 write =
     strong_by Writes (λ x o q a b. one_writing x.n x.matrix x.readings x.out o q a b)
     none no_numbers (written (NotWritten 1) []) (written (NotWritten 3) [])

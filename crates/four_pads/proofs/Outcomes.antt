@@ -86,7 +86,7 @@ module _ (s : System) where
         rw fine (sym (λ i. settled 4 4 (record { columns = made.columns i; swaps = made.swaps i })))
 
     pub refused_seven : all_finite (flat F) ≡ false → refused_with 7 ≡ four_of a b
-    unfolding four_of profile_of general_path tested first_holding and_then settled
+    unfolding four_of profile_of general_path tested first_holding settled
     refused_seven h = rw (ok, past, h)
 
     rising : Rising 4 4 (w e)
@@ -115,7 +115,7 @@ module _ (s : System) where
           ∙ ap (λ (x : Column). upper_by (f e) (lower_by (f e) x)) (sym made.readings)
 
       pub loaded_is : loaded_by e ≡ four_of a b
-      unfolding four_of profile_of general_path settled solving tested first_holding and_then seventh loaded_by
+      unfolding four_of profile_of general_path settled solving tested first_holding seventh loaded_by
       loaded_is =
           rw (ok, past, finite, diagonal_left, solved_is)
           (test_cases (is_dead (f e)) (λ z. rw z) (λ z. test_cases (all_finite (loads e)) (λ y. rw (z, y)) (λ y. rw (z, y))))

@@ -14,7 +14,7 @@ use Rattle.finite.specs.Finite.{all_finite}
 use Rattle.finite.proofs.Finite.{finite_append}
 use Rattle.store.specs.Columns.{columns, flat}
 use Rattle.store.proofs.Columns.{is_matrix_lem}
-use Rattle.refusals.specs.Outcome.{done, refused, number_of, first_holding, tested, and_then, Call, leaving}
+use Rattle.refusals.specs.Outcome.{done, refused, number_of, first_holding, tested, and_then, Call, leaving, outcome}
 use Rattle.refusals.proofs.Outcomes.{Numbered, first_none, none_first, tested_none, tested_some, tested_cases, then_then}
 use Rattle.refusals.proofs.Cases.{first_behind}
 use Rattle.factors.specs.Factors.{Factors, store_of, record_for}
@@ -24,7 +24,7 @@ use Rattle.lu.proofs.Told.{passes, worked}
 use Rattle.from_factors.specs.Solving.{solving}
 use Rattle.panel_file.specs.declared.Panel.{Panel}
 use Rattle.panel_file.specs.File.{pads_of, matrix_of, readings_of}
-use Rattle.panel_file.specs.Reading.{file_tests, file_refusal, Stores, stores, filled, sized_refusal, reading_sized, pads_read}
+use Rattle.panel_file.specs.Reading.{file_tests, file_refusal, Stores, stores, filled, sized_refusal, reading_sized}
 use Rattle.panel_file.proofs.Reading.{file_whole}
 use Rattle.panel_file.proofs.Files.{numbers_parts}
 use Rattle.crossing.specs.Below.{factors_of, solution_by}
@@ -56,7 +56,7 @@ module _ (a b : Column) (size : length a ≡ 16) (fine : all_finite a ≡ true) 
   solved_for = solving (flat made.columns) (store_of made.swaps) (record_for 4 4 made) b 1 (zeros 4)
 
   general_is : general_path a b ≡ and_then (factors_of a 4) (λ f. with_loads f (solution_by false f b))
-  unfolding general_path factors_of solution_by settled and_then
+  unfolding general_path factors_of solution_by settled
   general_is =
       rw (is_settled a size, is_settled (zeros 16) refl)
       (test_cases (all_finite (flat made.columns)) (λ t. rw t (sym (then_then solved_for.answer (λ _. done solved_for.left) _))) (λ t. rw t refl))
@@ -87,7 +87,7 @@ module _ (bytes : List ℕ) where
   both = first_behind (size_tests bytes) (file_tests true bytes) numbered
 
   general_refused : (file_refusal bytes ≡ 0 → ⊥) → general_path_in bytes ≡ refused (file_refusal bytes)
-  unfolding general_path_in factors_in and_then
+  unfolding general_path_in factors_in
   general_refused some = rw (tested_some (file_refusal bytes) refused (factors_of (matrix_of n bytes) n) some) refl
 
   pub file_refused : (number : ℕ) → number ≡ sized_refusal bytes 4 lent → (number ≡ 0 → ⊥) → refused_with number ≡ four_pads_in bytes
@@ -137,7 +137,7 @@ module _ (bytes : List ℕ) where
       → (sized_refusal bytes 4 lent ≡ 0 → P (record { number = 0; matrix = (filled bytes lent).matrix; readings = (filled bytes lent).readings }))
       → ((sized_refusal bytes 4 lent ≡ 0 → ⊥) → P (record { number = sized_refusal bytes 4 lent; matrix = zeros 16; readings = zeros 4 }))
       → P (numbers_in bytes)
-  unfolding numbers_in reading_sized number_of
+  unfolding numbers_in reading_sized
   read_cases P accepts refuses =
       tested_cases (sized_refusal bytes 4 lent) (leaving lent) (record { answer = done (pads_of bytes); left = filled bytes lent })
       (λ o. P (record { number = number_of o.answer; matrix = o.left.matrix; readings = o.left.readings })) accepts refuses
@@ -163,8 +163,8 @@ module _ (bytes : List ℕ) where
         ∙ loaded_as (ap (λ (r : FourNumbers). r.number) (sym is) ∙ none)
 
 -- what the reader answers and leaves, as the code has it
-pub read_numbers : (bytes : List ℕ) (answer : Panel) (matrix readings : Column) → pads_read answer ≡ (reading_sized bytes 4 lent).answer
-    → stores matrix readings ≡ (reading_sized bytes 4 lent).left → (number : ℕ) → number ≡ number_of (pads_read answer)
+pub read_numbers : (bytes : List ℕ) (answer : Panel) (matrix readings : Column) → outcome answer ≡ (reading_sized bytes 4 lent).answer
+    → stores matrix readings ≡ (reading_sized bytes 4 lent).left → (number : ℕ) → number ≡ number_of (outcome answer)
     → ◌≡◌ {A = FourNumbers} (record { number = number; matrix = matrix; readings = readings }) (numbers_in bytes)
 unfolding numbers_in
 read_numbers bytes answer matrix readings told left number is =

@@ -20,18 +20,16 @@ use Rattle.four_pads_file.specs.FileProfile.{with_loads, general_path_in, four_p
 -- ---- outcomes
 
 with_loads_lem : (f : Packed) (x : Outcome Column) → and_then (with_loads f x) (λ s. done s.loads) ≡ x
-unfolding and_then
 with_loads_lem f (done x) = refl
 with_loads_lem f (refused k) = refl
 
 loads_only : (solve : Packed → Outcome Column) (o : Outcome Packed)
     → and_then (and_then o (λ f. with_loads f (solve f))) (λ s. done s.loads) ≡ and_then o solve
-unfolding and_then
 loads_only solve (done f) = with_loads_lem f (solve f)
 loads_only solve (refused k) = refl
 
 number_held : (o : Outcome Solution) → (profile_of o).number ≡ number_of (and_then o (λ s. done s.loads))
-unfolding profile_of number_of and_then
+unfolding profile_of
 number_held (done s) = refl
 number_held (refused k) = refl
 
@@ -50,7 +48,7 @@ module _ (bytes : List ℕ) where
   own_size h e = rw (h, eq-eqb (pads_of bytes) 4 e)
 
   no_head : headed bytes ≡ false → (four_pads_in bytes).number ≡ number_of (loads_of bytes)
-  unfolding four_pads_in profile_of loads_of factors_in file_refusal file_tests tested first_holding and_then number_of
+  unfolding four_pads_in profile_of loads_of factors_in file_refusal file_tests tested first_holding
   no_head h = rw h
 
   -- THEOREM. On a file of four pads, and on one without a good head, the number is the program's.
@@ -62,7 +60,7 @@ module _ (bytes : List ℕ) where
   -- THEOREM. On a file of four pads whose loads the program finds, the profile holds the factors and swaps of its matrix, and these loads.
   pub program_loads : headed bytes ≡ true → pads_of bytes ≡ 4 → (f : Packed) (x : Column) → factors_in bytes ≡ done f → loads_of bytes ≡ done x
       → four_pads_in bytes ≡ record { number = 0; factors = f.factors; pairs = f.told.pairs; swaps = take 8 f.swaps; loads = x }
-  unfolding general_path_in loads_of and_then profile_of
+  unfolding general_path_in loads_of profile_of
   program_loads h e f x df dx =
       let solve : Packed → Outcome Column = λ f. solution_by false f (readings_of (pads_of bytes) bytes) in
       let solved : solve f ≡ done x = ap (λ (o : Outcome Packed). and_then o solve) (sym df) ∙ dx in

@@ -4,8 +4,8 @@ use mathlib.Core.List.{List}
 use Prim.Native.Nat.{ℕ}
 use Rattle.numbers.specs.Column.{Column}
 use Rattle.store.specs.Steps.{Matrix}
-use Rattle.refusals.specs.Outcome.{done, refused, number_of, tested, leaving}
-use Rattle.refusals.specs.Refusals.{answered, seventh}
+use Rattle.refusals.specs.Outcome.{done, refused, number_of, tested, leaving, outcome}
+use Rattle.refusals.specs.Refusals.{seventh}
 use Rattle.refusals.specs.declared.Answer.{Answer}
 use Rattle.refusals.specs.declared.Answer.TheVariants.{Done}
 use Rattle.refusals.proofs.Outcomes.{Promise, promise_made, seventh_answer}
@@ -15,7 +15,7 @@ use Rattle.from_factors.specs.Solving.{Way, solved_by}
 pub promise_solved : (way : Way) (r : Record) (factors : Column) (store : List ℕ) (bs cs : Matrix) (refusal number : ℕ)
     (was work : Column) (n : ℕ) (a : Answer) (s : Column)
     → number ≡ refusal → number ≡ 0 → work ≡ solved_by way factors store r bs → bs ≡ cs → n ≡ number_of (seventh work).answer
-    → answered a ≡ tested n refused (done tt)
+    → outcome a ≡ tested n refused (done tt)
     → s ≡ (seventh work).left → Promise (tested refusal (leaving was) (seventh (solved_by way factors store r cs))) a s
 promise_solved way r factors store bs cs refusal number was work n a s e none made same count answer left =
     let is : work ≡ solved_by way factors store r cs = made ∙ ap (solved_by way factors store r) same in
@@ -25,5 +25,4 @@ promise_solved way r factors store bs cs refusal number was work n a s e none ma
 
 pub promise_read : (refusal number : ℕ) (was x s : Column) → number ≡ refusal → number ≡ 0 → s ≡ x
     → Promise (tested refusal (leaving was) (record { answer = done tt; left = x })) Done s
-unfolding answered
 promise_read refusal number was x s e none b = promise_made refusal number was (record { answer = done tt; left = x }) Done s e none refl b

@@ -187,7 +187,7 @@ number_seven x = (
 pub determining_seven : (r : Record) (factors : Column) (store : List ℕ) → held_refusal factors store r square_asks ≡ 0
     → let n = r.rows in
     (determining factors store r ≡ refused 7) ↔ ((q : ℕ) × (q ≤ n) × (finite (turns_from (times_diagonal (columns n n factors)) 0 q one64) ≡ false))
-unfolding determining producing and_then determinant_of diagonal_product
+unfolding determining producing determinant_of diagonal_product
 determining_seven r factors store none_before =
     let n = r.rows in
     let cs = columns n n factors in

@@ -13,10 +13,6 @@ use Rattle.permutation_sequence.specs.Calls.{sign_of}
 use Rattle.factors.specs.declared.Record.{Record}
 use Rattle.factors.specs.declared.Asks.{Asks}
 use Rattle.factors.specs.Held.{held_refusal}
-use Rattle.from_factors.specs.declared.Det.{Det}
-use Rattle.from_factors.specs.declared.Det.TheVariants.{Number, Refused}
-use Rattle.from_factors.specs.declared.Invertible.{Invertible}
-use Rattle.from_factors.specs.declared.Invertible.TheVariants.{Is, Refused as NotTested}
 
 -- "1 times each diagonal in turn"
 unfoldable pub times_diagonal : Matrix → ℕ → Float → Float
@@ -33,16 +29,11 @@ determinant_of n cs pairs = mul binary64 (diagonal_product n cs) (sign_of pairs)
 abbrev pub square_asks : Asks
 square_asks = record { square = true; solves = false; sizes = true; lengths = true; list = true; numbers = true }
 
--- "either one number or a refusal with its number": what each case of the answer stands for
-unfoldable pub determined : Det → Outcome Float
-determined (Number x) = done x
-determined (Refused number) = refused number
-
 -- a finite number, else 7
 unfoldable pub number_or7 : Float → Outcome Float
 number_or7 x = cond (finite x) (done x) (refused 7)
 
--- the product of the diagonal without the sign, or the refusal before the work
+-- "either one number or a refusal with its number": the product of the diagonal without the sign, or the refusal before the work
 unfoldable pub producing : Column → List ℕ → Record → Outcome Float
 producing factors store r = tested (held_refusal factors store r square_asks) refused (done (diagonal_product r.rows (columns r.rows r.rows factors)))
 
@@ -50,11 +41,6 @@ unfoldable pub determining : Column → List ℕ → Record → Outcome Float
 determining factors store r = and_then (producing factors store r) (λ d. number_or7 (mul binary64 d (sign_of r.pairs)))
 
 -- ---- the invertible test: document 02, request 7, "answers from" the number of dead columns, which the tests have compared
-
--- what each case of the answer stands for
-unfoldable pub tested_inverse : Invertible → Outcome Bool
-tested_inverse (Is holds) = done holds
-tested_inverse (NotTested number) = refused number
 
 unfoldable pub inverse_test : Column → List ℕ → Record → Outcome Bool
 inverse_test factors store r = tested (held_refusal factors store r square_asks) refused (done (eqb r.dead 0))

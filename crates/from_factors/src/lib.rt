@@ -4,29 +4,15 @@
 
 ghost use Rattle.std.specs.Prelude.{◌≡◌, true, ◌+◌, ◌*◌, ◌<◌, ◌≤◌, min, length};
 ghost use Rattle.store.specs.Columns.{columns, flat, is_matrix};
-ghost use Rattle.refusals.specs.Refusals.{answered};
+ghost use Rattle.refusals.specs.Outcome.{outcome};
 ghost use Rattle.swap_list.specs.SwapList.{good_list};
 ghost use Rattle.from_factors.specs.Triangles.{lower_of, upper_of, lower_factor, upper_factor, lowering, uppering};
 ghost use Rattle.from_factors.specs.Solving.{solved, tr_solved, way_of, solved_by, solving_by, solving, tr_solving, unit_column, identity, inverting};
-ghost use Rattle.from_factors.specs.Determinant.{diagonal_product, determined, producing, number_or7, determining, tested_inverse, inverse_test};
+ghost use Rattle.from_factors.specs.Determinant.{diagonal_product, producing, number_or7, determining, inverse_test};
 
-use factors::{Asks, Record, held_refusal};
-use refusals::Answer;
+use factors::{Asks, Record, test_held};
+use refusals::Refusal;
 use triangular_passes::Pass;
-
-// The determinant, or a refusal's number.
-#[derive(Clone, Copy)]
-pub enum Det {
-    Number(f64),
-    Refused(usize),
-}
-
-// Whether the matrix is invertible, or a refusal's number.
-#[derive(Clone, Copy)]
-pub enum Invertible {
-    Is(bool),
-    Refused(usize),
-}
 
 // Column j of L from the packed column: +0.0 above the diagonal, and one on it.
 fn lower_column(dst: &mut [f64], src: &[f64], j: usize)
@@ -53,8 +39,8 @@ fn lower_columns(out: &mut [f64], m: usize, n: usize, k: usize, factors: &[f64])
 }
 
 // The lower triangular matrix of the factors, m by min(m, n).
-pub fn l(factors: &[f64], swaps: &[usize], told: Record, out: &mut [f64]) -> Answer
-    ensures result_value { answered result ≡ (lowering factors.now swaps.now told out.old).answer }
+pub fn l(factors: &[f64], swaps: &[usize], told: Record, out: &mut [f64]) -> Result<(), Refusal>
+    ensures result_value { outcome result ≡ (lowering factors.now swaps.now told out.old).answer }
     ensures out_after { out.new ≡ (lowering factors.now swaps.now told out.old).left }
 {
     let m = told.rows;
@@ -69,12 +55,9 @@ pub fn l(factors: &[f64], swaps: &[usize], told: Record, out: &mut [f64]) -> Ans
         list: true,
         numbers: true,
     };
-    let number = held_refusal(factors, swaps, told, asks);
-    if number != 0 {
-        return refusals::answer_for(number);
-    }
+    test_held(factors, swaps, told, asks)?;
     lower_columns(out, m, n, k, factors);
-    Answer::Done
+    Ok(())
 }
 
 // Column j of U, of as many rows as dst has, from the packed column: +0.0 below the diagonal.
@@ -107,8 +90,8 @@ fn upper_columns(out: &mut [f64], m: usize, n: usize, k: usize, factors: &[f64])
 }
 
 // The upper triangular matrix of the factors, min(m, n) by n.
-pub fn u(factors: &[f64], swaps: &[usize], told: Record, out: &mut [f64]) -> Answer
-    ensures result_value { answered result ≡ (uppering factors.now swaps.now told out.old).answer }
+pub fn u(factors: &[f64], swaps: &[usize], told: Record, out: &mut [f64]) -> Result<(), Refusal>
+    ensures result_value { outcome result ≡ (uppering factors.now swaps.now told out.old).answer }
     ensures out_after { out.new ≡ (uppering factors.now swaps.now told out.old).left }
 {
     let m = told.rows;
@@ -123,12 +106,9 @@ pub fn u(factors: &[f64], swaps: &[usize], told: Record, out: &mut [f64]) -> Ans
         list: true,
         numbers: true,
     };
-    let number = held_refusal(factors, swaps, told, asks);
-    if number != 0 {
-        return refusals::answer_for(number);
-    }
+    test_held(factors, swaps, told, asks)?;
     upper_columns(out, m, n, k, factors);
-    Answer::Done
+    Ok(())
 }
 
 // Solves the k right-hand columns in x in place: rows swapped by the list, unit lower, upper; a single one of few rows by a call of its own.
@@ -188,33 +168,26 @@ fn solve_by(
     b: &[f64],
     k: usize,
     x: &mut [f64],
-) -> Answer
-    ensures result_value { answered result ≡ (solving_by (way_of transposed) factors.now swaps.now told b.now k x.old).answer }
+) -> Result<(), Refusal>
+    ensures result_value { outcome result ≡ (solving_by (way_of transposed) factors.now swaps.now told b.now k x.old).answer }
     ensures x_after { x.new ≡ (solving_by (way_of transposed) factors.now swaps.now told b.now k x.old).left }
 {
     let n = told.rows;
     let sizes = !refusals::outside(1, k);
     let lengths = store::is_matrix(b, n, k) & store::is_matrix(x, n, k);
     let numbers = finite::all_finite(b);
-    let number = held_refusal(
-        factors,
-        swaps,
-        told,
-        Asks {
-            square: true,
-            solves: true,
-            sizes,
-            lengths,
-            list: true,
-            numbers,
-        },
-    );
-    if number != 0 {
-        return refusals::answer_for(number);
-    }
+    let asks = Asks {
+        square: true,
+        solves: true,
+        sizes,
+        lengths,
+        list: true,
+        numbers,
+    };
+    test_held(factors, swaps, told, asks)?;
     blas::copy(x, b);
     solve_mut_by(transposed, factors, swaps, told, x, k);
-    refusals::answer_for(refusals::settle(x))
+    refusals::settle(x)
 }
 
 // Solves for the k right-hand columns b, into x.
@@ -225,8 +198,8 @@ pub fn solve(
     b: &[f64],
     k: usize,
     x: &mut [f64],
-) -> Answer
-    ensures result_value { answered result ≡ (solving factors.now swaps.now told b.now k x.old).answer }
+) -> Result<(), Refusal>
+    ensures result_value { outcome result ≡ (solving factors.now swaps.now told b.now k x.old).answer }
     ensures x_after { x.new ≡ (solving factors.now swaps.now told b.now k x.old).left }
 {
     solve_by(false, factors, swaps, told, b, k, x)
@@ -240,8 +213,8 @@ pub fn tr_solve(
     b: &[f64],
     k: usize,
     x: &mut [f64],
-) -> Answer
-    ensures result_value { answered result ≡ (tr_solving factors.now swaps.now told b.now k x.old).answer }
+) -> Result<(), Refusal>
+    ensures result_value { outcome result ≡ (tr_solving factors.now swaps.now told b.now k x.old).answer }
     ensures x_after { x.new ≡ (tr_solving factors.now swaps.now told b.now k x.old).left }
 {
     solve_by(true, factors, swaps, told, b, k, x)
@@ -271,31 +244,24 @@ fn fill_with_identity(x: &mut [f64], n: usize)
 }
 
 // The inverse, into x: solve with the identity.
-pub fn inverse(factors: &[f64], swaps: &[usize], told: Record, x: &mut [f64]) -> Answer
-    ensures result_value { answered result ≡ (inverting factors.now swaps.now told x.old).answer }
+pub fn inverse(factors: &[f64], swaps: &[usize], told: Record, x: &mut [f64]) -> Result<(), Refusal>
+    ensures result_value { outcome result ≡ (inverting factors.now swaps.now told x.old).answer }
     ensures x_after { x.new ≡ (inverting factors.now swaps.now told x.old).left }
 {
     let n = told.rows;
     let lengths = store::is_matrix(x, n, n);
-    let number = held_refusal(
-        factors,
-        swaps,
-        told,
-        Asks {
-            square: true,
-            solves: true,
-            sizes: true,
-            lengths,
-            list: true,
-            numbers: true,
-        },
-    );
-    if number != 0 {
-        return refusals::answer_for(number);
-    }
+    let asks = Asks {
+        square: true,
+        solves: true,
+        sizes: true,
+        lengths,
+        list: true,
+        numbers: true,
+    };
+    test_held(factors, swaps, told, asks)?;
     fill_with_identity(x, n);
     solve_mut(factors, swaps, told, x, n);
-    refusals::answer_for(refusals::settle(x))
+    refusals::settle(x)
 }
 
 // One times each number of the diagonal in turn.
@@ -315,8 +281,8 @@ fn diagonal_product(factors: &[f64], n: usize) -> f64
 }
 
 // The product of the diagonal, or the refusal before the work.
-fn product(factors: &[f64], swaps: &[usize], told: Record) -> Det
-    ensures { determined result ≡ producing factors.now swaps.now told }
+fn product(factors: &[f64], swaps: &[usize], told: Record) -> Result<f64, Refusal>
+    ensures { outcome result ≡ producing factors.now swaps.now told }
 {
     let asks = Asks {
         square: true,
@@ -326,38 +292,32 @@ fn product(factors: &[f64], swaps: &[usize], told: Record) -> Det
         list: true,
         numbers: true,
     };
-    let number = held_refusal(factors, swaps, told, asks);
-    if number != 0 {
-        return Det::Refused(number);
-    }
-    Det::Number(diagonal_product(factors, told.rows))
+    test_held(factors, swaps, told, asks)?;
+    Ok(diagonal_product(factors, told.rows))
 }
 
 // A finite number, or refusal 7.
-fn number_or_7(x: f64) -> Det
-    ensures { determined result ≡ number_or7 x }
+fn number_or_7(x: f64) -> Result<f64, Refusal>
+    ensures { outcome result ≡ number_or7 x }
 {
     if numbers::is_finite(x) {
-        Det::Number(x)
+        Ok(x)
     } else {
-        Det::Refused(7)
+        Err(Refusal::Overflow)
     }
 }
 
 // The determinant of the factored matrix.
-pub fn determinant(factors: &[f64], swaps: &[usize], told: Record) -> Det
-    ensures { determined result ≡ determining factors.now swaps.now told }
+pub fn determinant(factors: &[f64], swaps: &[usize], told: Record) -> Result<f64, Refusal>
+    ensures { outcome result ≡ determining factors.now swaps.now told }
 {
-    let answer = product(factors, swaps, told);
-    let Det::Number(res) = answer else {
-        return answer;
-    };
+    let res = product(factors, swaps, told)?;
     number_or_7(res * permutation_sequence::determinant(told.pairs))
 }
 
 // Whether the factored matrix is invertible: no dead column.
-pub fn is_invertible(factors: &[f64], swaps: &[usize], told: Record) -> Invertible
-    ensures { tested_inverse result ≡ inverse_test factors.now swaps.now told }
+pub fn is_invertible(factors: &[f64], swaps: &[usize], told: Record) -> Result<bool, Refusal>
+    ensures { outcome result ≡ inverse_test factors.now swaps.now told }
 {
     let asks = Asks {
         square: true,
@@ -367,9 +327,6 @@ pub fn is_invertible(factors: &[f64], swaps: &[usize], told: Record) -> Invertib
         list: true,
         numbers: true,
     };
-    let number = held_refusal(factors, swaps, told, asks);
-    if number != 0 {
-        return Invertible::Refused(number);
-    }
-    Invertible::Is(told.dead == 0)
+    test_held(factors, swaps, told, asks)?;
+    Ok(told.dead == 0)
 }

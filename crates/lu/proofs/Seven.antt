@@ -22,7 +22,6 @@ use Rattle.lu.proofs.Shape.{factors_of, settled_number}
 
 module _ (m n : ℕ) (a out : Column) (store : List ℕ) (none_before : factoring_refusal a m n out store ≡ 0) where
   by_factors : (factoring a m n out store).answer ≡ refused 7 → finite_in (factors_of m n a) ≡ false
-  unfolding number_of
   by_factors e =
       let number = sym (settled_number m n a out store none_before) ∙ ap number_of e in
       test_cases (finite_in (factors_of m n a)) (λ t. absurd (let z : ◌≡◌ {A = ℕ} 0 7 = (rw t at number) in omega arith)) (λ t. t)

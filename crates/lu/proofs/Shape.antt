@@ -59,7 +59,7 @@ module _ (m n : ℕ) (a out : Column) (store : List ℕ) (none : factoring_refus
 
   -- the outcome of an accepted factoring
   pub accepted_is : number_of (factoring a m n out store).answer ≡ 0 → (factoring a m n out store ≡ accepted_as m n f) × (all_finite (flat f.columns) ≡ true)
-  unfolding settled number_of
+  unfolding settled
   accepted_is e =
       test_cases (all_finite (flat (eliminate m (columns m n a)).columns))
       (λ t. (worked m n a out store none ∙ rw t, t))
@@ -67,6 +67,6 @@ module _ (m n : ℕ) (a out : Column) (store : List ℕ) (none : factoring_refus
 
   -- a factoring that is not refused before the work is accepted or gives 7
   pub settled_number : number_of (factoring a m n out store).answer ≡ cond (all_finite (flat f.columns)) 0 7
-  unfolding settled number_of
+  unfolding settled
   settled_number =
       test_cases (all_finite (flat (eliminate m (columns m n a)).columns)) (λ t. rw (worked m n a out store none, t)) (λ t. rw (worked m n a out store none, t))

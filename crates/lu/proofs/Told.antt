@@ -32,7 +32,7 @@ done_same : {A : Type 0} (a b : A) → done a ≡ done b → a ≡ b
 done_same a b e = cc
 
 pub told_accepted : (tossed : ℕ) (o : Outcome Record) (told : Record) (own : ℕ) → done (told, own) ≡ with_toss_ups tossed o → (o ≡ done told) × (own ≡ tossed)
-unfolding with_toss_ups and_then
+unfolding with_toss_ups
 told_accepted tossed (done r) told own e =
     let was : Record × ℕ = (told, own) in
     let is : Record × ℕ = (r, tossed) in
@@ -41,7 +41,7 @@ told_accepted tossed (done r) told own e =
 told_accepted tossed (refused k) told own e = absurd (let z : ◌≡◌ {A = ℕ} 0 1 = cc in omega arith)
 
 pub told_refused : (tossed : ℕ) (o : Outcome Record) (number : ℕ) → refused number ≡ with_toss_ups tossed o → o ≡ refused number
-unfolding with_toss_ups and_then
+unfolding with_toss_ups
 told_refused tossed (done r) number e = absurd (let z : ◌≡◌ {A = ℕ} 0 1 = cc in omega arith)
 told_refused tossed (refused k) number e = cc
 
@@ -97,7 +97,7 @@ module _ (m n : ℕ) (a out : Column) (store : List ℕ) where
       (factored r ≡ factoring_answer a m n out store) × ((f ≡ (factoring a m n out store).left.factors) × (s ≡ (factoring a m n out store).left.store))
 
   pub promise_refused : (number : ℕ) → number ≡ factoring_refusal a m n out store → (number ≡ 0 → ⊥) → Promise (Refused number) out store
-  unfolding factoring factored factoring_answer with_toss_ups and_then
+  unfolding factoring factoring_answer with_toss_ups
   promise_refused number e ne =
       rw (tested_some _ (leaving (slices out store)) (settled m n (eliminate m (columns m n a))) (λ z. ne (e ∙ z))) (ap refused e, (refl, refl))
 
@@ -126,7 +126,7 @@ module _ (m n : ℕ) (s t : Column) (store : List ℕ) (pairs : ℕ) (h : Held t
 
   pub settled_accepted : (tossed dead : ℕ) → tossed ≡ toss_ups m (columns m n s) → dead ≡ dead_of t m n → is_matrix s m n ≡ true → all_finite t ≡ true
       → Settled s m n (Accepted (record_of m n pairs dead) tossed) t store
-  unfolding settled factored with_toss_ups and_then
+  unfolding settled with_toss_ups
   settled_accepted tossed dead counted died fits e =
       let all : all_finite (flat f.columns) ≡ true = ap all_finite (sym whole) ∙ e in
       record {
@@ -137,7 +137,7 @@ module _ (m n : ℕ) (s t : Column) (store : List ℕ) (pairs : ℕ) (h : Held t
 
   pub settled_overflow : (zeroed : Column) (cleared : List ℕ) → all_finite t ≡ false → zeroed ≡ zeros (length t) → cleared ≡ replicate (length store) 0
       → length store ≡ 128 → Settled s m n (Refused 7) zeroed cleared
-  unfolding settled factored with_toss_ups and_then store_of numbers_of
+  unfolding settled with_toss_ups store_of numbers_of
   settled_overflow zeroed cleared e z c len =
       let all : all_finite (flat f.columns) ≡ false = ap all_finite (sym whole) ∙ e in
       record { answer = rw all refl; factors = rw all (z ∙ ap zeros h.size); store = rw all (c ∙ ap (λ k. replicate k 0) len) }

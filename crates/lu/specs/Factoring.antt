@@ -1,16 +1,16 @@
 -- What factoring answers and leaves, on every input: document 01, "Sizes", "Refusal numbers" and "Elimination".
-use Rattle.std.specs.Prelude.{Bool, not, cond, ◌&&◌, ◌||◌, List, [], ◌∷◌, ℕ, ◌*◌, eqb, length}
+use Rattle.std.specs.Prelude.{Bool, not, cond, ◌&&◌, ◌||◌, List, [], ◌∷◌, ℕ, ◌*◌, eqb, length, Result, Ok, Err}
 use Rattle.numbers.specs.Column.{Column, zeros}
 use Rattle.finite.specs.Finite.{all_finite}
 use Rattle.store.specs.Columns.{columns, flat, is_matrix}
-use Rattle.refusals.specs.Outcome.{Outcome, done, refused, first_holding, tested, and_then, leaving}
+use Rattle.refusals.specs.Outcome.{Outcome, done, refused, number, first_holding, tested, and_then, leaving}
 use Rattle.refusals.specs.Refusals.{outside}
 use Rattle.factors.specs.declared.Record.{Record}
 use Rattle.factors.specs.Factors.{Factors, store_of, record_for, slices, Factoring}
 use Rattle.elimination.specs.Elimination.{eliminate}
 use Rattle.elimination.specs.TossUps.{toss_ups}
+use Rattle.refusals.specs.declared.Refusal.{Refusal}
 use Rattle.lu.specs.declared.Factored.{Factored}
-use Rattle.lu.specs.declared.Factored.TheVariants.{Accepted, Refused}
 
 -- the tests before the work: an m by n matrix a, the slice for the factors, and the swap store
 abbrev pub factoring_tests : Column → ℕ → ℕ → Column → List ℕ → List (ℕ × Bool)
@@ -38,10 +38,10 @@ factoring a m n out store = tested (factoring_refusal a m n out store) (leaving 
 
 -- ---- the answer: the record, and the number of toss-ups with it (document 02, request 3)
 
--- what each case of the answer stands for
-unfoldable pub factored : Factored → Outcome (Record × ℕ)
-factored (Accepted told tossed) = done (told, tossed)
-factored (Refused number) = refused number
+-- what an answer that makes factors stands for
+abbrev pub factored : Result Factored Refusal → Outcome (Record × ℕ)
+factored (Ok f) = done (f.told, f.toss_ups)
+factored (Err refusal) = refused (number refusal)
 
 -- an outcome with its toss-ups
 unfoldable pub with_toss_ups : ℕ → Outcome Record → Outcome (Record × ℕ)

@@ -1,5 +1,5 @@
 -- How the factors on paper lie in the slices of the code: the inner functions' promises speak of this.
-use Rattle.std.specs.Prelude.{◌≡◌, List, ℕ, ◌+◌, ◌-◌, ◌*◌, ◌≤◌, length}
+use Rattle.std.specs.Prelude.{◌≡◌, List, ℕ, ◌+◌, ◌-◌, ◌*◌, ◌≤◌, length, Result}
 use Rattle.numbers.specs.Each.{turns_from}
 use Rattle.numbers.specs.Column.{Column}
 use Rattle.store.specs.Columns.{columns}
@@ -7,6 +7,7 @@ use Rattle.lu.specs.declared.Counts.{Counts}
 use Rattle.factors.specs.Factors.{Factors, store_of}
 use Rattle.elimination.specs.Elimination.{step, eliminate}
 use Rattle.elimination.specs.TossUps.{toss_from, toss_ups}
+use Rattle.refusals.specs.declared.Refusal.{Refusal}
 use Rattle.lu.specs.declared.Factored.{Factored}
 use Rattle.lu.specs.Factoring.{settled, factored, with_toss_ups}
 
@@ -25,7 +26,7 @@ pub record Stepped (s : Column) (m n from to : ℕ) (store : List ℕ) (counts :
   pub few : (r.pairs ≤ to) × (r.tossed ≤ to) × (counts.pairs ≤ r.pairs)
 
 -- the settled elimination of the m by n matrix that the slice s held: the answer, and what the two slices then hold
-pub record Settled (s : Column) (m n : ℕ) (r : Factored) (s' : Column) (store' : List ℕ) : Type 0 where
+pub record Settled (s : Column) (m n : ℕ) (r : Result Factored Refusal) (s' : Column) (store' : List ℕ) : Type 0 where
   pub answer : factored r ≡ with_toss_ups (toss_ups m (columns m n s)) (settled m n (eliminate m (columns m n s))).answer
   pub factors : s' ≡ (settled m n (eliminate m (columns m n s))).left.factors
   pub store : store' ≡ (settled m n (eliminate m (columns m n s))).left.store

@@ -6,6 +6,7 @@ ghost use Rattle.std.specs.Prelude.{◌≡◌, true, [], ◌+◌, ◌<◌, ◌�
 ghost use Rattle.store.specs.Columns.{columns, is_matrix};
 ghost use Rattle.store.specs.Steps.{column, swap_in_all};
 ghost use Rattle.one_step.specs.OneStep.{eliminated};
+ghost use Rattle.refusals.specs.Outcome.{outcome, number_of};
 ghost use Rattle.factors.specs.Factors.{Factors, store_of};
 ghost use Rattle.elimination.specs.Elimination.{scaled, step, eliminate};
 ghost use Rattle.elimination.specs.TossUps.{toss_at, toss_ups};
@@ -14,12 +15,13 @@ ghost use Rattle.lu.specs.PlainStep.{plain_step};
 ghost use Rattle.lu.specs.Inner.{Held, Stepped, Settled};
 
 use factors::Record;
+use refusals::Refusal;
 
-// What factoring answers: the record with the number of columns whose pivot was a toss-up, or a refusal's number.
+// What a call answers that makes factors: their record, and at how many of the columns that it worked on the pivot was a toss-up.
 #[derive(Clone, Copy)]
-pub enum Factored {
-    Accepted { told: Record, toss_ups: usize },
-    Refused(usize),
+pub struct Factored {
+    pub told: Record,
+    pub toss_ups: usize,
 }
 
 // What the steps count as they go.
@@ -29,18 +31,23 @@ struct Counts {
     tossed: usize,
 }
 
-// The number of the refusal before the work, 0 for none.
-pub fn factor_refusal(a: &[f64], m: usize, n: usize, out: &[f64], swaps: &[usize]) -> usize
-    ensures { result ≡ factoring_refusal a.now m n out.now swaps.now }
+// Refuses what factoring refuses before the work, by the tests in their order.
+pub fn test_factoring(
+    a: &[f64],
+    m: usize,
+    n: usize,
+    out: &[f64],
+    swaps: &[usize],
+) -> Result<(), Refusal>
+    ensures { number_of (outcome result) ≡ factoring_refusal a.now m n out.now swaps.now }
 {
     let sizes = refusals::outside(1, m) | refusals::outside(0, n);
     let lengths = store::is_matrix(a, m, n) & store::is_matrix(out, m, n) & (swaps.len() == 128);
-    let numbers = finite::all_finite(a);
-    refusals::first(
-        1,
-        sizes,
-        refusals::first(3, !lengths, refusals::first(5, !numbers, 0)),
-    )
+    refusals::first_of(&[
+        (Refusal::Size, sizes),
+        (Refusal::Length, !lengths),
+        (Refusal::NotFinite, !finite::all_finite(a)),
+    ])
 }
 
 // Steps 3 to 5 of step i with pivot row piv: the Rust's swap of the columns before i, and its gauss_step or gauss_step_swap on the rest.
@@ -183,7 +190,7 @@ fn factor_in_place(s: &mut [f64], m: usize, n: usize, swaps: &mut [usize]) -> Co
 }
 
 // Factors the m by n matrix in s where it lies, past the tests.
-fn factor_tested(s: &mut [f64], m: usize, n: usize, swaps: &mut [usize]) -> Factored
+fn factor_tested(s: &mut [f64], m: usize, n: usize, swaps: &mut [usize]) -> Result<Factored, Refusal>
     requires { (is_matrix s.old m n ≡ true) × (length swaps.old ≡ 128) }
     ensures { Settled s.old m n result s.new swaps.new }
 {
@@ -199,36 +206,30 @@ fn factor_tested(s: &mut [f64], m: usize, n: usize, swaps: &mut [usize]) -> Fact
             pairs,
             dead,
         };
-        return Factored::Accepted { told, toss_ups };
+        return Ok(Factored { told, toss_ups });
     }
     blas::fill_zero(s);
     factors::clear(swaps);
-    Factored::Refused(7)
+    Err(Refusal::Overflow)
 }
 
 // Factors the m by n matrix a into out, and records the swaps.
-pub fn factor(a: &[f64], m: usize, n: usize, out: &mut [f64], swaps: &mut [usize]) -> Factored
+pub fn factor(a: &[f64], m: usize, n: usize, out: &mut [f64], swaps: &mut [usize]) -> Result<Factored, Refusal>
     ensures result_value { factored result ≡ factoring_answer a.now m n out.old swaps.old }
     ensures out_after { out.new ≡ (factoring a.now m n out.old swaps.old).left.factors }
     ensures swaps_after { swaps.new ≡ (factoring a.now m n out.old swaps.old).left.store }
 {
-    let number = factor_refusal(a, m, n, out, swaps);
-    if number != 0 {
-        return Factored::Refused(number);
-    }
+    test_factoring(a, m, n, out, swaps)?;
     blas::copy(out, a);
     factor_tested(out, m, n, swaps)
 }
 
 // The same where the matrix lies: its slice is read as the matrix and holds the factors afterwards.
-pub fn factor_mut(s: &mut [f64], m: usize, n: usize, swaps: &mut [usize]) -> Factored
+pub fn factor_mut(s: &mut [f64], m: usize, n: usize, swaps: &mut [usize]) -> Result<Factored, Refusal>
     ensures result_value { factored result ≡ factoring_answer s.old m n s.old swaps.old }
     ensures s_after { s.new ≡ (factoring s.old m n s.old swaps.old).left.factors }
     ensures swaps_after { swaps.new ≡ (factoring s.old m n s.old swaps.old).left.store }
 {
-    let number = factor_refusal(s, m, n, s, swaps);
-    if number != 0 {
-        return Factored::Refused(number);
-    }
+    test_factoring(s, m, n, s, swaps)?;
     factor_tested(s, m, n, swaps)
 }

@@ -55,7 +55,6 @@ module _ (r : Record) (s c : Column) (store : List ℕ) (next : Record) (good : 
   cs = columns m (n + 1) (adding s c store r).left.factors
 
   accepted : number_of (adding s c store r).answer ≡ 0
-  unfolding number_of
   accepted = ap number_of good
 
   go : Ready s c store r

@@ -99,7 +99,7 @@ module _ (m n : ℕ) (a out : Column) (store : List ℕ) (told : Record) (ok : (
 -- THEOREM. So it is by the contract of `factor`, of `factor_mut` and of `build_up`, which is one: where the answer is accepted, of the slice that is left.
 pub promised_within_one : (m n : ℕ) (a out : Column) (store : List ℕ) (told : Record) (tossed : ℕ) (s : Column) (store' : List ℕ)
     → Promise m n a out store (Accepted told tossed) s store' → WithinOne most_units m n (columns m n s)
-unfolding factored factoring_answer
+unfolding factoring_answer
 promised_within_one m n a out store told tossed s store' kept =
     let took = told_accepted (toss_ups m (columns m n a)) (factoring a m n out store).answer told tossed kept.0 in
     rw kept.1.0 (factored_within_one m n a out store told took.0)

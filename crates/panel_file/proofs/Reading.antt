@@ -14,13 +14,13 @@ use Rattle.numbers.specs.Each.{list_of}
 use Rattle.numbers.specs.Column.{Column}
 use Rattle.finite.specs.Finite.{all_finite}
 use Rattle.numbers.proofs.Choice.{test_cases, and_first, and_second}
-use Rattle.refusals.specs.Outcome.{done, refused, first_holding, tested, Call, leaving}
+use Rattle.refusals.specs.Outcome.{done, refused, first_holding, tested, Call, leaving, outcome}
 use Rattle.refusals.specs.Refusals.{outside}
 use Rattle.refusals.proofs.Outcomes.{Numbered, first_none, tested_none, tested_some}
 use Rattle.refusals.proofs.Tests.{Inside, inside, not_outside}
 use Rattle.panel_file.specs.declared.Panel.TheVariants.{Pads, Refused}
 use Rattle.panel_file.specs.File.{headed, pads_of, file_length, number_at, numbers_of, matrix_of, readings_of}
-use Rattle.panel_file.specs.Reading.{file_tests, file_refusal, Stores, stores, stores_fit, reading_refusal, filled, reading, pads_read}
+use Rattle.panel_file.specs.Reading.{file_tests, file_refusal, Stores, stores, stores_fit, reading_refusal, filled, reading}
 use Rattle.panel_file.specs.Reading.{sized_refusal, reading_sized}
 use Rattle.panel_file.specs.Inner.{Holds, reading_beside}
 use Rattle.refusals.proofs.Cases.{first_among}
@@ -144,8 +144,8 @@ module _ (fit : Bool) (bytes : List ℕ) (matrix readings : Column) where
   made = record { answer = done (pads_of bytes); left = filled bytes lent }
 
   pub read_refused : (number : ℕ) → number ≡ first_holding (file_tests fit bytes) → (number ≡ 0 → ⊥)
-      → (pads_read (Refused number) ≡ (reading_beside fit bytes lent).answer) × (lent ≡ (reading_beside fit bytes lent).left)
-  unfolding reading_beside pads_read
+      → (outcome (Refused number) ≡ (reading_beside fit bytes lent).answer) × (lent ≡ (reading_beside fit bytes lent).left)
+  unfolding reading_beside
   read_refused number e n = rw (tested_some (first_holding (file_tests fit bytes)) (leaving lent) made (λ z. n (e ∙ z))) (ap refused e, refl)
 
   -- a file that is not refused, n being its number of pads: what the code is owed where it fills the stores
@@ -193,9 +193,9 @@ module _ (fit : Bool) (bytes : List ℕ) (matrix readings : Column) where
 
     pub read_filled : (m r : Column) → m ≡ list_of (length (take (n * n) matrix)) (λ k. number_at bytes (0 + k))
         → r ≡ list_of (length (take n readings)) (λ k. number_at bytes (n * n + k))
-        → (pads_read (Pads n) ≡ (reading_beside fit bytes lent).answer)
+        → (outcome (Pads n) ≡ (reading_beside fit bytes lent).answer)
         × (stores (m ++ drop (n * n) matrix) (r ++ drop n readings) ≡ (reading_beside fit bytes lent).left)
-    unfolding reading_beside pads_read
+    unfolding reading_beside
     read_filled m r p q =
         let pm : m ≡ matrix_of n bytes = p ∙ ap (λ (k : ℕ). list_of k (λ i. number_at bytes (0 + i))) (sym matrix_count) in
         let pr : r ≡ readings_of n bytes = q ∙ ap (λ (k : ℕ). list_of k (λ i. number_at bytes (n * n + i))) (sym readings_count) in

@@ -7,10 +7,10 @@ ghost use Rattle.std.specs.Float.Ieee.{of_bits};
 ghost use Rattle.std.specs.Float.Ieee.Scale.{finite};
 ghost use Rattle.numbers.specs.Each.{list_of};
 ghost use Rattle.finite.specs.Finite.{all_finite};
-ghost use Rattle.refusals.specs.Outcome.{first_holding};
+ghost use Rattle.refusals.specs.Outcome.{first_holding, outcome};
 ghost use Rattle.panel_file.specs.File.{bits_at, headed, pads_of, number_at};
 ghost use Rattle.panel_file.specs.Inner.{Holds, reading_beside};
-ghost use Rattle.panel_file.specs.Reading.{file_tests, file_refusal, stores, reading, reading_sized, pads_read};
+ghost use Rattle.panel_file.specs.Reading.{file_tests, file_refusal, stores, reading, reading_sized};
 
 // What reading a file answers: how many pads it has, or a refusal's number.
 #[derive(Clone, Copy)]
@@ -133,7 +133,7 @@ pub fn file_refusal(file: &[u8]) -> usize
 // Reads a file into the front of two stores that fit or not. What lies past the file's own numbers stays as it was.
 fn read_front(file: &[u8], fit: bool, matrix: &mut [f64], readings: &mut [f64]) -> Panel
     requires { fit ≡ true → pads_of file.now ≤ 64 → Holds (pads_of file.now) (stores matrix.old readings.old) }
-    ensures result_value { pads_read result ≡ (reading_beside fit file.now (stores matrix.old readings.old)).answer }
+    ensures result_value { outcome result ≡ (reading_beside fit file.now (stores matrix.old readings.old)).answer }
     ensures readings_after { stores matrix.new readings.new
         ≡ (reading_beside fit file.now (stores matrix.old readings.old)).left }
 {
@@ -150,7 +150,7 @@ fn read_front(file: &[u8], fit: bool, matrix: &mut [f64], readings: &mut [f64]) 
 
 // Reads a file into two stores, of 4096 and 64 numbers.
 pub fn read(file: &[u8], matrix: &mut [f64], readings: &mut [f64]) -> Panel
-    ensures result_value { pads_read result ≡ (reading file.now (stores matrix.old readings.old)).answer }
+    ensures result_value { outcome result ≡ (reading file.now (stores matrix.old readings.old)).answer }
     ensures matrix_after { matrix.new ≡ (reading file.now (stores matrix.old readings.old)).left.matrix }
     ensures readings_after { readings.new ≡ (reading file.now (stores matrix.old readings.old)).left.readings }
 {
@@ -160,7 +160,7 @@ pub fn read(file: &[u8], matrix: &mut [f64], readings: &mut [f64]) -> Panel
 
 // Reads a file of n pads, and of no other size, into two stores that are as long as its matrix and its readings.
 pub fn read_sized(file: &[u8], n: usize, matrix: &mut [f64], readings: &mut [f64]) -> Panel
-    ensures result_value { pads_read result ≡ (reading_sized file.now n (stores matrix.old readings.old)).answer }
+    ensures result_value { outcome result ≡ (reading_sized file.now n (stores matrix.old readings.old)).answer }
     ensures readings_after { stores matrix.new readings.new
         ≡ (reading_sized file.now n (stores matrix.old readings.old)).left }
 {

@@ -29,7 +29,6 @@ use Rattle.panel_file_writer.proofs.Writing.{Fit, fit, not_refused, write_done}
 
 -- an answer that is none of the tests' refusals has none by them
 none_tested : (number count : ℕ) → number_of (tested number refused (done count)) ≡ 0 → number ≡ 0
-unfolding number_of
 none_tested number count = tested_cases number refused (done count) (λ o. number_of o ≡ 0 → number ≡ 0) (λ e h. e) (λ n h. h)
 
 -- ---- an accepted outcome
@@ -76,7 +75,7 @@ written_read n m r out made w z s fits =
 pub read_written : (bytes : List ℕ) (s : Stores) → AllBytes bytes → (n : ℕ) → (reading bytes s).answer ≡ done n → (out : List ℕ) (made : Call ℕ (List ℕ))
     → length bytes ≤ length out → Writing n (take (n * n) (reading bytes s).left.matrix) (take n (reading bytes s).left.readings) out made
     → made ≡ record { answer = done (length bytes); left = bytes ++ drop (length bytes) out }
-unfolding bytes_written number_of
+unfolding bytes_written
 read_written bytes s each k told out made room w =
     let n = pads_of bytes in
     let m = matrix_of n bytes in

@@ -78,7 +78,7 @@ module _ (n : ℕ) (m r : Column) (room : ℕ) where
 -- ---- the two ends of the call
 module _ (n : ℕ) (m r : Column) (out : List ℕ) where
   pub write_refused : (number : ℕ) → number ≡ writing_refusal n m r (length out) → (number ≡ 0 → ⊥) → Writing n m r out (written (Refused number) out)
-  unfolding bytes_written number_of
+  unfolding bytes_written
   write_refused number e ne = record {
     answers = ap refused e ∙ sym (tested_some (writing_refusal n m r (length out)) refused (done (file_length n)) (λ z. ne (e ∙ z)));
     as_it_was = λ _. refl;
@@ -88,7 +88,7 @@ module _ (n : ℕ) (m r : Column) (out : List ℕ) where
 
   pub write_done : (file : List ℕ) → writing_refusal n m r (length out) ≡ 0 → IsFile file n m r
       → Writing n m r out (written (Bytes (file_length n)) (file ++ drop (file_length n) out))
-  unfolding bytes_written number_of
+  unfolding bytes_written
   write_done file e p =
       let l : length file ≡ file_length n = p.whole in
       record {

@@ -22,7 +22,7 @@ use Rattle.why_file.specs.Explaining.{explain_factors, explained_by, explain_fil
 -- what is printed of a file that its own tests refuse
 module _ (bytes : List ℕ) (some : file_refusal bytes ≡ 0 → ⊥) where
   refused_text_lem : text_of bytes ≡ refused_text (file_refusal bytes)
-  unfolding text_of order_text loads_of factors_in and_then
+  unfolding text_of order_text loads_of factors_in
   refused_text_lem = rw (tested_some (file_refusal bytes) refused _ some)
 
   moves_number : (pad : ℕ) → moves_refusal bytes pad ≡ file_refusal bytes
@@ -36,7 +36,7 @@ module _ (bytes : List ℕ) (some : file_refusal bytes ≡ 0 → ⊥) where
       rw (tested_some (moves_refusal bytes pad) refused _ (λ z. some (sym is ∙ z))) (ap refused_text is)
 
   refused_stiffness : stiffness_text_of bytes ≡ refused_text (file_refusal bytes)
-  unfolding stiffness_text_of check_text stiffness factors_in and_then
+  unfolding stiffness_text_of check_text stiffness factors_in
   refused_stiffness = rw (tested_some (file_refusal bytes) refused _ some)
 
   refused_why : why_text_of bytes ≡ reason_text (told_number (file_refusal bytes))

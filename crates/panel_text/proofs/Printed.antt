@@ -11,7 +11,7 @@ use Rattle.io.specs.Counts.{IsPrefixLen}
 use Rattle.numbers.specs.Numbers.{zero64}
 use Rattle.numbers.specs.Column.{Column, zeros}
 use Rattle.finite.specs.Finite.{all_finite}
-use Rattle.refusals.specs.Outcome.{Outcome, done, Call}
+use Rattle.refusals.specs.Outcome.{Outcome, done, Call, outcome}
 use Rattle.ranking.specs.Ranking.{IsPad, ranked, pads_to}
 use Rattle.ranking.proofs.Inserting.{every_in_front, length_ranked, ranked_every}
 use Rattle.ranking.proofs.Listing.{length_pads, pads_every}
@@ -22,7 +22,6 @@ use Rattle.crossing_pads.specs.declared.Order.TheVariants.{Pads, Refused}
 use Rattle.scaled_determinant.specs.declared.Scaled.{Scaled}
 use Rattle.scaled_determinant.specs.declared.ScaledDet.{ScaledDet}
 use Rattle.scaled_determinant.specs.declared.ScaledDet.TheVariants.{Number, Refused as NoNumber}
-use Rattle.scaled_determinant.specs.Determinant.{scaled_answer}
 use Rattle.crossing.specs.Factors.{toss_ups_in, stiffness, loads_of}
 use Rattle.crossing_pads.specs.Ordering.{ranks_left, Ranks, ordering, pads_ordered}
 use Rattle.crossing_pads.specs.Moving.{moves_of, moving}
@@ -145,15 +144,14 @@ module _ (bytes : List ℕ) (pad : ℕ) (made : Order) (m : pads_ordered made �
 
 -- ---- the stiffness
 
-module _ (bytes : List ℕ) (made : ScaledDet) (m : scaled_answer made ≡ stiffness bytes) where
+module _ (bytes : List ℕ) (made : ScaledDet) (m : outcome made ≡ stiffness bytes) where
   pub text_scaled : (r : Scaled) → made ≡ Number r → scaled_text r ≡ stiffness_text_of bytes
-  unfolding scaled_answer stiffness_text_of check_text
-  text_scaled r t = ap check_text (sym (ap scaled_answer t) ∙ m)
+  unfolding stiffness_text_of check_text
+  text_scaled r t = ap check_text (sym (ap outcome t) ∙ m)
 
   pub text_not_scaled : (k : ℕ) → made ≡ NoNumber k → refused_text k ≡ stiffness_text_of bytes
-  unfolding scaled_answer stiffness_text_of check_text
-  text_not_scaled k t = ap check_text (sym (ap scaled_answer t) ∙ m)
+  unfolding stiffness_text_of check_text
+  text_not_scaled k t = ap check_text (sym (ap outcome t) ∙ m)
 
   pub not_scaled_few : (k : ℕ) → made ≡ NoNumber k → k < 100
-  unfolding scaled_answer
-  not_scaled_few k t = omega (arith, factors_few bytes k (stiffness_refusals bytes k (sym m ∙ ap scaled_answer t)))
+  not_scaled_few k t = omega (arith, factors_few bytes k (stiffness_refusals bytes k (sym m ∙ ap outcome t)))

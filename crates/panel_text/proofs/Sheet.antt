@@ -186,18 +186,15 @@ module _ (n : ℕ) (a : Column) (good : Good n a) where
 -- ---- the solves of a file's factors; what their slice `out` held does not matter
 
 then_same : {A B : Type 0} (o : Outcome A) (f g : A → Outcome B) → ((x : A) → o ≡ done x → f x ≡ g x) → and_then o f ≡ and_then o g
-unfolding and_then
 then_same (done x) f g same = same x refl
 then_same (refused k) f g same = refl
 
 held_refused : (o : Factoring) (k : ℕ) → o.answer ≡ refused k → held_in o ≡ refused k
-unfolding and_then
 held_refused o k e = ap (λ (x : Outcome Record). and_then x (λ told. done (packed o.left.factors o.left.store told))) e
 
 module _ (b out : Column) where
   any_slice : (way : Way) (r : Record) (f : Column) (s : List ℕ) → length out ≡ r.rows
       → solved_in (solving_by way f s r b 1 out) ≡ solved_in (solving_by way f s r b 1 (zeros r.rows))
-  unfolding and_then
   any_slice way r f s fits =
       let m = r.rows in
       let number = held_refusal f s r (solve_asks b m 1 (zeros m)) in
@@ -232,7 +229,7 @@ module _ (b : Column) (p : Packed) (long : length b ≡ p.told.rows) where
       length_flat m all tall ∙ ap (λ (k : ℕ). k * m) wide ∙ omega arith
 
   solution_long : (x : Column) → solution_by false p b ≡ done x → length x ≡ rows_of
-  unfolding solution_by solving seventh and_then
+  unfolding solution_by solving seventh
   solution_long x =
       let number = held_refusal p.factors p.swaps p.told (solve_asks b rows_of 1 (zeros rows_of)) in
       tested_cases number (leaving (zeros rows_of)) (seventh made) (λ c. solved_in c ≡ done x → length x ≡ rows_of)
@@ -261,7 +258,7 @@ module _ (bytes : List ℕ) (out : Column) (fits : length out ≡ pads_of bytes)
 
   loads_ranked : (ranks : List ℕ) → length ranks ≡ pads_of bytes → (o : Outcome Column) → loads_of bytes ≡ o
       → printed (and_then o (λ x. lined_up (pads_of bytes) x (ranking every_pad x (pads_of bytes) ranks))) ≡ order_text (pads_of bytes) o
-  unfolding and_then order_text
+  unfolding order_text
   loads_ranked ranks lr (done x) e =
       let n = pads_of bytes in
       let known = loads_known bytes x e in
@@ -310,7 +307,6 @@ module _ (bytes : List ℕ) (taken : file_refusal bytes ≡ 0) where
 
   -- what answers as factoring afresh does, and is the same where that is accepted, holds the file's factors
   same_held : (o : Factoring) → o.answer ≡ afresh.answer → (number_of afresh.answer ≡ 0 → o ≡ afresh) → held_in o ≡ factors_in bytes
-  unfolding number_of and_then
   same_held o answers same = go afresh.answer refl
     where
       go : (x : Outcome Record) → afresh.answer ≡ x → held_in o ≡ factors_in bytes
@@ -336,7 +332,6 @@ module _ (bytes : List ℕ) (taken : file_refusal bytes ≡ 0) where
   -- THEOREM. Factoring all columns but the last and adding the last comes to the file's factors, the refusals too.
   pub factors_by_adding : (older z : Column) (store : List ℕ) → length older ≡ (pads - 1) * pads → length store ≡ 128 → length z ≡ pads
       → by_adding bytes older store z ≡ factors_in bytes
-  unfolding and_then
   factors_by_adding older z store lo ls lz = go f.answer refl
     where
       f : Factoring
@@ -355,7 +350,7 @@ module _ (bytes : List ℕ) (taken : file_refusal bytes ≡ 0) where
   -- THEOREM. Where that adding is refused, so is the file, with the same number.
   pub refused_added : (r : Record) (o : Factoring) → Reached pads (pads - 1) (older_columns bytes) r o → (z : Column) → length z ≡ pads → (k : ℕ)
       → (adding (o.left.factors ++ z) (last_column bytes) o.left.store r).answer ≡ refused k → text_of bytes ≡ refused_text k
-  unfolding text_of order_text loads_of and_then
+  unfolding text_of order_text loads_of
   refused_added r o how z lz k e =
       ap (λ (h : Outcome Packed). order_text pads (and_then h (λ f. solution_by false f (readings_of pads bytes))))
       (sym (factors_added r o how z lz) ∙ held_refused (adding (o.left.factors ++ z) (last_column bytes) o.left.store r) k e)

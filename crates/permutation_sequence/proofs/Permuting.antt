@@ -12,8 +12,7 @@ use Rattle.numbers.specs.Column.{Column}
 use Rattle.finite.specs.Finite.{all_finite}
 use Rattle.numbers.proofs.Each.{each_each, each_id}
 use Rattle.blas.proofs.Exchange.{exchanged_twice}
-use Rattle.refusals.specs.Outcome.{done, refused, number_of, Call, leaving}
-use Rattle.refusals.specs.Refusals.{answered}
+use Rattle.refusals.specs.Outcome.{done, refused, number_of, Call, leaving, outcome}
 use Rattle.refusals.specs.declared.Answer.TheVariants.{Done, Refused}
 use Rattle.store.specs.Columns.{flat, on_columns}
 use Rattle.store.specs.Steps.{Matrix, swap_in_all}
@@ -31,7 +30,7 @@ use Rattle.exchanges.proofs.Finite.{exchange_finite, finite_on}
 module _ (exchange : ℕ → ℕ → Matrix → Matrix) (bound : ℕ) (backwards : Bool) (m n pairs : ℕ) (store : List ℕ) (s : Column) where
   pub permuting_refused : (number : ℕ) → number ≡ permuting_refusal s m n store pairs bound → (number ≡ 0 → ⊥)
       → Promise (permuting exchange bound backwards s m n store pairs) (Refused number) s
-  unfolding permuting answered
+  unfolding permuting
   permuting_refused number e g =
       promise_refused (permuting_refusal s m n store pairs bound) number s _ (Refused number) e g (sym (tested_some number refused (done tt) g))
 
@@ -48,7 +47,6 @@ module _ (exchange : ℕ → ℕ → Matrix → Matrix) (bound : ℕ) (backwards
 
   pub permuting_done : (t : Column) → permuting_refusal s m n store pairs bound ≡ 0 → t ≡ exchanges_on exchange backwards s m n store pairs
       → Promise (permuting exchange bound backwards s m n store pairs) Done t
-  unfolding answered
   permuting_done t e made =
       rw (accepted e) (
         refl,

@@ -2,11 +2,11 @@
 #![tactic(auto)]
 
 ghost use Rattle.std.specs.Prelude.{◌≡◌, true, false};
-ghost use Rattle.refusals.specs.Refusals.{answered};
+ghost use Rattle.refusals.specs.Outcome.{outcome, number_of};
 ghost use Rattle.exchanges.specs.Permute.{exchange_of};
 ghost use Rattle.permutation_sequence.specs.Calls.{permuting_refusal, permuting, permuting_rows, permuting_columns, sign_of};
 
-use refusals::Answer;
+use refusals::Refusal;
 
 // The determinant of the permutation, which is its sign.
 pub fn determinant(pairs: usize) -> f64
@@ -15,23 +15,25 @@ pub fn determinant(pairs: usize) -> f64
     if pairs % 2 == 0 { 1.0 } else { -1.0 }
 }
 
-// The number of the refusal that permuting meets, 0 for none; the bound is the row count, for columns the column count.
-pub fn permuting_refusal(
+// Refuses what permuting refuses, by the tests in their order; the bound is the row count, for columns the column count.
+pub fn test_permuting(
     s: &[f64],
     m: usize,
     n: usize,
     swaps: &[usize],
     pairs: usize,
     bound: usize,
-) -> usize
-    ensures { result ≡ permuting_refusal s.now m n swaps.now pairs bound }
+) -> Result<(), Refusal>
+    ensures { number_of (outcome result) ≡ permuting_refusal s.now m n swaps.now pairs bound }
 {
     let sizes = refusals::outside(1, m) | refusals::outside(0, n);
     let lengths = store::is_matrix(s, m, n) & (swaps.len() == 128);
-    let list = swap_list::is_good_list(swaps, pairs, bound, 64);
-    let numbers = finite::all_finite(s);
-    let from4 = refusals::first(4, !list, refusals::first(5, !numbers, 0));
-    refusals::first(1, sizes, refusals::first(3, !lengths, from4))
+    refusals::first_of(&[
+        (Refusal::Size, sizes),
+        (Refusal::Length, !lengths),
+        (Refusal::SwapList, !swap_list::is_good_list(swaps, pairs, bound, 64)),
+        (Refusal::NotFinite, !finite::all_finite(s)),
+    ])
 }
 
 // Permutes, or refuses; the bound is the row count, for columns the column count.
@@ -44,37 +46,34 @@ fn permute_or_refuse(
     bound: usize,
     columns: bool,
     reverse: bool,
-) -> Answer
-    ensures result_value { answered result ≡ (permuting (exchange_of columns) bound reverse s.old m n swaps.now pairs).answer }
+) -> Result<(), Refusal>
+    ensures result_value { outcome result ≡ (permuting (exchange_of columns) bound reverse s.old m n swaps.now pairs).answer }
     ensures s_after { s.new ≡ (permuting (exchange_of columns) bound reverse s.old m n swaps.now pairs).left }
 {
-    let number = permuting_refusal(s, m, n, swaps, pairs, bound);
-    if number != 0 {
-        return Answer::Refused(number);
-    }
+    test_permuting(s, m, n, swaps, pairs, bound)?;
     exchanges::apply(s, m, n, swaps, pairs, columns, reverse);
-    Answer::Done
+    Ok(())
 }
 
 // Applies the list to the rows of s, first pair first.
-pub fn permute_rows(s: &mut [f64], m: usize, n: usize, swaps: &[usize], pairs: usize) -> Answer
-    ensures result_value { answered result ≡ (permuting_rows false s.old m n swaps.now pairs).answer }
+pub fn permute_rows(s: &mut [f64], m: usize, n: usize, swaps: &[usize], pairs: usize) -> Result<(), Refusal>
+    ensures result_value { outcome result ≡ (permuting_rows false s.old m n swaps.now pairs).answer }
     ensures s_after { s.new ≡ (permuting_rows false s.old m n swaps.now pairs).left }
 {
     permute_or_refuse(s, m, n, swaps, pairs, m, false, false)
 }
 
 // Applies the list in reverse to the rows of s, last pair first.
-pub fn inv_permute_rows(s: &mut [f64], m: usize, n: usize, swaps: &[usize], pairs: usize) -> Answer
-    ensures result_value { answered result ≡ (permuting_rows true s.old m n swaps.now pairs).answer }
+pub fn inv_permute_rows(s: &mut [f64], m: usize, n: usize, swaps: &[usize], pairs: usize) -> Result<(), Refusal>
+    ensures result_value { outcome result ≡ (permuting_rows true s.old m n swaps.now pairs).answer }
     ensures s_after { s.new ≡ (permuting_rows true s.old m n swaps.now pairs).left }
 {
     permute_or_refuse(s, m, n, swaps, pairs, m, false, true)
 }
 
 // Applies the list to the columns of s, first pair first.
-pub fn permute_columns(s: &mut [f64], m: usize, n: usize, swaps: &[usize], pairs: usize) -> Answer
-    ensures result_value { answered result ≡ (permuting_columns false s.old m n swaps.now pairs).answer }
+pub fn permute_columns(s: &mut [f64], m: usize, n: usize, swaps: &[usize], pairs: usize) -> Result<(), Refusal>
+    ensures result_value { outcome result ≡ (permuting_columns false s.old m n swaps.now pairs).answer }
     ensures s_after { s.new ≡ (permuting_columns false s.old m n swaps.now pairs).left }
 {
     permute_or_refuse(s, m, n, swaps, pairs, n, true, false)
@@ -87,8 +86,8 @@ pub fn inv_permute_columns(
     n: usize,
     swaps: &[usize],
     pairs: usize,
-) -> Answer
-    ensures result_value { answered result ≡ (permuting_columns true s.old m n swaps.now pairs).answer }
+) -> Result<(), Refusal>
+    ensures result_value { outcome result ≡ (permuting_columns true s.old m n swaps.now pairs).answer }
     ensures s_after { s.new ≡ (permuting_columns true s.old m n swaps.now pairs).left }
 {
     permute_or_refuse(s, m, n, swaps, pairs, n, true, true)

@@ -11,12 +11,12 @@ use lib.ListN.{length, replicate}
 use Rattle.numbers.specs.Column.{Column}
 use Rattle.finite.specs.Finite.{all_finite}
 use Rattle.numbers.proofs.Choice.{and_first, and_second}
-use Rattle.refusals.specs.Outcome.{done, refused, first_holding, leaving}
+use Rattle.refusals.specs.Outcome.{done, refused, first_holding, leaving, outcome}
 use Rattle.refusals.proofs.Outcomes.{first_none, tested_none, tested_some}
 use Rattle.refusals.proofs.Tests.{Inside, inside, not_outside}
 use Rattle.ranking.specs.declared.Listed.{Listed}
 use Rattle.ranking.specs.declared.Listed.TheVariants.{Pads, Refused}
-use Rattle.ranking.specs.Ranking.{Choice, every_pad, ranked, pads_to, chosen, listing, ranking_refusal, padded, ranking, pads_listed}
+use Rattle.ranking.specs.Ranking.{Choice, every_pad, ranked, pads_to, chosen, listing, ranking_refusal, padded, ranking}
 use Rattle.ranking.proofs.Inserting.{length_ranked}
 use Rattle.ranking.proofs.Listing.{length_pads}
 
@@ -49,10 +49,10 @@ module _ (n : ℕ) (loads : Column) (was : List ℕ) where
 module _ (choice : Choice) (n : ℕ) (loads : Column) (was : List ℕ) where
   -- the promise on the answer and on the slice
   abbrev pub Answers : Listed → List ℕ → Type 0
-  Answers r s = (pads_listed r ≡ (ranking choice loads n was).answer) × (s ≡ (ranking choice loads n was).left)
+  Answers r s = (outcome r ≡ (ranking choice loads n was).answer) × (s ≡ (ranking choice loads n was).left)
 
   pub outcome_refused : (number : ℕ) → number ≡ ranking_refusal loads n was → (number ≡ 0 → ⊥) → Answers (Refused number) was
-  unfolding ranking pads_listed
+  unfolding ranking
   outcome_refused number e h = rw (tested_some (ranking_refusal loads n was) (leaving was) _ (λ z. h (e ∙ z))) (ap refused e, refl)
 
   -- the call where it is not refused
@@ -63,7 +63,6 @@ module _ (choice : Choice) (n : ℕ) (loads : Column) (was : List ℕ) where
 
   pub outcome_ranked : (s : List ℕ) (count : ℕ) → ranking_refusal loads n was ≡ 0
       → (count ≡ length (listing choice loads n)) × (s ≡ padded n (listing choice loads n)) → Answers (Pads count) s
-  unfolding pads_listed
   outcome_ranked s count e made = rw (ranking_accepted e) (ap done made.0, made.1)
 
 -- ---- all pads: n of them, and no slot behind

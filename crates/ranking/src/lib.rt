@@ -2,7 +2,8 @@
 #![tactic(auto)]
 
 ghost use Rattle.std.specs.Prelude.{◌≡◌, ◌++◌, ℕ, ◌+◌, ◌<◌, length, get_or, take, drop};
-ghost use Rattle.ranking.specs.Ranking.{IsPad, ahead, loaded, every_pad, insert_pad, listing, ranking_refusal, padded, ranking, pads_listed};
+ghost use Rattle.refusals.specs.Outcome.{outcome};
+ghost use Rattle.ranking.specs.Ranking.{IsPad, ahead, loaded, every_pad, insert_pad, listing, ranking_refusal, padded, ranking};
 ghost use Rattle.ranking.specs.Inner.{choice_by};
 
 // What a ranking answers: how many pads are listed, or a refusal's number.
@@ -96,7 +97,7 @@ fn list(loads: &[f64], all: bool, ranks: &mut [usize]) -> usize
 
 // Ranks the n loads, all or those that are not zero.
 fn rank_chosen(loads: &[f64], n: usize, all: bool, ranks: &mut [usize]) -> Listed
-    ensures result_value { pads_listed result ≡ (ranking (choice_by all loads.now) loads.now n ranks.old).answer }
+    ensures result_value { outcome result ≡ (ranking (choice_by all loads.now) loads.now n ranks.old).answer }
     ensures ranks_after { ranks.new ≡ (ranking (choice_by all loads.now) loads.now n ranks.old).left }
 {
     let number = rank_refusal(loads, n, ranks);
@@ -108,7 +109,7 @@ fn rank_chosen(loads: &[f64], n: usize, all: bool, ranks: &mut [usize]) -> Liste
 
 // Ranks those of the n loads that are not zero: the pads' numbers from 1, greatest magnitude first, equal magnitudes by lower number, and 0 behind them.
 pub fn rank(loads: &[f64], n: usize, ranks: &mut [usize]) -> Listed
-    ensures result_value { pads_listed result ≡ (ranking (loaded loads.now) loads.now n ranks.old).answer }
+    ensures result_value { outcome result ≡ (ranking (loaded loads.now) loads.now n ranks.old).answer }
     ensures ranks_after { ranks.new ≡ (ranking (loaded loads.now) loads.now n ranks.old).left }
 {
     rank_chosen(loads, n, false, ranks)
@@ -116,7 +117,7 @@ pub fn rank(loads: &[f64], n: usize, ranks: &mut [usize]) -> Listed
 
 // Ranks all of the n loads.
 pub fn rank_all(loads: &[f64], n: usize, ranks: &mut [usize]) -> Listed
-    ensures result_value { pads_listed result ≡ (ranking every_pad loads.now n ranks.old).answer }
+    ensures result_value { outcome result ≡ (ranking every_pad loads.now n ranks.old).answer }
     ensures ranks_after { ranks.new ≡ (ranking every_pad loads.now n ranks.old).left }
 {
     rank_chosen(loads, n, true, ranks)

@@ -53,13 +53,11 @@ module _ {A : Type 0} (number : ℕ) (o : Outcome A) where
 
 -- ---- where an outcome that was handed on comes from
 pub then_done : {A B Q : Type 0} (o : Outcome A) (f : A → Outcome B) (b : B) → and_then o f ≡ done b → ((a : A) → o ≡ done a → f a ≡ done b → Q) → Q
-unfolding and_then
 then_done (done a) f b e use-it = use-it a refl e
 then_done (refused k) f b e use-it = never_both b k (sym e)
 
 pub then_refused : {A B Q : Type 0} (o : Outcome A) (f : A → Outcome B) (k : ℕ) → and_then o f ≡ refused k → (o ≡ refused k → Q)
     → ((a : A) → o ≡ done a → f a ≡ refused k → Q) → Q
-unfolding and_then
 then_refused (done a) f k e early late = late a refl e
 then_refused {A = A} (refused j) f k e early late = early (same (refused_same j k e))
   where

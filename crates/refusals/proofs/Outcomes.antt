@@ -10,9 +10,13 @@ use lib.Dec.{eqb}
 use Rattle.numbers.specs.Column.{Column}
 use Rattle.finite.specs.Finite.{all_finite}
 use Rattle.numbers.proofs.Choice.{test_cases, cond_cases, cond_map}
-use Rattle.refusals.specs.declared.Answer.{Answer}
-use Rattle.refusals.specs.Outcome.{Outcome, done, refused, number_of, first_holding, tested, and_then, Call, leaving}
-use Rattle.refusals.specs.Refusals.{answered, seventh}
+use Rattle.std.proofs.Common.{Result, Err}
+use Rattle.std.specs.Result.{IsErrAnd}
+use Rattle.std.proofs.lemmas.Result.{err_from_is_err_and}
+use Rattle.refusals.specs.declared.Refusal.{Refusal}
+use Rattle.refusals.specs.declared.Refusal.TheVariants.{Size, NotSquare, Length, SwapList, NotFinite, Singular, Overflow, NotAPanelFile, DeadColumns, SeasonFull}
+use Rattle.refusals.specs.Outcome.{Outcome, done, refused, outcome, number, number_of, first_holding, tested, and_then, Call, leaving}
+use Rattle.refusals.specs.Refusals.{seventh}
 
 -- ---- the tests
 
@@ -59,34 +63,49 @@ tested_map f number refuse made = sym (cond_map f (eqb number 0) made (refuse nu
 
 -- calls in a row may be read as one call of the later two
 pub then_then : {A B C : Type 0} (o : Outcome A) (f : A → Outcome B) (g : B → Outcome C) → and_then (and_then o f) g ≡ and_then o (λ a. and_then (f a) g)
-unfolding and_then
 then_then (done a) f g = refl
 then_then (refused k) f g = refl
 
 -- a call that gives no refusal has none by its tests
 pub none_given : {A S : Type 0} (number : ℕ) (was : S) (made : Call A S) → number_of (tested number (leaving was) made).answer ≡ 0 → number ≡ 0
-unfolding number_of
 none_given number was made =
     tested_cases number (leaving was) made (λ o. number_of o.answer ≡ 0 → number ≡ 0) (λ e h. e) (λ n h. h)
 
--- ---- a call whose answer has no value: its promise is the answer and what its slice holds
-abbrev pub Promise : {S : Type 0} → Call (Unit {0}) S → Answer → S → Type 0
-Promise o r s = (answered r ≡ o.answer) × (s ≡ o.left)
+-- ---- the kinds of refusals: none has the number 0, and no two have the same
+pub never_0 : (refusal : Refusal) → number refusal ≡ 0 → ⊥
+never_0 Size e = omega (arith, e)
+never_0 NotSquare e = omega (arith, e)
+never_0 Length e = omega (arith, e)
+never_0 SwapList e = omega (arith, e)
+never_0 NotFinite e = omega (arith, e)
+never_0 Singular e = omega (arith, e)
+never_0 Overflow e = omega (arith, e)
+never_0 NotAPanelFile e = omega (arith, e)
+never_0 DeadColumns e = omega (arith, e)
+never_0 SeasonFull e = omega (arith, e)
 
--- its tests gave a number, which is answered
-pub promise_refused : {S : Type 0} (refusal number : ℕ) (was : S) (made : Call (Unit {0}) S) (r : Answer) → number ≡ refusal → (number ≡ 0 → ⊥)
-    → answered r ≡ tested number refused (done tt) → Promise (tested refusal (leaving was) made) r was
-promise_refused refusal number was made r e ne a =
-    rw (tested_some refusal (leaving was) made (λ z. ne (e ∙ z))) (a ∙ tested_some number refused (done tt) ne ∙ ap refused e, refl)
+-- ---- a call whose promise is the answer and what its slices hold
+abbrev pub Promise : {A S : Type 0} → Call A S → Result A Refusal → S → Type 0
+Promise o r s = (outcome r ≡ o.answer) × (s ≡ o.left)
+
+-- what a `?` hands on
+pub handed_on : {A : Type 0} (r : Refusal) (answer : Result A Refusal) → IsErrAnd answer (λ e. e ≡ r) → answer ≡ Err r
+handed_on r answer h = let p = err_from_is_err_and answer h in p.1 ∙ ap Err p.2
+
+-- its tests refused, and that is answered
+pub promise_refused : {A S : Type 0} (refusal : ℕ) (was : S) (made : Call A S) (r : Refusal) (answer : Result A Refusal) → number r ≡ refusal
+    → IsErrAnd answer (λ e. e ≡ r) → Promise (tested refusal (leaving was) made) answer was
+promise_refused refusal was made r answer e h =
+    rw (handed_on r answer h, tested_some refusal (leaving was) made (λ z. never_0 r (e ∙ z))) (ap refused e, refl)
 
 -- the work was done
-pub promise_made : {S : Type 0} (refusal number : ℕ) (was : S) (made : Call (Unit {0}) S) (r : Answer) (s : S) → number ≡ refusal → number ≡ 0
-    → answered r ≡ made.answer → s ≡ made.left → Promise (tested refusal (leaving was) made) r s
-promise_made refusal number was made r s e none a b = rw (tested_none refusal (leaving was) made (sym e ∙ none)) (a, b)
+pub promise_made : {A S : Type 0} (refusal : ℕ) (was : S) (made : Call A S) (r : Result A Refusal) (s : S) → 0 ≡ refusal
+    → outcome r ≡ made.answer → s ≡ made.left → Promise (tested refusal (leaving was) made) r s
+promise_made refusal was made r s none a b = rw (tested_none refusal (leaving was) made (sym none)) (a, b)
 
 -- ---- refusal 7 is given exactly where some result is not finite; else the results stand
 pub seventh_number : (made : Column) → number_of (seventh made).answer ≡ cond (all_finite made) 0 7
-unfolding seventh number_of
+unfolding seventh
 seventh_number made = sym (cond_map (λ (o : Call (Unit {0}) Column). number_of o.answer) (all_finite made) _ _)
 
 pub seventh_refused : (made : Column) → ((seventh made).answer ≡ refused 7) ↔ (all_finite made ≡ false)
@@ -98,14 +117,6 @@ seventh_refused made = (
 )
 
 pub seventh_stands : (made : Column) → number_of (seventh made).answer ≡ 0 → (seventh made).left ≡ made
-unfolding seventh number_of
+unfolding seventh
 seventh_stands made =
     cond_cases (λ (o : Call (Unit {0}) Column). number_of o.answer ≡ 0 → o.left ≡ made) (all_finite made) (λ t e. refl) (λ t e. absurd (omega (arith, e)))
-
--- the answer for the number that settling gave is refusal 7's
-pub seventh_answer : (made : Column) (number : ℕ) → number ≡ number_of (seventh made).answer → tested number refused (done tt) ≡ (seventh made).answer
-unfolding seventh number_of
-seventh_answer made number e =
-    rw e
-    (cond_cases (λ (o : Call (Unit {0}) Column). tested (number_of o.answer) refused (done tt) ≡ o.answer) (all_finite made)
-    (λ t. tested_none 0 refused (done tt) refl) (λ t. tested_some 7 refused (done tt) (λ z. omega (arith, z))))

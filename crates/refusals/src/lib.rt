@@ -1,15 +1,42 @@
 // Document 01, "Refusal numbers": what the calls share of testing their input and of answering.
 #![tactic(auto)]
 
-ghost use Rattle.std.specs.Prelude.{◌≡◌, cond};
-ghost use Rattle.refusals.specs.Outcome.{done, refused, number_of, tested};
-ghost use Rattle.refusals.specs.Refusals.{outside, answered, seventh};
+ghost use Rattle.std.specs.Prelude.{◌≡◌};
+ghost use Rattle.refusals.specs.Outcome.{outcome, number, number_of, first_holding, numbered};
+ghost use Rattle.refusals.specs.Refusals.{outside, seventh};
 
-// What a call answers whose results are lent slices.
-#[derive(Clone, Copy)]
-pub enum Answer {
-    Done,
-    Refused(usize),
+// Why a call refuses: the kinds of document 01, "Refusal numbers", and of document 02's requests 7 and 13.
+#[derive(Clone, Copy, Debug, PartialEq, Eq)]
+pub enum Refusal {
+    Size,
+    NotSquare,
+    Length,
+    SwapList,
+    NotFinite,
+    Singular,
+    Overflow,
+    NotAPanelFile,
+    DeadColumns,
+    SeasonFull,
+}
+
+impl From<Refusal> for usize {
+    ghost from_gives = { λ refusal n. n ≡ number refusal };
+
+    fn from(refusal: Refusal) -> usize {
+        match refusal {
+            Refusal::Size => 1,
+            Refusal::NotSquare => 2,
+            Refusal::Length => 3,
+            Refusal::SwapList => 4,
+            Refusal::NotFinite => 5,
+            Refusal::Singular => 6,
+            Refusal::Overflow => 7,
+            Refusal::NotAPanelFile => 8,
+            Refusal::DeadColumns => 9,
+            Refusal::SeasonFull => 10,
+        }
+    }
 }
 
 // Whether a size lies outside `least` to 64.
@@ -22,41 +49,36 @@ pub fn outside(least: usize, size: usize) -> bool
     64 < size
 }
 
-// One test of a refusal: its number where it holds, else what the later tests gave. All tests are made; the first that holds counts.
-pub fn first(number: usize, holds: bool, later: usize) -> usize
-    ensures { result ≡ cond holds number later }
+// "Tested in this order; the first that holds is given": the refusals with their tests, all of which are made.
+pub fn first_of(tests: &[(Refusal, bool)]) -> Result<(), Refusal>
+    ensures { number_of (outcome result) ≡ first_holding (numbered tests.now) }
 {
-    if holds { number } else { later }
-}
-
-// The answer for a refusal number, 0 being none.
-pub fn answer_for(number: usize) -> Answer
-    ensures { answered result ≡ tested number refused (done tt) }
-{
-    if number == 0 {
-        return Answer::Done;
+    for (refusal, holds) in tests {
+        if *holds {
+            return Err(*refusal);
+        }
     }
-    Answer::Refused(number)
+    Ok(())
 }
 
-// The refusal number that an answer stands for, 0 for none.
-pub fn number_of(answer: Answer) -> usize
-    ensures { result ≡ number_of (answered answer) }
-{
-    match answer {
-        Answer::Done => 0,
-        Answer::Refused(number) => number,
-    }
-}
-
-// Refusal 7: where some result is not finite, all results become +0.0. Answers 7 then, else 0.
-pub fn settle(res: &mut [f64]) -> usize
-    ensures value { result ≡ number_of (seventh res.old).answer }
+// Refusal 7: where some result is not finite, all results become +0.0.
+pub fn settle(res: &mut [f64]) -> Result<(), Refusal>
+    ensures value { outcome result ≡ (seventh res.old).answer }
     ensures res_after { res.new ≡ (seventh res.old).left }
 {
     if finite::all_finite(res) {
-        return 0;
+        return Ok(());
     }
     blas::fill_zero(res);
-    7
+    Err(Refusal::Overflow)
+}
+
+// The refusal's number, 0 for none: what a call for C answers.
+pub fn number_of(answer: Result<(), Refusal>) -> usize
+    ensures { result ≡ number_of (outcome answer) }
+{
+    match answer {
+        Ok(()) => 0,
+        Err(refusal) => usize::from(refusal),
+    }
 }

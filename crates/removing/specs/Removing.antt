@@ -9,8 +9,6 @@ use Rattle.factors.specs.declared.Asks.{Asks}
 use Rattle.factors.specs.Factors.{Factors, record_for, factors_in, slices, Factoring}
 use Rattle.factors.specs.Held.{held_refusal}
 use Rattle.elimination.specs.Removing.{last_pair, undoes, pairs_before, remove_column}
-use Rattle.removing.specs.declared.Removed.{Removed}
-use Rattle.removing.specs.declared.Removed.TheVariants.{Accepted, Refused}
 
 -- What 4 asks besides a good list, n being the number of the last column: no "more than min(m, n - 1) pairs would remain", nor has the pair to be undone "its
 -- second number below its first".
@@ -39,12 +37,3 @@ removing_made store r f =
 unfoldable pub removing : Column → List ℕ → Record → Factoring
 removing s store r =
     tested (removing_refusal s store r) (leaving (slices s store)) (removing_made store r (factors_in s r.rows r.columns store r.pairs))
-
--- ---- the answer: the record, or the refusal; and in either case the record that is left
-unfoldable pub removed : Removed → Outcome Record
-removed (Accepted told) = done told
-removed (Refused number told) = refused number
-
-unfoldable pub record_in : Removed → Record
-record_in (Accepted told) = told
-record_in (Refused number told) = told

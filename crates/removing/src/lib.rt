@@ -5,19 +5,14 @@ ghost use Rattle.std.specs.Prelude.{◌≡◌, ◌+◌, ◌-◌, ◌*◌, ◌<�
 ghost use Rattle.store.specs.Columns.{on_columns};
 ghost use Rattle.store.specs.Steps.{rows_swapped};
 ghost use Rattle.swap_list.specs.SwapList.{pairs_of};
+ghost use Rattle.refusals.specs.Outcome.{outcome, number_of};
 ghost use Rattle.factors.specs.Factors.{record_after};
 ghost use Rattle.elimination.specs.Removing.{undoes};
-ghost use Rattle.removing.specs.Removing.{good_undoing, removing_refusal, removing, removed, record_in};
+ghost use Rattle.removing.specs.Removing.{good_undoing, removing_refusal, removing};
 ghost use Rattle.removing.specs.Inner.{RemovableIf, Ready, RemovedFrom};
 
 use factors::{Asks, Record};
-
-// What removing a column answers: the new record, or a refusal's number with the old record.
-#[derive(Clone, Copy)]
-pub enum Removed {
-    Accepted(Record),
-    Refused { number: usize, told: Record },
-}
+use refusals::Refusal;
 
 // The number of the last of n columns; 0 where there is none.
 fn last_of(n: usize) -> usize
@@ -64,9 +59,9 @@ fn is_good_to_remove(swaps: &[usize], told: Record) -> bool
     false
 }
 
-// The number of the refusal before the work, 0 for none.
-fn removing_refusal(s: &[f64], swaps: &[usize], told: Record) -> usize
-    ensures { result ≡ removing_refusal s.now swaps.now told }
+// Refuses what removing refuses.
+fn test_removing(s: &[f64], swaps: &[usize], told: Record) -> Result<(), Refusal>
+    ensures { number_of (outcome result) ≡ removing_refusal s.now swaps.now told }
 {
     let asks = Asks {
         square: false,
@@ -76,7 +71,7 @@ fn removing_refusal(s: &[f64], swaps: &[usize], told: Record) -> usize
         list: is_good_to_remove(swaps, told),
         numbers: true,
     };
-    factors::held_refusal(s, swaps, told, asks)
+    factors::test_held(s, swaps, told, asks)
 }
 
 // Undoes the last pair: its two rows exchanged in the n older columns, and the pair zero.
@@ -94,7 +89,7 @@ fn undo(s: &mut [f64], m: usize, n: usize, swaps: &mut [usize], pairs: usize)
 // Takes the last column off, past the tests.
 fn remove_tested(s: &mut [f64], swaps: &mut [usize], told: Record) -> Record
     requires { Ready s.old swaps.old told }
-    ensures { RemovedFrom s.old swaps.old told (Removed.Accepted result) s.new swaps.new }
+    ensures { RemovedFrom s.old swaps.old told (Ok result) s.new swaps.new }
 {
     let m = told.rows;
     let n = told.columns - 1;
@@ -121,16 +116,18 @@ fn remove_tested(s: &mut [f64], swaps: &mut [usize], told: Record) -> Record
     }
 }
 
-// Takes the last column off the factors in s: the factors before it was added, its slot zero.
-pub fn remove_column(s: &mut [f64], swaps: &mut [usize], told: Record) -> Removed
-    ensures result_value { removed result ≡ (removing s.old swaps.old told).answer }
-    ensures result_value_2 { record_in result ≡ record_after told (removing s.old swaps.old told).answer }
+// Takes the last column off the factors in s: the factors before it was added, its slot zero. Answers the new record; a caller who is refused still holds
+// the one before.
+pub fn remove_column(
+    s: &mut [f64],
+    swaps: &mut [usize],
+    told: Record,
+) -> Result<Record, Refusal>
+    ensures result_value { outcome result ≡ (removing s.old swaps.old told).answer }
+    ensures record_value { record_after told (outcome result) ≡ record_after told (removing s.old swaps.old told).answer }
     ensures s_after { s.new ≡ (removing s.old swaps.old told).left.factors }
     ensures swaps_after { swaps.new ≡ (removing s.old swaps.old told).left.store }
 {
-    let number = removing_refusal(s, swaps, told);
-    if number != 0 {
-        return Removed::Refused { number, told };
-    }
-    Removed::Accepted(remove_tested(s, swaps, told))
+    test_removing(s, swaps, told)?;
+    Ok(remove_tested(s, swaps, told))
 }

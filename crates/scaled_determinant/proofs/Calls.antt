@@ -104,7 +104,7 @@ module _ (r : Record) (factors : Column) (store : List ℕ) where
 
     -- THEOREM. It vanishes exactly where the matrix is not invertible: the invertible test answers whether the significand is not zero.
     pub vanishes_exactly : inverse_test factors store r ≡ and_then (scaling factors store r) (λ x. done (not (is_zero x.significand)))
-    unfolding inverse_test scaling and_then
+    unfolding inverse_test scaling
     vanishes_exactly =
         let number = held_refusal factors store r square_asks in
         same_tests number (done (eqb r.dead 0)) (done (not (is_zero (scaled_determinant factors n r.pairs).significand))) (λ z.
@@ -127,7 +127,7 @@ module _ (r : Record) (factors : Column) (store : List ℕ) where
     -- THEOREM. Where every running product of the plain determinant is finite and of magnitude above 2 ^ -1022, the plain determinant is the scaled one's
     -- significand times two to its exponent, exactly; and both are refused alike.
     pub scaled_exactly : AllAmple n cs → determining factors store r ≡ and_then (scaling factors store r) (λ x. done (value_of x))
-    unfolding determining producing scaling and_then determinant_of
+    unfolding determining producing scaling determinant_of
     scaled_exactly all =
         let number = held_refusal factors store r square_asks in
         tested_map (λ o. and_then o (λ d. number_or7 (mul binary64 d (sign_of r.pairs)))) number refused (done (diagonal_product n cs))

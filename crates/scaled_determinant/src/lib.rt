@@ -9,7 +9,8 @@ ghost use Rattle.finite.specs.Finite.{all_finite};
 ghost use Rattle.store.specs.Columns.{columns, is_matrix};
 ghost use Rattle.solve.specs.Calls.{zero_on_diagonal};
 ghost use Rattle.scaled_determinant.specs.Scaled.{parts_of, halved_at_two, scaled_times};
-ghost use Rattle.scaled_determinant.specs.Determinant.{scaled_product, signed_by, scaled_answer, scaling};
+ghost use Rattle.refusals.specs.Outcome.{outcome};
+ghost use Rattle.scaled_determinant.specs.Determinant.{scaled_product, signed_by, scaling};
 ghost use Rattle.scaled_determinant.specs.Range.{InRange, AnswerRanged};
 ghost use Rattle.scaled_determinant.specs.Inner.{Parted};
 
@@ -122,7 +123,7 @@ fn signed_product(factors: &[f64], n: usize, pairs: usize) -> Scaled
 
 // The determinant of the factored matrix as a significand and an exponent: +0.0 with 0 where a column is dead.
 pub fn scaled_determinant(factors: &[f64], swaps: &[usize], told: Record) -> ScaledDet
-    ensures result_value { scaled_answer result ≡ scaling factors.now swaps.now told }
+    ensures result_value { outcome result ≡ scaling factors.now swaps.now told }
     ensures answer_ranged { AnswerRanged result }
 {
     let asks = Asks {

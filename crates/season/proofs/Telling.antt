@@ -11,15 +11,14 @@ use Rattle.numbers.proofs.Choice.{cond_cases}
 use Rattle.finite.proofs.Finite.{finite_entry}
 use Rattle.store.specs.Columns.{columns, is_matrix}
 use Rattle.store.proofs.Columns.{sized, column_within, entry_at}
-use Rattle.refusals.specs.Outcome.{Outcome, done, refused, number_of, tested, and_then, Call}
-use Rattle.refusals.specs.Refusals.{answered}
+use Rattle.refusals.specs.Outcome.{Outcome, done, refused, number_of, tested, and_then, Call, outcome}
 use Rattle.refusals.specs.declared.Answer.{Answer}
 use Rattle.refusals.specs.declared.Answer.TheVariants.{Done, Refused as NotDone}
 use Rattle.refusals.proofs.Outcomes.{tested_some, tested_cases, none_given}
 use Rattle.refusals.proofs.Cases.{done_same, refused_same, never_both, tested_done, tested_refused, then_done, then_refused}
 use Rattle.ranking.specs.declared.Listed.{Listed}
 use Rattle.ranking.specs.declared.Listed.TheVariants.{Pads, Refused as NotListed}
-use Rattle.ranking.specs.Ranking.{Choice, loaded, pads_to, chosen, listing, ranking, pads_listed}
+use Rattle.ranking.specs.Ranking.{Choice, loaded, pads_to, chosen, listing, ranking}
 use Rattle.ranking.proofs.Calls.{not_refused, ranking_accepted}
 use Rattle.ranking.proofs.Inserting.{length_ranked}
 use Rattle.ranking.proofs.Listing.{length_pads}
@@ -47,37 +46,32 @@ use Rattle.season.proofs.Doubles.{factor_double, magnitude_double, exponent_most
 -- ---- the solve for the readings, by the number of its refusal
 
 number_tested : (number : ℕ) → number_of {A = Unit {0}} (tested number refused (done tt)) ≡ number
-unfolding number_of
 number_tested number = tested_cases number refused (done tt) (λ o. number_of o ≡ number) (λ z. sym z) (λ z. refl)
 
 number_then : {A B : Type 0} (o : Outcome A) (f : A → B) → number_of (and_then o (λ a. done (f a))) ≡ number_of o
-unfolding number_of and_then
 number_then (done a) f = refl
 number_then (refused k) f = refl
 
 same_number : {A B C : Type 0} (o : Outcome A) (f : A → Outcome B) (g : A → Outcome C) → ((a : A) → number_of (f a) ≡ number_of (g a))
     → number_of (and_then o f) ≡ number_of (and_then o g)
-unfolding number_of and_then
 same_number (done a) f g h = h a
 same_number (refused k) f g h = refl
 
-any_answer : {Q : Type 0} (o : Outcome (Unit {0})) → ((a : Answer) → answered a ≡ o → Q) → Q
-unfolding answered
+any_answer : {Q : Type 0} (o : Outcome (Unit {0})) → ((a : Answer) → outcome a ≡ o → Q) → Q
 any_answer (done tt) f = f Done refl
 any_answer (refused k) f = f (NotDone k) refl
 
 -- an outcome that was tested by its number is not refused with 0
 never_zero : (number : ℕ) (o : Outcome Column) → ◌≡◌ {A = Outcome (Unit {0})} (tested number refused (done tt)) (and_then o (λ _. done tt))
     → (k : ℕ) → o ≡ refused k → k ≡ 0 → ⊥
-unfolding and_then
 never_zero number (done x) same k e z = never_both x k e
 never_zero number (refused j) same k e z =
     tested_refused {A = Unit {0}} number (done tt) j same (λ _ f. never_both {A = Unit {0}} tt j f)
     (λ some f. some (f ∙ refused_same {A = Column} j k e ∙ z))
 
 module _ (p : Packed) (b : Column) where
-  pub solve_number : (was : Column) → length was ≡ p.told.rows → (a : Answer) (number : ℕ) → number ≡ number_of (answered a)
-      → answered a ≡ (solving p.factors p.swaps p.told b 1 was).answer → number ≡ number_of (solution_by false p b)
+  pub solve_number : (was : Column) → length was ≡ p.told.rows → (a : Answer) (number : ℕ) → number ≡ number_of (outcome a)
+      → outcome a ≡ (solving p.factors p.swaps p.told b 1 was).answer → number ≡ number_of (solution_by false p b)
   solve_number was l a number e d =
       sym (number_tested number) ∙ ap number_of (solved_answer false p b was l a number tt e d) ∙ number_then (solution_by false p b) (λ _. tt)
 
@@ -86,13 +80,13 @@ module _ (p : Packed) (b : Column) where
   solve_some k e z =
       let was = zeros p.told.rows in
       any_answer (solving p.factors p.swaps p.told b 1 was).answer
-      (λ a d. never_zero (number_of (answered a)) (solution_by false p b)
-      (solved_answer false p b was (length-replicate p.told.rows zero64) a (number_of (answered a)) tt refl d) k e z)
+      (λ a d. never_zero (number_of (outcome a)) (solution_by false p b)
+      (solved_answer false p b was (length-replicate p.told.rows zero64) a (number_of (outcome a)) tt refl d) k e z)
 
 -- ---- the pads that are listed: the ranking of finite loads is not refused
 module _ (n : ℕ) (loads : Column) (was : List ℕ) (least : 1 ≤ n) (most : n ≤ 64) (size : length loads ≡ n) (room : length was ≡ n)
-    (numbers : all_finite loads ≡ true) (r : Listed) (is : pads_listed r ≡ (ranking (loaded loads) loads n was).answer) where
-  listed_is : pads_listed r ≡ done (length (listing (loaded loads) loads n))
+    (numbers : all_finite loads ≡ true) (r : Listed) (is : outcome r ≡ (ranking (loaded loads) loads n was).answer) where
+  listed_is : outcome r ≡ done (length (listing (loaded loads) loads n))
   listed_is =
       is ∙ ap (λ (o : Call ℕ (List ℕ)). o.answer)
       (ranking_accepted (loaded loads) n loads was
@@ -100,18 +94,16 @@ module _ (n : ℕ) (loads : Column) (was : List ℕ) (least : 1 ≤ n) (most : n
       (record { size = record { at_least = least; at_most = most }; loads_length = size; ranks_length = room; finite = numbers })))
 
   pub listed_pads : (count : ℕ) → r ≡ Pads count → count ≡ length (listing (loaded loads) loads n)
-  unfolding pads_listed
-  listed_pads count e = done_same count _ (sym (ap pads_listed e) ∙ listed_is)
+  listed_pads count e = done_same count _ (sym (ap outcome e) ∙ listed_is)
 
   pub listed_never : {Q : Type 0} (k : ℕ) → r ≡ NotListed k → Q
-  unfolding pads_listed
-  listed_never k e = never_both (length (listing (loaded loads) loads n)) k (sym listed_is ∙ ap pads_listed e)
+  listed_never k e = never_both (length (listing (loaded loads) loads n)) k (sym listed_is ∙ ap outcome e)
 
 -- ---- a crossing's share, o being what the solve came to
 
 pub told_refused : (o : Outcome Column) (number : ℕ) (f : Column → Outcome Share) → number ≡ number_of o → (number ≡ 0 → ⊥)
     → share_told (Refused number) ≡ and_then o f
-unfolding number_of and_then share_told
+unfolding share_told
 told_refused (done x) number f e h = absurd (h e)
 told_refused (refused k) number f e h = ap refused e
 
@@ -127,7 +119,6 @@ pub record Loads (o : Outcome Column) : Type 0 where
   pub is : o ≡ done x
 
 none_refused : (o : Outcome Column) → number_of o ≡ 0 → ((k : ℕ) → o ≡ refused k → k ≡ 0 → ⊥) → Loads o
-unfolding number_of
 none_refused (done x) e some = record { x = x; is = refl }
 none_refused (refused k) e some = absurd (some k refl e)
 
@@ -137,7 +128,7 @@ loads_of_lem p b number e z = none_refused (solution_by false p b) (sym e ∙ z)
 pub told_share : (o : Outcome Column) (l : Loads o) (p : Packed) (front : Column) (pads band : ℕ) → front ≡ l.x
     → pads ≡ length (listing (loaded front) front p.told.rows) → band ≡ band_on p.factors p.told.rows
     → share_told (Crossing pads band) ≡ and_then o (λ x. done (share_of p x))
-unfolding and_then share_told
+unfolding share_told
 told_share o l p front pads band same a b =
     let count = a ∙ ap (λ (x : Column). length (listing (loaded x) x p.told.rows)) same in
     (λ i. done (record { pads = count i; band = b i })) ∙ ap (λ (q : Outcome Column). and_then q (λ x. done (share_of p x))) (sym l.is)
@@ -149,13 +140,13 @@ module _ (bytes : List ℕ) where
 
   pub telling_held : (told : Record) (M R : Column) (S : List ℕ) → factors_in bytes ≡ done (packed_in M S told) → take told.rows R ≡ readings_of n bytes
       → and_then (solution_in false M S told R) (λ x. done (share_of (packed_in M S told) x)) ≡ telling bytes
-  unfolding telling and_then
+  unfolding telling
   telling_held told M R S e r =
       ap (λ (b : Column). and_then (solution_by false (packed_in M S told) b) (λ x. done (share_of (packed_in M S told) x))) r
       ∙ ap (λ (o : Outcome Packed). and_then o (λ f. and_then (solution_by false f (readings_of n bytes)) (λ x. done (share_of f x)))) (sym e)
 
   pub telling_refused : (k : ℕ) → factors_in bytes ≡ refused k → share_told (Refused k) ≡ telling bytes
-  unfolding telling and_then share_told
+  unfolding telling share_told
   telling_refused k e =
       ap (λ (o : Outcome Packed). and_then o (λ f. and_then (solution_by false f (readings_of n bytes)) (λ x. done (share_of f x)))) (sym e)
 
@@ -166,7 +157,7 @@ module _ (bytes : List ℕ) where
       same_number (factors_in bytes) _ _ (λ f. number_then (solution_by false f (readings_of n bytes)) (share_of f))
 
   refused_telling : (file_refusal bytes ≡ 0 → ⊥) → telling bytes ≡ refused (file_refusal bytes)
-  unfolding telling factors_in and_then
+  unfolding telling factors_in
   refused_telling some = rw (tested_some (file_refusal bytes) refused (factors_of (matrix_of n bytes) n) some)
 
   -- ---- the refusal's number
@@ -220,7 +211,7 @@ module _ (bytes : List ℕ) where
     rows = factored_rows n (matrix_of n bytes) (file_good bytes read.0) p read.1
 
     passes : Passed p.factors p.swaps p.told (solve_asks b p.told.rows 1 (zeros p.told.rows))
-    unfolding solution_by solving number_of
+    unfolding solution_by solving
     passes =
         let call = solving p.factors p.swaps p.told b 1 (zeros p.told.rows) in
         passed _ _ _ _ (none_given _ (zeros p.told.rows) _ (sym (number_then call.answer (λ _. call.left)) ∙ ap number_of w.loads))

@@ -1,8 +1,7 @@
 -- Document 02, request 13: the counts of a season over the files handed over, and the call that hands over one more.
 use Rattle.std.specs.Prelude.{ℕ, suc, ◌+◌, ◌-◌, ◌%◌, ◌^◌, Bool, true, false, cond, List, [], ◌∷◌, ◌++◌, length, ◌==◌, nat_le, slice_index, slice_set}
 use Rattle.numbers.specs.Each.{list_of}
-use Rattle.refusals.specs.Outcome.{Outcome, done, refused, first_holding, tested, Call, leaving}
-use Rattle.refusals.specs.Refusals.{answered}
+use Rattle.refusals.specs.Outcome.{Outcome, done, refused, first_holding, tested, Call, leaving, outcome}
 use Rattle.season.specs.declared.Season.{Season}
 use Rattle.season.specs.declared.Handed.{Handed}
 use Rattle.season.specs.Telling.{Share, telling}
@@ -85,7 +84,7 @@ handing s file =
 
 -- what the call's answer stands for
 abbrev pub handed : Handed → Call (Unit {0}) Season
-handed h = record { answer = answered h.answer; left = h.season }
+handed h = record { answer = outcome h.answer; left = h.season }
 
 -- the season when the files of a list have been handed over, the first first
 unfoldable pub handed_over : Season → List File → Season

@@ -13,8 +13,8 @@ use Rattle.blas.proofs.Rows.{copied_whole}
 use Rattle.store.specs.Columns.{is_matrix}
 use Rattle.store.proofs.Columns.{sized}
 use Rattle.refusals.specs.declared.Answer.{Answer}
-use Rattle.refusals.specs.Outcome.{done, refused, number_of, tested, leaving}
-use Rattle.refusals.specs.Refusals.{answered, seventh}
+use Rattle.refusals.specs.Outcome.{done, refused, number_of, tested, leaving, outcome}
+use Rattle.refusals.specs.Refusals.{seventh}
 use Rattle.refusals.proofs.Outcomes.{first_none, tested_none, Promise, promise_refused, seventh_answer}
 use Rattle.triangular_passes.specs.declared.Pass.{Pass}
 use Rattle.triangular_passes.specs.Triangular.{solved_in_place}
@@ -39,7 +39,7 @@ module _ (pass : Pass) (n k : ℕ) (t b x : Column) where
       }
 
   -- a call that its tests refuse
-  pub refused_by : (number : ℕ) (r : Answer) → number ≡ refusal_of pass t n b k x → (number ≡ 0 → ⊥) → answered r ≡ tested number refused (done tt)
+  pub refused_by : (number : ℕ) (r : Answer) → number ≡ refusal_of pass t n b k x → (number ≡ 0 → ⊥) → outcome r ≡ tested number refused (done tt)
       → Promise (solving pass t n b k x) r x
   unfolding solving
   refused_by number r e some a = promise_refused (refusal_of pass t n b k x) number x _ r e some a
@@ -52,7 +52,7 @@ module _ (pass : Pass) (n k : ℕ) (t b x : Column) where
   -- the right-hand sides were copied to the result's slice, solved there and settled
   pub worked : (number : ℕ) (c s y : Column) (seven : ℕ) (r : Answer) → number ≡ refusal_of pass t n b k x → number ≡ 0
       → c ≡ copied b x → s ≡ solved_in_place pass t n c k → (seven ≡ number_of (seventh s).answer) × (y ≡ (seventh s).left)
-      → answered r ≡ tested seven refused (done tt) → Promise (solving pass t n b k x) r y
+      → outcome r ≡ tested seven refused (done tt) → Promise (solving pass t n b k x) r y
   worked number c s y seven r e none copy made settled a =
       let ok = sym e ∙ none in
       let p = fit ok in

@@ -2,10 +2,10 @@
 #![tactic(auto)]
 
 ghost use Rattle.std.specs.Prelude.{◌≡◌};
-ghost use Rattle.refusals.specs.Refusals.{answered};
+ghost use Rattle.refusals.specs.Outcome.{outcome, number_of};
 ghost use Rattle.solve.specs.Calls.{zero_on_diagonal, sizes_outside, lengths_fit, given_finite, numbers_finite, zero_divisor, refusal_of, solving};
 
-use refusals::Answer;
+use refusals::Refusal;
 use triangular_passes::Pass;
 
 // Whether the n by n matrix t has a zero of either sign on its diagonal; false where t is no such matrix.
@@ -73,41 +73,40 @@ fn numbers_finite(pass: Pass, t: &[f64], b: &[f64]) -> bool
     given_finite(pass)
 }
 
-// The refusal before the work, 0 for none.
-fn refusal(pass: Pass, t: &[f64], n: usize, b: &[f64], k: usize, x: &[f64]) -> usize
-    ensures { result ≡ refusal_of pass t.now n b.now k x.now }
+// Refuses what the solves refuse before the work, by the tests in their order.
+fn test_solving(pass: Pass, t: &[f64], n: usize, b: &[f64], k: usize, x: &[f64]) -> Result<(), Refusal>
+    ensures { number_of (outcome result) ≡ refusal_of pass t.now n b.now k x.now }
 {
-    let six = refusals::first(6, zero_divisor(pass, t, n), 0);
-    let five = refusals::first(5, !numbers_finite(pass, t, b), six);
-    let three = refusals::first(3, !lengths_fit(t, n, b, k, x), five);
-    refusals::first(1, sizes_outside(n, k), three)
+    refusals::first_of(&[
+        (Refusal::Size, sizes_outside(n, k)),
+        (Refusal::Length, !lengths_fit(t, n, b, k, x)),
+        (Refusal::NotFinite, !numbers_finite(pass, t, b)),
+        (Refusal::Singular, zero_divisor(pass, t, n)),
+    ])
 }
 
 // Solves by the n by n matrix t for the k right-hand columns b, into x.
-fn solve_by(pass: Pass, t: &[f64], n: usize, b: &[f64], k: usize, x: &mut [f64]) -> Answer
-    ensures result_value { answered result ≡ (solving pass t.now n b.now k x.old).answer }
+fn solve_by(pass: Pass, t: &[f64], n: usize, b: &[f64], k: usize, x: &mut [f64]) -> Result<(), Refusal>
+    ensures result_value { outcome result ≡ (solving pass t.now n b.now k x.old).answer }
     ensures x_after { x.new ≡ (solving pass t.now n b.now k x.old).left }
 {
-    let number = refusal(pass, t, n, b, k, x);
-    if number != 0 {
-        return refusals::answer_for(number);
-    }
+    test_solving(pass, t, n, b, k, x)?;
     blas::copy(x, b);
     triangular_passes::solve_in_place(pass, t, n, x, k);
-    refusals::answer_for(refusals::settle(x))
+    refusals::settle(x)
 }
 
 // The lower triangle of t, by its own diagonal.
-pub fn solve_lower_triangular(t: &[f64], n: usize, b: &[f64], k: usize, x: &mut [f64]) -> Answer
-    ensures result_value { answered result ≡ (solving Pass.Lower t.now n b.now k x.old).answer }
+pub fn solve_lower_triangular(t: &[f64], n: usize, b: &[f64], k: usize, x: &mut [f64]) -> Result<(), Refusal>
+    ensures result_value { outcome result ≡ (solving Pass.Lower t.now n b.now k x.old).answer }
     ensures x_after { x.new ≡ (solving Pass.Lower t.now n b.now k x.old).left }
 {
     solve_by(Pass::Lower, t, n, b, k, x)
 }
 
 // The upper triangle of t, by its own diagonal.
-pub fn solve_upper_triangular(t: &[f64], n: usize, b: &[f64], k: usize, x: &mut [f64]) -> Answer
-    ensures result_value { answered result ≡ (solving Pass.Upper t.now n b.now k x.old).answer }
+pub fn solve_upper_triangular(t: &[f64], n: usize, b: &[f64], k: usize, x: &mut [f64]) -> Result<(), Refusal>
+    ensures result_value { outcome result ≡ (solving Pass.Upper t.now n b.now k x.old).answer }
     ensures x_after { x.new ≡ (solving Pass.Upper t.now n b.now k x.old).left }
 {
     solve_by(Pass::Upper, t, n, b, k, x)
@@ -121,8 +120,8 @@ pub fn solve_lower_triangular_with_diag(
     k: usize,
     x: &mut [f64],
     diag: f64,
-) -> Answer
-    ensures result_value { answered result ≡ (solving (Pass.GivenDiagonal diag) t.now n b.now k x.old).answer }
+) -> Result<(), Refusal>
+    ensures result_value { outcome result ≡ (solving (Pass.GivenDiagonal diag) t.now n b.now k x.old).answer }
     ensures x_after { x.new ≡ (solving (Pass.GivenDiagonal diag) t.now n b.now k x.old).left }
 {
     solve_by(Pass::GivenDiagonal(diag), t, n, b, k, x)
@@ -136,24 +135,24 @@ pub fn solve_lower_triangular_with_diag_corrected(
     k: usize,
     x: &mut [f64],
     diag: f64,
-) -> Answer
-    ensures result_value { answered result ≡ (solving (Pass.CorrectedDiagonal diag) t.now n b.now k x.old).answer }
+) -> Result<(), Refusal>
+    ensures result_value { outcome result ≡ (solving (Pass.CorrectedDiagonal diag) t.now n b.now k x.old).answer }
     ensures x_after { x.new ≡ (solving (Pass.CorrectedDiagonal diag) t.now n b.now k x.old).left }
 {
     solve_by(Pass::CorrectedDiagonal(diag), t, n, b, k, x)
 }
 
 // The lower triangle of t, transposed.
-pub fn tr_solve_lower_triangular(t: &[f64], n: usize, b: &[f64], k: usize, x: &mut [f64]) -> Answer
-    ensures result_value { answered result ≡ (solving Pass.TransposedLower t.now n b.now k x.old).answer }
+pub fn tr_solve_lower_triangular(t: &[f64], n: usize, b: &[f64], k: usize, x: &mut [f64]) -> Result<(), Refusal>
+    ensures result_value { outcome result ≡ (solving Pass.TransposedLower t.now n b.now k x.old).answer }
     ensures x_after { x.new ≡ (solving Pass.TransposedLower t.now n b.now k x.old).left }
 {
     solve_by(Pass::TransposedLower, t, n, b, k, x)
 }
 
 // The upper triangle of t, transposed.
-pub fn tr_solve_upper_triangular(t: &[f64], n: usize, b: &[f64], k: usize, x: &mut [f64]) -> Answer
-    ensures result_value { answered result ≡ (solving Pass.TransposedUpper t.now n b.now k x.old).answer }
+pub fn tr_solve_upper_triangular(t: &[f64], n: usize, b: &[f64], k: usize, x: &mut [f64]) -> Result<(), Refusal>
+    ensures result_value { outcome result ≡ (solving Pass.TransposedUpper t.now n b.now k x.old).answer }
     ensures x_after { x.new ≡ (solving Pass.TransposedUpper t.now n b.now k x.old).left }
 {
     solve_by(Pass::TransposedUpper, t, n, b, k, x)

@@ -1,10 +1,9 @@
 -- What appending a pair does on every input: document 01, "Sizes" and "Refusal numbers".
-use Rattle.std.specs.Prelude.{not, cond, ◌&&◌, ◌||◌, List, [], ◌∷◌, ℕ, ◌+◌, leb, eqb, length}
-use Rattle.refusals.specs.Outcome.{Outcome, done, refused, first_holding, tested, Call, leaving}
+use Rattle.std.specs.Prelude.{not, cond, ◌&&◌, ◌||◌, List, [], ◌∷◌, ℕ, ◌+◌, leb, eqb, length, Result, Ok, Err}
+use Rattle.refusals.specs.Outcome.{Outcome, done, outcome, first_holding, tested, and_then, Call, leaving}
+use Rattle.refusals.specs.declared.Refusal.{Refusal}
 use Rattle.refusals.specs.Refusals.{outside}
 use Rattle.swap_list.specs.SwapList.{with_pair, good_list}
-use Rattle.swap_list.specs.declared.Appended.{Appended}
-use Rattle.swap_list.specs.declared.Appended.TheVariants.{Pairs, Refused}
 
 -- ---- appending the pair (i, j) to a list for dimension d
 
@@ -33,11 +32,10 @@ appending store pairs d i j =
     tested (appending_refusal store pairs d i j) (leaving (listed pairs store))
     (record { answer = done tt; left = cond (eqb i j) (listed pairs store) (listed (pairs + 1) (with_pair pairs i j store)) })
 
--- document 01's number and the count that each case of the answer stands for: the caller holds that many pairs
-unfoldable pub appended : Appended → Outcome (Unit {0})
-appended (Pairs pairs) = done tt
-appended (Refused number pairs) = refused number
+-- what the answer stands for, and the count that the caller holds then: the one that is answered, or else the one before
+abbrev pub appended : Result ℕ Refusal → Outcome (Unit {0})
+appended answer = and_then (outcome answer) (λ pairs. done tt)
 
-unfoldable pub count_of : Appended → ℕ
-count_of (Pairs pairs) = pairs
-count_of (Refused number pairs) = pairs
+abbrev pub count_left : ℕ → Result ℕ Refusal → ℕ
+count_left pairs (Ok now) = now
+count_left pairs (Err refusal) = pairs

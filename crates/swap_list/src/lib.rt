@@ -4,14 +4,10 @@
 
 ghost use Rattle.std.specs.Prelude.{◌≡◌};
 ghost use Rattle.swap_list.specs.SwapList.{good_pair, good_list};
-ghost use Rattle.swap_list.specs.Appending.{appending_refusal, appending, appended, count_of};
+ghost use Rattle.refusals.specs.Outcome.{outcome, number_of};
+ghost use Rattle.swap_list.specs.Appending.{appending_refusal, appending, appended, count_left};
 
-// What appending answers: the new count, or a refusal's number and the old count.
-#[derive(Clone, Copy)]
-pub enum Appended {
-    Pairs(usize),
-    Refused { number: usize, pairs: usize },
-}
+use refusals::Refusal;
 
 // Whether i and j are two different numbers below the bound.
 fn is_good_pair(i: usize, j: usize, bound: usize) -> bool
@@ -42,47 +38,42 @@ pub fn is_good_list(swaps: &[usize], pairs: usize, bound: usize, most: usize) ->
     good
 }
 
-// The number of the refusal that appending (i, i2) to a list for dimension d meets, 0 for none.
-fn append_refusal(swaps: &[usize], pairs: usize, d: usize, i: usize, i2: usize) -> usize
-    ensures { result ≡ appending_refusal swaps.now pairs d i i2 }
+// Refuses to append (i, i2) to a list for dimension d, by the tests in their order.
+fn test_appending(
+    swaps: &[usize],
+    pairs: usize,
+    d: usize,
+    i: usize,
+    i2: usize,
+) -> Result<(), Refusal>
+    ensures { number_of (outcome result) ≡ appending_refusal swaps.now pairs d i i2 }
 {
-    let list = is_good_list(swaps, pairs, 64, d);
-    let numbers = (64 <= i) | (64 <= i2);
-    let full = !(i == i2) & (pairs == d);
-    let from4 = refusals::first(
-        4,
-        !list,
-        refusals::first(4, numbers, refusals::first(4, full, 0)),
-    );
-    refusals::first(
-        1,
-        refusals::outside(1, d),
-        refusals::first(3, !(swaps.len() == 128), from4),
-    )
+    refusals::first_of(&[
+        (Refusal::Size, refusals::outside(1, d)),
+        (Refusal::Length, swaps.len() != 128),
+        (Refusal::SwapList, !is_good_list(swaps, pairs, 64, d)),
+        (Refusal::SwapList, (64 <= i) | (64 <= i2)),
+        (Refusal::SwapList, (i != i2) & (pairs == d)),
+    ])
 }
 
-// Appends the pair (i, i2) to a list for dimension d; two equal numbers add nothing.
+// Appends the pair (i, i2) to a list for dimension d; two equal numbers add nothing. Answers how many pairs there are then.
 pub fn append_permutation(
     swaps: &mut [usize],
     pairs: usize,
     d: usize,
     i: usize,
     i2: usize,
-) -> Appended
+) -> Result<usize, Refusal>
     ensures result_value { appended result ≡ (appending swaps.old pairs d i i2).answer }
-    ensures result_value_2 { count_of result ≡ (appending swaps.old pairs d i i2).left.pairs }
+    ensures count_left { count_left pairs result ≡ (appending swaps.old pairs d i i2).left.pairs }
     ensures swaps_after { swaps.new ≡ (appending swaps.old pairs d i i2).left.store }
 {
-    let number = append_refusal(swaps, pairs, d, i, i2);
-    if number != 0 {
-        return Appended::Refused { number, pairs };
+    test_appending(swaps, pairs, d, i, i2)?;
+    if i == i2 {
+        return Ok(pairs);
     }
-    if i != i2 {
-        let a = 2 * pairs;
-        let b = a + 1;
-        swaps[a] = i;
-        swaps[b] = i2;
-        return Appended::Pairs(pairs + 1);
-    }
-    Appended::Pairs(pairs)
+    swaps[2 * pairs] = i;
+    swaps[2 * pairs + 1] = i2;
+    Ok(pairs + 1)
 }

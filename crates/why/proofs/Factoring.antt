@@ -88,7 +88,6 @@ module _ (m n : ℕ) (a out : Column) (store : List ℕ) where
   -- THEOREM. The explanation has the number of the call that it explains: so there is no reason exactly where that is accepted, and bad input is answered by
   -- the same number as there.
   pub same_number : (explain_factoring a m n out store).number ≡ number_of answer
-  unfolding number_of
   same_number =
       test_cases (eqb refusal 0) (λ t. told_number_lem (eqb-true refusal 0 t))
       (λ t.
@@ -132,7 +131,7 @@ module _ (m n : ℕ) (a out : Column) (store : List ℕ) where
   module _ (made : Factored) (e : factored made ≡ factoring_answer a m n out store) where
     -- accepted
     pub no_reason : (told : Record) (own : ℕ) → made ≡ Factors told own → told_factor NoReason ≡ explain_factoring a m n out store
-    unfolding factored factoring_answer told_factor number_of
+    unfolding factoring_answer told_factor
     no_reason told own is =
         let accepted : answer ≡ done told = (told_accepted _ answer told own (sym (ap factored is) ∙ e)).0 in
         let none_before = no_refusal m n a out store (ap number_of accepted) in
@@ -147,11 +146,10 @@ module _ (m n : ℕ) (a out : Column) (store : List ℕ) where
     -- refused, with another number than 7: by the tests
     module _ (number : ℕ) (is : made ≡ NotFactored number) where
       refused_answer : answer ≡ refused number
-      unfolding factored factoring_answer
+      unfolding factoring_answer
       refused_answer = told_refused _ answer number (sym (ap factored is) ∙ e)
 
       number_is : number_of answer ≡ number
-      unfolding number_of
       number_is = ap number_of refused_answer
 
       -- past the tests there is no other refusal than 7
@@ -165,7 +163,7 @@ module _ (m n : ℕ) (a out : Column) (store : List ℕ) where
           (λ t. sym number_is ∙ settles ∙ (rw t))
 
       pub bad_input : (number ≡ 7 → ⊥) → told_factor (Refused number) ≡ explain_factoring a m n out store
-      unfolding told_factor number_of
+      unfolding told_factor
       bad_input ne =
           test_cases (eqb refusal 0)
           (λ t. absurd (ne (only_seven (eqb-true refusal 0 t))))
@@ -176,7 +174,7 @@ module _ (m n : ℕ) (a out : Column) (store : List ℕ) where
 
       -- no test has the number 7, so with it the tests are past, and the work was not finite
       pub past_tests : number ≡ 7 → refusal ≡ 0
-      unfolding number_of factoring_refusal
+      unfolding factoring_refusal
       past_tests seven =
           test_cases (eqb refusal 0) (λ t. eqb-true refusal 0 t)
           (λ t.

@@ -110,7 +110,7 @@ module _ (r : Record) (factors : Column) (store : List ℕ) (k : ℕ) (b x : Col
   -- THEOREM. The explanation has the number of the call that it explains: so there is no reason exactly where that is accepted, and bad input is answered by
   -- the same number as there.
   pub same_number : (explain_solving factors store r b k x).number ≡ number_of call.answer
-  unfolding number_of refused_solving
+  unfolding refused_solving
   same_number =
       test_cases (eqb refusal 0) (λ t. told_number_lem (eqb-true refusal 0 t))
       (λ t.
@@ -185,7 +185,6 @@ module _ (r : Record) (factors : Column) (store : List ℕ) (k : ℕ) (b x : Col
 
     -- a number of the tests
     test_number : (refusal ≡ 0 → ⊥) → number ≡ refusal
-    unfolding number_of
     test_number ne = is ∙ ap (λ (o : Call (Unit {0}) Column). number_of o.answer) (refused_is ne)
 
     by_tests : (number ≡ 0 → ⊥) → (number ≡ 7 → ⊥) → (number ≡ refusal) × (refusal ≡ 0 → ⊥)

@@ -6,14 +6,14 @@ use native.Mathlib.Nat.{le_of_suc-le-suc, not-suc-le-zero}
 use lib.ListN.{take, replicate, length-replicate}
 use Rattle.numbers.specs.Numbers.{zero64}
 use Rattle.numbers.specs.Column.{Column, zeros}
-use Rattle.refusals.specs.Outcome.{Outcome, done, refused, tested, Call}
+use Rattle.refusals.specs.Outcome.{Outcome, done, refused, tested, Call, outcome}
 use Rattle.refusals.proofs.Outcomes.{tested_none, tested_some, tested_map}
 use Rattle.refusals.proofs.Cases.{never_both, tested_refused}
 use Rattle.factors.specs.declared.Record.{Record}
 use Rattle.panel_file.specs.declared.Panel.{Panel}
 use Rattle.panel_file.specs.declared.Panel.TheVariants.{Pads, Refused as NotRead}
 use Rattle.panel_file.specs.File.{pads_of, readings_of}
-use Rattle.panel_file.specs.Reading.{file_refusal, Stores, stores, reading, pads_read}
+use Rattle.panel_file.specs.Reading.{file_refusal, Stores, stores, reading}
 use Rattle.panel_file.proofs.Reading.{reading_fit}
 use Rattle.crossing.specs.Below.{Packed, packed_in}
 use Rattle.crossing.specs.Factors.{factors_in}
@@ -44,7 +44,7 @@ module _ (bytes : List ℕ) where
       d ∙ ap (λ (o : Outcome Packed). explained_by o (explain_factors bytes) (λ f. explain_loads f (readings_of (pads_of bytes) bytes))) (sym e)
 
   -- ---- the file as it is read into stores that hold zeros
-  module _ (made : Panel) (M R : Column) (m : pads_read made ≡ (reading bytes (stores (zeros 4096) (zeros 64))).answer)
+  module _ (made : Panel) (M R : Column) (m : outcome made ≡ (reading bytes (stores (zeros 4096) (zeros 64))).answer)
       (em : M ≡ (reading bytes (stores (zeros 4096) (zeros 64))).left.matrix) (er : R ≡ (reading bytes (stores (zeros 4096) (zeros 64))).left.readings) where
     pub was_read : (k : ℕ) → made ≡ Pads k → Read bytes (zeros 4096) (zeros 64) M R k
     was_read =
@@ -63,10 +63,10 @@ module _ (bytes : List ℕ) where
 
     -- a bad one is refused by the reader
     pub by_reader : (k : ℕ) → made ≡ NotRead k → told_file (Refused k) ≡ explain_factors bytes
-    unfolding explain_factors told_file pads_read
+    unfolding explain_factors told_file
     by_reader k t =
-        let told : pads_read made ≡ tested (file_refusal bytes) refused (done (pads_of bytes)) =
+        let told : outcome made ≡ tested (file_refusal bytes) refused (done (pads_of bytes)) =
         m ∙ ap (λ (o : Call ℕ Stores). o.answer) (reading_fit bytes (stores (zeros 4096) (zeros 64)) refl)
         ∙ tested_map (λ (o : Call ℕ Stores). o.answer) (file_refusal bytes) _ _ in
-        tested_refused (file_refusal bytes) (done (pads_of bytes)) k (sym told ∙ ap pads_read t) (λ z e. never_both (pads_of bytes) k e)
+        tested_refused (file_refusal bytes) (done (pads_of bytes)) k (sym told ∙ ap outcome t) (λ z e. never_both (pads_of bytes) k e)
         (λ some e. ap told_number (sym e) ∙ sym (tested_some (file_refusal bytes) told_number _ some))

@@ -40,7 +40,6 @@ use Rattle.why_file.specs.Explaining.{Stage, in_factoring, in_solving, told_in, 
 use Rattle.why_file.specs.Placed.{Placed}
 
 number_then : {A B : Type 0} (o : Outcome A) (f : A → B) → number_of (and_then o (λ a. done (f a))) ≡ number_of o
-unfolding number_of and_then
 number_then (done a) f = refl
 number_then (refused k) f = refl
 
@@ -146,7 +145,7 @@ module _ (bytes : List ℕ) where
       })
 
   factors_number : (k : ℕ) → factors_in bytes ≡ refused k → (explain_factors bytes).number ≡ k
-  unfolding factors_in explain_factors factors_of number_of
+  unfolding factors_in explain_factors factors_of
   factors_number k e =
       tested_refused (file_refusal bytes) (factors_of a n) k e
       (λ z d.
@@ -161,7 +160,7 @@ module _ (bytes : List ℕ) where
   -- ---- the file
   by_outcome : (P : Told Stage → Outcome Column → Type 0) → ((k : ℕ) → factors_in bytes ≡ refused k → P (explain_factors bytes) (refused k))
       → ((f : Packed) → factors_in bytes ≡ done f → P (explain_loads f b) (solution_by false f b)) → P (explain_file bytes) (loads_of bytes)
-  unfolding explain_file explained_by loads_of and_then
+  unfolding explain_file explained_by loads_of
   by_outcome P none-there there = cases (factors_in bytes) refl
     where
       cases : (o : Outcome Packed) → factors_in bytes ≡ o → P (explained_by o (explain_factors bytes) (λ f. explain_loads f b))
@@ -171,7 +170,7 @@ module _ (bytes : List ℕ) where
 
   -- THEOREM. The number that is told is the answer's own.
   pub same_number : (explain_file bytes).number ≡ number_of (loads_of bytes)
-  unfolding number_of explain_loads solution_by
+  unfolding explain_loads solution_by
   same_number =
       by_outcome (λ t o. t.number ≡ number_of o) factors_number
       (λ f e.
@@ -189,7 +188,6 @@ module _ (bytes : List ℕ) where
           factored_rows n a (file_good bytes passed.0) f passed.1
 
   number_few : (explain_file bytes).number ≤ 9
-  unfolding number_of
   number_few = rw same_number (cases (loads_of bytes) refl)
     where
       cases : (o : Outcome Column) → loads_of bytes ≡ o → number_of o ≤ 9

@@ -2,7 +2,7 @@
 use mathlib.Core.Path.{sym, ap, ◌∙◌, subst}
 use native.Mathlib.Omega.{arith}
 use Rattle.panel_file.proofs.Reading.{square}
-use Rattle.scaled_determinant.specs.Determinant.{scaled_answer}
+use Rattle.refusals.specs.Outcome.{outcome}
 use Rattle.scaled_determinant.specs.Range.{AnswerRanged}
 use Rattle.crossing.specs.Below.{scaled_by}
 use Rattle.crossing.proofs.Factors.{taken_count}
@@ -23,6 +23,6 @@ pub returns : goal.returns
 unfolding scaled_by
 returns c =
     record {
-      result_value = ap scaled_answer (sym c.in-Number.is) ∙ c.scaled_determinant-answer.ensures.result_value;
+      result_value = ap outcome (sym c.in-Number.is) ∙ c.scaled_determinant-answer.ensures.result_value;
       answer_ranged = subst AnswerRanged c.in-Number.is c.scaled_determinant-answer.ensures.answer_ranged;
     }

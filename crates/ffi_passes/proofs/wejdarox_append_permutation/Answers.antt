@@ -5,7 +5,7 @@ use Rattle.swap_list.specs.Appending.{appended, count_of}
 use Rattle.ffi_passes.proofs.wejdarox_append_permutation.Goals as goal
 
 pub returns-in-Pairs : goal.returns-in-Pairs
-unfolding number_of appended count_of
+unfolding appended count_of
 returns-in-Pairs c =
     let is = c.in-Pairs.is in
     record {
@@ -15,7 +15,7 @@ returns-in-Pairs c =
     }
 
 pub returns-in-Refused : goal.returns-in-Refused
-unfolding number_of appended count_of
+unfolding appended count_of
 returns-in-Refused c =
     let is = c.in-Refused.is in
     record {

@@ -6,7 +6,8 @@ use native.Mathlib.Omega.{arith}
 use lib.Dec.{eqb}
 use lib.ListN.{length}
 use Rattle.panel_file.specs.File.{pads_of}
-use Rattle.panel_file.specs.Reading.{stores, pads_read}
+use Rattle.refusals.specs.Outcome.{outcome}
+use Rattle.panel_file.specs.Reading.{stores}
 use Rattle.panel_file.specs.Inner.{reading_beside}
 use Rattle.panel_file.proofs.Reading.{square, own_hold, other_size, sized_other, own_fit, sized_own}
 use Rattle.panel_file.proofs.read_sized.Goals.{Else-is_headed-pads}
@@ -21,7 +22,6 @@ tested_fit c =
     ap (λ (pads : ℕ). eqb (length g.matrix.now) (pads * pads) && eqb (length g.readings.now) pads) c.pads_of-pads.ensures.0
 
 pub returns-then-is_headed-pads : goal.returns-then-is_headed-pads
-unfolding pads_read
 returns-then-is_headed-pads c =
     let tested_size : let g = c.args in (c.is_headed.result && not (eqb c.pads_of-pads.result g.n))
     ≡ other_size g.file.now g.n (stores g.matrix.now g.readings.now) = let g = c.args in

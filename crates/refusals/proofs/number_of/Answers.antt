@@ -1,12 +1,8 @@
 -- Case by case. Assumes nothing.
-use Rattle.refusals.specs.Outcome.{number_of}
-use Rattle.refusals.specs.Refusals.{answered}
 use Rattle.refusals.proofs.number_of.Goals as goal
 
-pub returns-in-Done : goal.returns-in-Done
-unfolding number_of answered
-returns-in-Done c = rw c.in-Done.is
+pub returns-in-Ok : goal.returns-in-Ok
+returns-in-Ok c = rw c.in-Ok.is
 
-pub returns-in-Refused : goal.returns-in-Refused
-unfolding number_of answered
-returns-in-Refused c = rw c.in-Refused.is
+pub returns-in-Err : goal.returns-in-Err
+returns-in-Err c = rw c.in-Err.is c.from.ensures

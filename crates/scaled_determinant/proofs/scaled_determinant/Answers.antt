@@ -4,23 +4,23 @@ use mathlib.Core.Logic.{inl, inr}
 use mathlib.Core.Bool.{not}
 use borrow.Author.Tests.{eq-eqb, ne_eqb}
 use lib.Dec.{eqb}
-use Rattle.refusals.specs.Outcome.{tested, done, refused}
+use Rattle.refusals.specs.Outcome.{tested, done, refused, outcome}
 use Rattle.refusals.proofs.Outcomes.{tested_none}
 use Rattle.solve.specs.Calls.{zero_on_diagonal}
 use Rattle.factors.proofs.Held.{Passed, passed, square_matrix}
 use Rattle.from_factors.specs.Determinant.{square_asks}
 use Rattle.from_factors.proofs.Dead.{dead_zero}
 use Rattle.scaled_determinant.specs.declared.Scaled.{Scaled}
-use Rattle.scaled_determinant.specs.Determinant.{scaled_determinant, scaled_answer, scaling}
+use Rattle.scaled_determinant.specs.Determinant.{scaled_determinant, scaling}
 use Rattle.scaled_determinant.proofs.Diagonal.{number_vanished, number_signed}
 use Rattle.scaled_determinant.proofs.scaled_determinant.Goals as goal
 
 pub returns-then-number-ne0 : goal.returns-then-number-ne0
-unfolding scaled_answer scaling tested
+unfolding scaling tested
 returns-then-number-ne0 c = record { result_value = rw (← c.held_refusal-number.ensures, ne_eqb _ _ c.if-number-ne0.true); answer_ranged = tt }
 
 pub returns-then-told-ne0 : goal.returns-then-told-ne0
-unfolding scaled_answer scaling
+unfolding scaling
 returns-then-told-ne0 c =
     let held : let g = c.args in Passed g.factors.now g.swaps.now g.told square_asks =
     passed _ _ _ _ (sym c.held_refusal-number.ensures ∙ c.if-number-ne0.false) in
@@ -41,7 +41,7 @@ signed_product-requires c =
     (square_matrix _ _ _ _ refl p, p.finite, zero_there ∙ ap not (eq-eqb _ _ c.if-told-ne0.false))
 
 pub returns : goal.returns
-unfolding scaled_answer scaling
+unfolding scaling
 returns c =
     let held : let g = c.args in Passed g.factors.now g.swaps.now g.told square_asks =
     passed _ _ _ _ (sym c.held_refusal-number.ensures ∙ c.if-number-ne0.false) in

@@ -1,8 +1,8 @@
 -- The tests one within the other, as the definition has them. Assumes nothing.
 use Rattle.refusals.specs.Outcome.{first_holding}
-use Rattle.factors.specs.Held.{held_refusal}
-use Rattle.factors.proofs.held_refusal.Goals as goal
+use Rattle.lu.specs.Factoring.{factoring_refusal}
+use Rattle.lu.proofs.test_factoring.Goals as goal
 
 pub returns : goal.returns
-unfolding held_refusal first_holding
+unfolding factoring_refusal first_holding
 returns c = cc

@@ -1,8 +1,8 @@
 -- The tests one within the other, as the definition has them. Assumes nothing.
 use Rattle.refusals.specs.Outcome.{first_holding}
-use Rattle.lu.specs.Factoring.{factoring_refusal}
-use Rattle.lu.proofs.factor_refusal.Goals as goal
+use Rattle.factors.specs.Held.{held_refusal}
+use Rattle.factors.proofs.test_held.Goals as goal
 
 pub returns : goal.returns
-unfolding factoring_refusal first_holding
+unfolding held_refusal first_holding
 returns c = cc

@@ -2,7 +2,7 @@
 use mathlib.Core.Path.{sym}
 use lib.Seq.{length-take-le}
 use Rattle.adding.proofs.Adds.{refusal_found}
-use Rattle.adding.proofs.adding_refusal.Goals as goal
+use Rattle.adding.proofs.test_adding.Goals as goal
 
 pub older-a-requires : goal.older-a-requires
 older-a-requires c = c.has_room-room.ensures
