@@ -7,8 +7,6 @@ use Rattle.factors.specs.declared.Record.{Record}
 use Rattle.scaled_determinant.specs.declared.Scaled.{Scaled}
 use Rattle.panel_file.specs.File.{pads_of, matrix_of, readings_of}
 use Rattle.panel_file.specs.Reading.{file_refusal}
-use Rattle.crossing.specs.declared.Held.{Held}
-use Rattle.crossing.specs.declared.Held.TheVariants.{Factors, Refused}
 use Rattle.crossing.specs.Below.{Packed, factors_of, toss_ups_of, solution_by, scaled_by}
 
 -- refused by the file's tests, else by factoring
@@ -66,8 +64,3 @@ holding bytes was =
       left = stores (fronted (n * n) (and_then f (λ p. done p.factors)) was.matrix)
           (tested (file_refusal bytes) (λ _. was.readings) (readings_of n bytes ++ drop n was.readings)) (swaps_left f was.swaps);
     }
-
--- what each case of the answer stands for
-unfoldable pub factors_held : Held → Outcome (Record × ℕ)
-factors_held (Factors told tossed) = done (told, tossed)
-factors_held (Refused number) = refused number

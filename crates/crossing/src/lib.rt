@@ -11,50 +11,36 @@ ghost use Rattle.crossing.specs.Factors.{factors_in, toss_ups_in, stiffness, tos
 
 use factors::Record;
 use lu::Factored;
-use panel_file::Panel;
-use scaled_determinant::ScaledDet;
-
-// What a file's matrix answers once it is factored: the record of its factors and the number of toss-ups, or a refusal's number.
-#[derive(Clone, Copy)]
-pub enum Held {
-    Factors { told: Record, toss_ups: usize },
-    Refused(usize),
-}
+use refusals::Refusal;
+use scaled_determinant::Scaled;
 
 // What the quick check answers: the scaled determinant, or its refusal, and at how many columns the pivot was a toss-up, 0 where the matrix was not factored.
 #[derive(Clone, Copy)]
 pub struct QuickCheck {
-    pub determinant: ScaledDet,
+    pub determinant: Result<Scaled, Refusal>,
     pub toss_ups: usize,
 }
 
 // Factors the n by n matrix a where it lies.
-fn factor_pads(n: usize, a: &mut [f64], swaps: &mut [usize]) -> Held
+fn factor_pads(n: usize, a: &mut [f64], swaps: &mut [usize]) -> Result<Factored, Refusal>
     requires { (1 ≤ n) × (n ≤ 64) × (length a.old ≡ n * n) × (all_finite a.old ≡ true) × (length swaps.old ≡ 128) }
     ensures result_value { factored result ≡ and_then (factors_of a.old n) (λ p. done (p.told, toss_ups_of a.old n)) }
     ensures a_after { a.new ≡ settled_in (and_then (factors_of a.old n) (λ p. done p.factors)) a.old }
     ensures swaps_after { swaps.new ≡ swaps_left (factors_of a.old n) swaps.old }
 {
-    match lu::factor_mut(a, n, n, swaps) {
-        Factored::Accepted { told, toss_ups } => Held::Factors { told, toss_ups },
-        Factored::Refused(number) => Held::Refused(number),
-    }
+    lu::factor_mut(a, n, n, swaps)
 }
 
 // The same for the matrix of a file, in stores of 4096, 64 and 128.
-fn factor_read(file: &[u8], matrix: &mut [f64], readings: &mut [f64], swaps: &mut [usize]) -> Held
+fn factor_read(file: &[u8], matrix: &mut [f64], readings: &mut [f64], swaps: &mut [usize]) -> Result<Factored, Refusal>
     requires { (length matrix.old ≡ 4096) × (length readings.old ≡ 64) × (length swaps.old ≡ 128) }
     ensures result_value { factored result ≡ (holding file.now (stores matrix.old readings.old swaps.old)).answer }
     ensures swaps_after { stores matrix.new readings.new swaps.new
         ≡ (holding file.now (stores matrix.old readings.old swaps.old)).left }
 {
-    match panel_file::read(file, matrix, readings) {
-        Panel::Pads(n) => {
-            let entries = n * n;
-            factor_pads(n, &mut matrix[..entries], swaps)
-        }
-        Panel::Refused(number) => Held::Refused(number),
-    }
+    let n = panel_file::read(file, matrix, readings)?;
+    let entries = n * n;
+    factor_pads(n, &mut matrix[..entries], swaps)
 }
 
 // Factors the matrix of a panel file where it is read: the factors then stand in front of the first store, the readings in front of the second.
@@ -63,7 +49,7 @@ pub fn factor_file(
     matrix: &mut [f64; 4096],
     readings: &mut [f64; 64],
     swaps: &mut [usize; 128],
-) -> Held
+) -> Result<Factored, Refusal>
     ensures result_value { factored result ≡ (holding file.now (stores matrix.old readings.old swaps.old)).answer }
     ensures swaps_after { stores matrix.new readings.new swaps.new
         ≡ (holding file.now (stores matrix.old readings.old swaps.old)).left }
@@ -73,18 +59,14 @@ pub fn factor_file(
 }
 
 // The scaled determinant by the factors in front of their store, or the refusal handed on.
-fn determinant_of(matrix: &[f64], swaps: &[usize], told: Record) -> ScaledDet
+fn determinant_of(matrix: &[f64], swaps: &[usize], told: Record) -> Result<Scaled, Refusal>
     requires { (told.rows ≤ 64) × (length matrix.now ≡ 4096) }
     ensures result_value { outcome result ≡ scaled_by (packed_in matrix.now swaps.now told) }
     ensures answer_ranged { AnswerRanged result }
 {
     let n = told.rows;
     let entries = n * n;
-    let answer = scaled_determinant::scaled_determinant(&matrix[..entries], swaps, told);
-    let ScaledDet::Number(d) = answer else {
-        return answer;
-    };
-    ScaledDet::Number(d)
+    scaled_determinant::scaled_determinant(&matrix[..entries], swaps, told)
 }
 
 // The quick check of a crossing's stiffness: the scaled determinant of a panel file's matrix, or the refusal.
@@ -97,15 +79,15 @@ pub fn stiffness(file: &[u8]) -> QuickCheck
     let mut readings = [0.0f64; 64];
     let mut swaps = [0usize; 128];
     match factor_file(file, &mut matrix, &mut readings, &mut swaps) {
-        Held::Factors { told, toss_ups } => {
+        Ok(Factored { told, toss_ups }) => {
             let determinant = determinant_of(&matrix, &swaps, told);
             QuickCheck {
                 determinant,
                 toss_ups,
             }
         }
-        Held::Refused(number) => QuickCheck {
-            determinant: ScaledDet::Refused(number),
+        Err(refusal) => QuickCheck {
+            determinant: Err(refusal),
             toss_ups: 0,
         },
     }

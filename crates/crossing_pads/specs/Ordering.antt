@@ -1,13 +1,13 @@
 -- The whole answer for a panel file, on every input. Document 01, "Ranking and program": "then factoring's 7, then the solve's 6, then its 7"; else the pads
 -- in rank order and their loads.
-use Rattle.std.specs.Prelude.{List, ◌++◌, ℕ, drop}
+use Rattle.std.specs.Prelude.{List, ◌++◌, ℕ, drop, Result, Ok, Err}
 use Rattle.numbers.specs.Column.{Column}
-use Rattle.refusals.specs.Outcome.{Outcome, done, refused, and_then, Call}
+use Rattle.refusals.specs.declared.Refusal.{Refusal}
+use Rattle.refusals.specs.Outcome.{Outcome, done, refused, number, and_then, Call}
 use Rattle.ranking.specs.Ranking.{ranked, pads_to}
 use Rattle.panel_file.specs.File.{pads_of}
 use Rattle.crossing.specs.Factors.{toss_ups_in, loads_of, fronted}
 use Rattle.crossing_pads.specs.declared.Order.{Order}
-use Rattle.crossing_pads.specs.declared.Order.TheVariants.{Pads, Refused}
 
 -- the n pads in the order of their loads; refused, all as it was. What lies past them stays.
 unfoldable pub ranks_left : ℕ → Outcome Column → List ℕ → List ℕ
@@ -27,6 +27,6 @@ ordering bytes ranks loads =
     record { answer = and_then x (λ _. done (n, toss_ups_in bytes)); left = record { ranks = ranks_left n x ranks; loads = fronted n x loads } }
 
 -- what each case of the answer stands for
-unfoldable pub pads_ordered : Order → Outcome (ℕ × ℕ)
-pads_ordered (Pads n tossed) = done (n, tossed)
-pads_ordered (Refused number) = refused number
+abbrev pub pads_ordered : Result Order Refusal → Outcome (ℕ × ℕ)
+pads_ordered (Ok o) = done (o.pads, o.toss_ups)
+pads_ordered (Err refusal) = refused (number refusal)

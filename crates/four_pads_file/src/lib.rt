@@ -6,7 +6,6 @@ ghost use Rattle.store.specs.Columns.{flat};
 ghost use Rattle.four_pads_file.specs.FileProfile.{numbers_in, four_pads_in};
 
 use four_pads::FourPads;
-use panel_file::Panel;
 
 // What is read of a file: a refusal's number, 0 for none, the matrix by column and the readings. A refusal's numbers are zeros.
 #[derive(Clone, Copy)]
@@ -35,13 +34,13 @@ pub fn numbers_of(file: &[u8]) -> FourNumbers
     let mut matrix = [0.0f64; 16];
     let mut readings = [0.0f64; 4];
     match panel_file::read_sized(file, 4, &mut matrix, &mut readings) {
-        Panel::Pads(_) => FourNumbers {
+        Ok(_) => FourNumbers {
             number: 0,
             matrix,
             readings,
         },
-        Panel::Refused(number) => FourNumbers {
-            number,
+        Err(refusal) => FourNumbers {
+            number: usize::from(refusal),
             matrix,
             readings,
         },

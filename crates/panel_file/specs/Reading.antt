@@ -4,8 +4,6 @@ use Rattle.numbers.specs.Column.{Column}
 use Rattle.finite.specs.Finite.{all_finite}
 use Rattle.refusals.specs.Outcome.{Outcome, done, refused, first_holding, tested, Call, leaving}
 use Rattle.refusals.specs.Refusals.{outside}
-use Rattle.panel_file.specs.declared.Panel.{Panel}
-use Rattle.panel_file.specs.declared.Panel.TheVariants.{Pads, Refused}
 use Rattle.panel_file.specs.File.{headed, pads_of, file_length, numbers_of, matrix_of, readings_of}
 
 -- The tests of a file in their order. Refusal 3: the file has another length than its size asks for; where stores are lent besides, also that they do not fit.
@@ -59,8 +57,3 @@ sized_refusal bytes n s = first_holding (sized_tests bytes n s)
 
 unfoldable pub reading_sized : List ℕ → ℕ → Stores → Call ℕ Stores
 reading_sized bytes n s = tested (sized_refusal bytes n s) (leaving s) (record { answer = done (pads_of bytes); left = filled bytes s })
-
--- ---- what each case of the answer stands for
-unfoldable pub pads_read : Panel → Outcome ℕ
-pads_read (Pads n) = done n
-pads_read (Refused number) = refused number

@@ -12,12 +12,7 @@ ghost use Rattle.panel_file.specs.File.{bits_at, headed, pads_of, number_at};
 ghost use Rattle.panel_file.specs.Inner.{Holds, reading_beside};
 ghost use Rattle.panel_file.specs.Reading.{file_tests, file_refusal, stores, reading, reading_sized};
 
-// What reading a file answers: how many pads it has, or a refusal's number.
-#[derive(Clone, Copy)]
-pub enum Panel {
-    Pads(usize),
-    Refused(usize),
-}
+use refusals::Refusal;
 
 // A byte as a number.
 fn wide(x: u8) -> u64
@@ -106,50 +101,44 @@ pub fn pads_of(file: &[u8]) -> usize
     wide(file[5]) as usize
 }
 
-// The refusal of a file, 0 for none, where the stores that are lent besides fit or not.
-fn refusal_beside(file: &[u8], fit: bool) -> usize
-    ensures { result ≡ first_holding (file_tests fit file.now) }
+// Refuses what is no panel file, where the stores that are lent besides fit or not. Its numbers are looked at where its length is right.
+fn test_beside(file: &[u8], fit: bool) -> Result<(), Refusal>
+    ensures { number_of (outcome result) ≡ first_holding (file_tests fit file.now) }
 {
     let n = pads_of(file);
     let lengths = fit & (file.len() == 6 + 8 * (n * n + n));
-    let early = refusals::first(
-        8,
-        !is_headed(file),
-        refusals::first(1, refusals::outside(1, n), refusals::first(3, !lengths, 0)),
-    );
-    if early != 0 {
-        return early;
-    }
-    refusals::first(5, !numbers_finite(file, n * n + n), 0)
+    refusals::first_of(&[
+        (Refusal::NotAPanelFile, !is_headed(file)),
+        (Refusal::Size, refusals::outside(1, n)),
+        (Refusal::Length, !lengths),
+    ])?;
+    refusals::first_of(&[(Refusal::NotFinite, !numbers_finite(file, n * n + n))])
 }
 
-// The refusal of a file by its bytes alone, 0 for none.
-pub fn file_refusal(file: &[u8]) -> usize
-    ensures { result ≡ file_refusal file.now }
+// Refuses what is no panel file, by its bytes alone.
+pub fn test_file(file: &[u8]) -> Result<(), Refusal>
+    ensures { number_of (outcome result) ≡ file_refusal file.now }
 {
-    refusal_beside(file, true)
+    test_beside(file, true)
 }
 
-// Reads a file into the front of two stores that fit or not. What lies past the file's own numbers stays as it was.
-fn read_front(file: &[u8], fit: bool, matrix: &mut [f64], readings: &mut [f64]) -> Panel
+// Reads a file into the front of two stores that fit or not. Answers how many pads it has. What lies past the file's own numbers stays as it was.
+fn read_front(file: &[u8], fit: bool, matrix: &mut [f64], readings: &mut [f64]) -> Result<usize, Refusal>
     requires { fit ≡ true → pads_of file.now ≤ 64 → Holds (pads_of file.now) (stores matrix.old readings.old) }
     ensures result_value { outcome result ≡ (reading_beside fit file.now (stores matrix.old readings.old)).answer }
     ensures readings_after { stores matrix.new readings.new
         ≡ (reading_beside fit file.now (stores matrix.old readings.old)).left }
 {
-    let number = refusal_beside(file, fit);
-    if number != 0 {
-        return Panel::Refused(number);
-    }
+    test_beside(file, fit)?;
     let n = pads_of(file);
     let entries = n * n;
     fill(file, 0, &mut matrix[..entries]);
     fill(file, entries, &mut readings[..n]);
-    Panel::Pads(n)
+    Ok(n)
 }
 
 // Reads a file into two stores, of 4096 and 64 numbers.
-pub fn read(file: &[u8], matrix: &mut [f64], readings: &mut [f64]) -> Panel
+pub fn read(file: &[u8], matrix: &mut [f64], readings: &mut [f64]) -> Result<usize, Refusal>
     ensures result_value { outcome result ≡ (reading file.now (stores matrix.old readings.old)).answer }
     ensures matrix_after { matrix.new ≡ (reading file.now (stores matrix.old readings.old)).left.matrix }
     ensures readings_after { readings.new ≡ (reading file.now (stores matrix.old readings.old)).left.readings }
@@ -159,14 +148,14 @@ pub fn read(file: &[u8], matrix: &mut [f64], readings: &mut [f64]) -> Panel
 }
 
 // Reads a file of n pads, and of no other size, into two stores that are as long as its matrix and its readings.
-pub fn read_sized(file: &[u8], n: usize, matrix: &mut [f64], readings: &mut [f64]) -> Panel
+pub fn read_sized(file: &[u8], n: usize, matrix: &mut [f64], readings: &mut [f64]) -> Result<usize, Refusal>
     ensures result_value { outcome result ≡ (reading_sized file.now n (stores matrix.old readings.old)).answer }
     ensures readings_after { stores matrix.new readings.new
         ≡ (reading_sized file.now n (stores matrix.old readings.old)).left }
 {
     let pads = pads_of(file);
     if is_headed(file) & (pads != n) {
-        return Panel::Refused(1);
+        return Err(Refusal::Size);
     }
     let fit = (matrix.len() == pads * pads) & (readings.len() == pads);
     read_front(file, fit, matrix, readings)

@@ -1,14 +1,13 @@
 -- What writing a file answers and leaves, on every input. Document 02, 1/13: "Refusals: 1, 3 (also where the lent slice is shorter than the file), 5, in
 -- that order, all leaving the slice as it was; the rest of a longer slice stays as it was." What the written bytes are is said by `IsFile`, in the reader's
 -- own words.
-use Rattle.std.specs.Prelude.{◌≡◌, Bool, not, ◌&&◌, List, [], ◌∷◌, ℕ, ◌*◌, eqb, leb, length, take, drop}
+use Rattle.std.specs.Prelude.{◌≡◌, Bool, not, ◌&&◌, List, [], ◌∷◌, ℕ, ◌*◌, eqb, leb, length, take, drop, Result}
 use Rattle.numbers.specs.Column.{Column}
 use Rattle.finite.specs.Finite.{all_finite}
-use Rattle.refusals.specs.Outcome.{Outcome, done, refused, number_of, first_holding, tested, Call}
+use Rattle.refusals.specs.Outcome.{done, refused, outcome, number_of, first_holding, tested, Call}
 use Rattle.refusals.specs.Refusals.{outside}
 use Rattle.panel_file.specs.File.{file_length, IsFile}
-use Rattle.panel_file_writer.specs.declared.Written.{Written}
-use Rattle.panel_file_writer.specs.declared.Written.TheVariants.{Bytes, Refused}
+use Rattle.refusals.specs.declared.Refusal.{Refusal}
 
 -- refusal 3: the matrix or the readings have another length than the size asks for, or the lent slice, of `room` bytes, is shorter than the file
 abbrev pub lengths_fit : ℕ → Column → Column → ℕ → Bool
@@ -25,14 +24,9 @@ writing_tests n matrix readings room =
 unfoldable pub writing_refusal : ℕ → Column → Column → ℕ → ℕ
 writing_refusal n matrix readings room = first_holding (writing_tests n matrix readings room)
 
--- what each case of the answer stands for: the count of bytes, or the refusal
-unfoldable pub bytes_written : Written → Outcome ℕ
-bytes_written (Bytes count) = done count
-bytes_written (Refused number) = refused number
-
 -- an answer with what the slice then holds
-abbrev pub written : Written → List ℕ → Call ℕ (List ℕ)
-written answer left = record { answer = bytes_written answer; left = left }
+abbrev pub written : Result ℕ Refusal → List ℕ → Call ℕ (List ℕ)
+written answer left = record { answer = outcome answer; left = left }
 
 -- The call: its answer, and what the slice, which held `out`, holds afterwards. Refused, it is as it was; else its front is the crossing's file, and the
 -- rest is as it was.

@@ -6,15 +6,11 @@ ghost use Rattle.std.specs.Prelude.{◌≡◌, true, ◌+◌, ◌*◌, ◌<◌, 
 ghost use Rattle.numbers.specs.Each.{list_of};
 ghost use Rattle.finite.specs.Finite.{all_finite};
 ghost use Rattle.panel_file.specs.File.{bits_at, headed, pads_of, file_length, number_at, IsFile};
+ghost use Rattle.refusals.specs.Outcome.{outcome, number_of};
 ghost use Rattle.panel_file_writer.specs.Inner.{KeepsBefore};
 ghost use Rattle.panel_file_writer.specs.Writing.{writing_refusal, written, Writing};
 
-// What writing a file answers: how many bytes it has, or a refusal's number.
-#[derive(Clone, Copy)]
-pub enum Written {
-    Bytes(usize),
-    Refused(usize),
-}
+use refusals::Refusal;
 
 // Writes the 64 bits at a place, least byte first. What stands before stays.
 fn put_bits(file: &mut [u8], at: usize, bits: u64)
@@ -67,30 +63,38 @@ fn put_file(file: &mut [u8], n: usize, matrix: &[f64], readings: &[f64])
     put_numbers(file, n * n, readings);
 }
 
-// The refusal of a crossing and a slice of `room` bytes, 0 for none.
-fn write_refusal(n: usize, matrix: &[f64], readings: &[f64], room: usize) -> usize
-    ensures { result ≡ writing_refusal n matrix.now readings.now room }
+// Refuses a crossing that no file has, and a slice of `room` bytes that is too short.
+fn test_writing(
+    n: usize,
+    matrix: &[f64],
+    readings: &[f64],
+    room: usize,
+) -> Result<(), Refusal>
+    ensures { number_of (outcome result) ≡ writing_refusal n matrix.now readings.now room }
 {
-    if refusals::outside(1, n) {
-        return 1;
-    }
+    refusals::first_of(&[(Refusal::Size, refusals::outside(1, n))])?;
     let entries = n * n;
     let lengths = (matrix.len() == entries)
         & (readings.len() == n)
         & (6 + 8 * (entries + n) <= room);
     let finite = finite::all_finite(matrix) & finite::all_finite(readings);
-    refusals::first(3, !lengths, refusals::first(5, !finite, 0))
+    refusals::first_of(&[
+        (Refusal::Length, !lengths),
+        (Refusal::NotFinite, !finite),
+    ])
 }
 
-// Writes the file of a crossing at the start of a slice. The rest of a longer slice stays as it was.
-pub fn write(n: usize, matrix: &[f64], readings: &[f64], out: &mut [u8]) -> Written
+// Writes the file of a crossing at the start of a slice. The rest of a longer slice stays as it was. Answers how many bytes it has.
+pub fn write(
+    n: usize,
+    matrix: &[f64],
+    readings: &[f64],
+    out: &mut [u8],
+) -> Result<usize, Refusal>
     ensures { Writing n matrix.now readings.now out.old (written result out.new) }
 {
-    let number = write_refusal(n, matrix, readings, out.len());
-    if number != 0 {
-        return Written::Refused(number);
-    }
+    test_writing(n, matrix, readings, out.len())?;
     let count = 6 + 8 * (n * n + n);
     put_file(&mut out[..count], n, matrix, readings);
-    Written::Bytes(count)
+    Ok(count)
 }

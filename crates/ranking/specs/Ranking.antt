@@ -8,8 +8,6 @@ use Rattle.numbers.specs.Column.{Column, entry}
 use Rattle.finite.specs.Finite.{all_finite}
 use Rattle.refusals.specs.Outcome.{Outcome, done, refused, first_holding, tested, Call, leaving}
 use Rattle.refusals.specs.Refusals.{outside}
-use Rattle.ranking.specs.declared.Listed.{Listed}
-use Rattle.ranking.specs.declared.Listed.TheVariants.{Pads, Refused}
 
 -- p is the number of one of n pads
 abbrev pub IsPad : ℕ → ℕ → Type 0
@@ -98,8 +96,3 @@ unfoldable pub ranking : Choice → Column → ℕ → List ℕ → Call ℕ (Li
 ranking choice loads n was =
     let ranks = listing choice loads n in
     tested (ranking_refusal loads n was) (leaving was) (record { answer = done (length ranks); left = padded n ranks })
-
--- what each case of the answer stands for
-unfoldable pub pads_listed : Listed → Outcome ℕ
-pads_listed (Pads count) = done count
-pads_listed (Refused number) = refused number

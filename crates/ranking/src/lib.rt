@@ -4,14 +4,10 @@
 ghost use Rattle.std.specs.Prelude.{◌≡◌, ◌++◌, ℕ, ◌+◌, ◌<◌, length, get_or, take, drop};
 ghost use Rattle.refusals.specs.Outcome.{outcome};
 ghost use Rattle.ranking.specs.Ranking.{IsPad, ahead, loaded, every_pad, insert_pad, listing, ranking_refusal, padded, ranking};
+ghost use Rattle.refusals.specs.Outcome.{outcome, number_of};
 ghost use Rattle.ranking.specs.Inner.{choice_by};
 
-// What a ranking answers: how many pads are listed, or a refusal's number.
-#[derive(Clone, Copy)]
-pub enum Listed {
-    Pads(usize),
-    Refused(usize),
-}
+use refusals::Refusal;
 
 // Whether pad p comes before pad q: the greater magnitude first, equal magnitudes by the lower number.
 fn is_ahead(loads: &[f64], p: usize, q: usize) -> bool
@@ -61,17 +57,16 @@ fn insert(loads: &[f64], ranks: &mut [usize], count: usize, pad: usize)
     ranks[count] = carried;
 }
 
-// The refusal before the work, 0 for none.
-fn rank_refusal(loads: &[f64], n: usize, ranks: &[usize]) -> usize
-    ensures { result ≡ ranking_refusal loads.now n ranks.now }
+// Refuses what ranking refuses, by the tests in their order.
+fn test_ranking(loads: &[f64], n: usize, ranks: &[usize]) -> Result<(), Refusal>
+    ensures { number_of (outcome result) ≡ ranking_refusal loads.now n ranks.now }
 {
     let lengths = (loads.len() == n) & (ranks.len() == n);
-    let numbers = finite::all_finite(loads);
-    refusals::first(
-        1,
-        refusals::outside(1, n),
-        refusals::first(3, !lengths, refusals::first(5, !numbers, 0)),
-    )
+    refusals::first_of(&[
+        (Refusal::Size, refusals::outside(1, n)),
+        (Refusal::Length, !lengths),
+        (Refusal::NotFinite, !finite::all_finite(loads)),
+    ])
 }
 
 // Lists the pads, all or those that carry something, in a slice as long as the loads: pad after pad its slot becomes 0, and one that is listed is put
@@ -95,20 +90,17 @@ fn list(loads: &[f64], all: bool, ranks: &mut [usize]) -> usize
     count
 }
 
-// Ranks the n loads, all or those that are not zero.
-fn rank_chosen(loads: &[f64], n: usize, all: bool, ranks: &mut [usize]) -> Listed
+// Ranks the n loads, all or those that are not zero. Answers how many pads are listed.
+fn rank_chosen(loads: &[f64], n: usize, all: bool, ranks: &mut [usize]) -> Result<usize, Refusal>
     ensures result_value { outcome result ≡ (ranking (choice_by all loads.now) loads.now n ranks.old).answer }
     ensures ranks_after { ranks.new ≡ (ranking (choice_by all loads.now) loads.now n ranks.old).left }
 {
-    let number = rank_refusal(loads, n, ranks);
-    if number != 0 {
-        return Listed::Refused(number);
-    }
-    Listed::Pads(list(loads, all, ranks))
+    test_ranking(loads, n, ranks)?;
+    Ok(list(loads, all, ranks))
 }
 
 // Ranks those of the n loads that are not zero: the pads' numbers from 1, greatest magnitude first, equal magnitudes by lower number, and 0 behind them.
-pub fn rank(loads: &[f64], n: usize, ranks: &mut [usize]) -> Listed
+pub fn rank(loads: &[f64], n: usize, ranks: &mut [usize]) -> Result<usize, Refusal>
     ensures result_value { outcome result ≡ (ranking (loaded loads.now) loads.now n ranks.old).answer }
     ensures ranks_after { ranks.new ≡ (ranking (loaded loads.now) loads.now n ranks.old).left }
 {
@@ -116,7 +108,7 @@ pub fn rank(loads: &[f64], n: usize, ranks: &mut [usize]) -> Listed
 }
 
 // Ranks all of the n loads.
-pub fn rank_all(loads: &[f64], n: usize, ranks: &mut [usize]) -> Listed
+pub fn rank_all(loads: &[f64], n: usize, ranks: &mut [usize]) -> Result<usize, Refusal>
     ensures result_value { outcome result ≡ (ranking every_pad loads.now n ranks.old).answer }
     ensures ranks_after { ranks.new ≡ (ranking every_pad loads.now n ranks.old).left }
 {

@@ -14,8 +14,6 @@ use Rattle.factors.specs.declared.Record.{Record}
 use Rattle.factors.specs.Held.{held_refusal}
 use Rattle.from_factors.specs.Determinant.{square_asks}
 use Rattle.scaled_determinant.specs.declared.Scaled.{Scaled}
-use Rattle.scaled_determinant.specs.declared.ScaledDet.{ScaledDet}
-use Rattle.scaled_determinant.specs.declared.ScaledDet.TheVariants.{Number, Refused}
 use Rattle.scaled_determinant.specs.Scaled.{scaled, scaled_times}
 
 -- "Start at 1 with exponent 0; take each diagonal"
@@ -38,11 +36,6 @@ vanished = scaled zero64 (pos 0)
 
 unfoldable pub scaled_determinant : Column → ℕ → ℕ → Scaled
 scaled_determinant factors n pairs = cond (zero_on_diagonal factors n) vanished (signed_by pairs (scaled_product n (columns n n factors)))
-
--- what each case of the answer stands for
-unfoldable pub scaled_answer : ScaledDet → Outcome Scaled
-scaled_answer (Number r) = done r
-scaled_answer (Refused number) = refused number
 
 -- "Refusals: 1 to 5 and 9 only": those that the determinant meets before its work
 unfoldable pub scaling : Column → List ℕ → Record → Outcome Scaled

@@ -1,10 +1,9 @@
 -- Document 02, request 10: within which numbers an answer lies.
-use Rattle.std.specs.Prelude.{◌≡◌, ◌⊎◌, true, pos, negsuc, ◌≤ℤ◌}
+use Rattle.std.specs.Prelude.{◌≡◌, ◌⊎◌, true, pos, negsuc, ◌≤ℤ◌, Result, Ok, Err}
 use Rattle.std.specs.Float.Ieee.{lt, le}
 use Rattle.numbers.specs.Numbers.{one64, magnitude}
 use Rattle.scaled_determinant.specs.declared.Scaled.{Scaled}
-use Rattle.scaled_determinant.specs.declared.ScaledDet.{ScaledDet}
-use Rattle.scaled_determinant.specs.declared.ScaledDet.TheVariants.{Number, Refused}
+use Rattle.refusals.specs.declared.Refusal.{Refusal}
 use Rattle.scaled_determinant.specs.Scaled.{two64}
 use Rattle.scaled_determinant.specs.Determinant.{vanished}
 
@@ -19,6 +18,6 @@ pub record InRange (r : Scaled) : Type 0 where
 abbrev pub Ranged : Scaled → Type 0
 Ranged r = (r ≡ vanished) ⊎ InRange r
 
-abbrev pub AnswerRanged : ScaledDet → Type 0
-AnswerRanged (Number r) = Ranged r
-AnswerRanged (Refused number) = Unit {0}
+abbrev pub AnswerRanged : Result Scaled Refusal → Type 0
+AnswerRanged (Ok r) = Ranged r
+AnswerRanged (Err refusal) = Unit {0}

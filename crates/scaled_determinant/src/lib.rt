@@ -14,20 +14,14 @@ ghost use Rattle.scaled_determinant.specs.Determinant.{scaled_product, signed_by
 ghost use Rattle.scaled_determinant.specs.Range.{InRange, AnswerRanged};
 ghost use Rattle.scaled_determinant.specs.Inner.{Parted};
 
-use factors::{Asks, Record, held_refusal};
+use factors::{Asks, Record, test_held};
+use refusals::Refusal;
 
 // The significand times two to the exponent. The significand is of magnitude from 1 up to but not 2; or it is +0.0, with the exponent 0.
 #[derive(Clone, Copy)]
 pub struct Scaled {
     pub significand: f64,
     pub exponent: i32,
-}
-
-// The scaled determinant, or a refusal's number.
-#[derive(Clone, Copy)]
-pub enum ScaledDet {
-    Number(Scaled),
-    Refused(usize),
 }
 
 // The parts of a normal number: its bits with the exponent's field of 1.0, and its own field less that one.
@@ -122,7 +116,7 @@ fn signed_product(factors: &[f64], n: usize, pairs: usize) -> Scaled
 }
 
 // The determinant of the factored matrix as a significand and an exponent: +0.0 with 0 where a column is dead.
-pub fn scaled_determinant(factors: &[f64], swaps: &[usize], told: Record) -> ScaledDet
+pub fn scaled_determinant(factors: &[f64], swaps: &[usize], told: Record) -> Result<Scaled, Refusal>
     ensures result_value { outcome result ≡ scaling factors.now swaps.now told }
     ensures answer_ranged { AnswerRanged result }
 {
@@ -134,15 +128,12 @@ pub fn scaled_determinant(factors: &[f64], swaps: &[usize], told: Record) -> Sca
         list: true,
         numbers: true,
     };
-    let number = held_refusal(factors, swaps, told, asks);
-    if number != 0 {
-        return ScaledDet::Refused(number);
-    }
+    test_held(factors, swaps, told, asks)?;
     if told.dead != 0 {
-        return ScaledDet::Number(Scaled {
+        return Ok(Scaled {
             significand: 0.0,
             exponent: 0,
         });
     }
-    ScaledDet::Number(signed_product(factors, told.rows, told.pairs))
+    Ok(signed_product(factors, told.rows, told.pairs))
 }

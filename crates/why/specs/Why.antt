@@ -1,10 +1,10 @@
 -- Document 02, request 8: what the two explaining calls answer, on every input. "Bad input is answered by the same number as there"; "no reason" is 0.
-use Rattle.std.specs.Prelude.{cond, List, ℕ, eqb}
+use Rattle.std.specs.Prelude.{cond, List, ℕ, eqb, Some, None}
 use Rattle.std.proofs.Math.Option.{Option, none, some}
 use Rattle.numbers.specs.Column.{Column}
 use Rattle.store.specs.Columns.{columns}
 use Rattle.store.specs.Steps.{Matrix}
-use Rattle.refusals.specs.Outcome.{tested}
+use Rattle.refusals.specs.Outcome.{number, tested}
 use Rattle.swap_list.specs.SwapList.{pairs_of}
 use Rattle.solve.specs.Reason.{lowest_zero}
 use Rattle.factors.specs.declared.Record.{Record}
@@ -13,9 +13,9 @@ use Rattle.elimination.specs.Reason.{Place}
 use Rattle.lu.specs.Factoring.{factoring_refusal}
 use Rattle.from_factors.specs.Solving.{solve_asks}
 use Rattle.why.specs.declared.WhyFactor.{WhyFactor}
-use Rattle.why.specs.declared.WhyFactor.TheVariants.{NoReason, Refused, Overflow}
+use Rattle.why.specs.declared.WhyFactor.TheVariants.{Refused, Overflow}
 use Rattle.why.specs.declared.WhySolve.{WhySolve}
-use Rattle.why.specs.declared.WhySolve.TheVariants.{NoReason as NoneSolve, Refused as RefusedSolve, Singular, Overflow as OverflowSolve}
+use Rattle.why.specs.declared.WhySolve.TheVariants.{Refused as RefusedSolve, Singular, Overflow as OverflowSolve}
 use Rattle.why.specs.Results.{Result, first_overflow}
 use Rattle.why.specs.Factoring.{place_at, factoring_results}
 use Rattle.why.specs.Solving.{Spot, spot_at, solving_results}
@@ -37,10 +37,10 @@ overflowed (some p) = record { number = 7; column = none; place = some p }
 -- ---- factoring
 
 -- what each case of the answer stands for
-unfoldable pub told_factor : WhyFactor → Told Place
-told_factor NoReason = told_number 0
-told_factor (Refused number) = told_number number
-told_factor (Overflow i j r) = overflowed (some (place_at i j r))
+unfoldable pub told_factor : Option WhyFactor → Told Place
+told_factor None = told_number 0
+told_factor (Some (Refused refusal)) = told_number (number refusal)
+told_factor (Some (Overflow i j r)) = overflowed (some (place_at i j r))
 
 unfoldable pub explain_factoring : Column → ℕ → ℕ → Column → List ℕ → Told Place
 explain_factoring a m n out store =
@@ -48,11 +48,11 @@ explain_factoring a m n out store =
 
 -- ---- solving
 
-unfoldable pub told_solve : WhySolve → Told Spot
-told_solve NoneSolve = told_number 0
-told_solve (RefusedSolve number) = told_number number
-told_solve (Singular j) = record { number = 6; column = some j; place = none }
-told_solve (OverflowSolve pass j r) = overflowed (some (spot_at pass j r))
+unfoldable pub told_solve : Option WhySolve → Told Spot
+told_solve None = told_number 0
+told_solve (Some (RefusedSolve refusal)) = told_number (number refusal)
+told_solve (Some (Singular j)) = record { number = 6; column = some j; place = none }
+told_solve (Some (OverflowSolve pass j r)) = overflowed (some (spot_at pass j r))
 
 -- a refusal before the work: "for a singular solve it gives the lowest column with a zero diagonal"
 unfoldable pub refused_solving : Column → ℕ → ℕ → Told Spot

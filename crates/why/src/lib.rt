@@ -19,14 +19,13 @@ ghost use Rattle.why.specs.Inner.{pass_of, Turned, Passed, column_or};
 ghost use Rattle.why.specs.Why.{overflowed, told_factor, explain_factoring, told_solve, results_of, explain_solving};
 
 use factors::Record;
-use lu::Factored;
+use refusals::Refusal;
 use triangular_passes::Pass;
 
-// Why a factoring is refused: the number of a refusal before the work, or where the first result stands that is not finite.
+// Why a factoring is refused: a refusal before the work, or where the first result stands that is not finite.
 #[derive(Clone, Copy)]
 pub enum WhyFactor {
-    NoReason,
-    Refused(usize),
+    Refused(Refusal),
     Overflow {
         step: usize,
         column: usize,
@@ -34,12 +33,11 @@ pub enum WhyFactor {
     },
 }
 
-// Why a solve is refused: the number of a refusal before the work, for a singular matrix its lowest dead column, or where the first result stands that is
+// Why a solve is refused: a refusal before the work, for a singular matrix its lowest dead column, or where the first result stands that is
 // not finite; pass 1 is the unit lower one, 2 the upper.
 #[derive(Clone, Copy)]
 pub enum WhySolve {
-    NoReason,
-    Refused(usize),
+    Refused(Refusal),
     Singular(usize),
     Overflow {
         pass: usize,
@@ -64,7 +62,7 @@ fn first_not_finite(s: &[f64]) -> usize
 }
 
 // The reason of an overflow in the elimination of the m by n matrix in s, by plain steps.
-fn overflow_in_steps(s: &mut [f64], m: usize, n: usize) -> WhyFactor
+fn overflow_in_steps(s: &mut [f64], m: usize, n: usize) -> Option<WhyFactor>
     requires { (is_matrix s.old m n ≡ true) × (all_finite s.old ≡ true) }
     ensures { told_factor result ≡ overflowed (first_overflow (factoring_results m (columns m n s.old))) }
 {
@@ -74,29 +72,34 @@ fn overflow_in_steps(s: &mut [f64], m: usize, n: usize) -> WhyFactor
         lu::plain_step(s, m, n, i);
         let at = first_not_finite(s);
         if at < s.len() {
-            return WhyFactor::Overflow {
+            return Some(WhyFactor::Overflow {
                 step: i,
                 column: at / m,
                 row: at % m,
-            };
+            });
         }
         i += 1;
     }
-    WhyFactor::NoReason
+    None
 }
 
-// Explains `lu::factor`.
-pub fn why_factor(a: &[f64], m: usize, n: usize, out: &mut [f64], swaps: &mut [usize]) -> WhyFactor
+// Explains `lu::factor`; no reason where it is accepted.
+pub fn why_factor(
+    a: &[f64],
+    m: usize,
+    n: usize,
+    out: &mut [f64],
+    swaps: &mut [usize],
+) -> Option<WhyFactor>
     ensures result_value { told_factor result ≡ explain_factoring a.now m n out.old swaps.old }
     ensures out_after { out.new ≡ (factoring a.now m n out.old swaps.old).left.factors }
     ensures swaps_after { swaps.new ≡ (factoring a.now m n out.old swaps.old).left.store }
 {
-    let answer = lu::factor(a, m, n, out, swaps);
-    let Factored::Refused(number) = answer else {
-        return WhyFactor::NoReason;
+    let Err(refusal) = lu::factor(a, m, n, out, swaps) else {
+        return None;
     };
-    if number != 7 {
-        return WhyFactor::Refused(number);
+    if refusal != Refusal::Overflow {
+        return Some(WhyFactor::Refused(refusal));
     }
     blas::copy(out, a);
     let reason = overflow_in_steps(out, m, n);
@@ -191,7 +194,7 @@ fn overflow_in_solve(
     told: Record,
     x: &mut [f64],
     k: usize,
-) -> WhySolve
+) -> Option<WhySolve>
     requires rows_value { (is_matrix factors.now told.rows told.rows ≡ true) × (is_matrix x.old told.rows k ≡ true) × (1 ≤ told.rows) }
     requires rows_value_2 { (good_list swaps.now told.pairs told.rows told.rows ≡ true) × (all_finite x.old ≡ true) }
     ensures { told_solve result ≡ overflowed (first_overflow
@@ -201,21 +204,21 @@ fn overflow_in_solve(
     exchanges::apply_to_rows(x, n, k, swaps, told.pairs, false);
     let low = overflow_in_pass(false, factors, n, x, k);
     if low.column < k {
-        return WhySolve::Overflow {
+        return Some(WhySolve::Overflow {
             pass: 1,
             column: low.column,
             row: low.row,
-        };
+        });
     }
     let up = overflow_in_pass(true, factors, n, x, k);
     if up.column < k {
-        return WhySolve::Overflow {
+        return Some(WhySolve::Overflow {
             pass: 2,
             column: up.column,
             row: up.row,
-        };
+        });
     }
-    WhySolve::NoReason
+    None
 }
 
 // The lowest dead column of the n by n matrix t; n where there is none.
@@ -235,7 +238,7 @@ fn lowest_dead(t: &[f64], n: usize) -> usize
     n
 }
 
-// Explains `from_factors::solve`.
+// Explains `from_factors::solve`; no reason where it is accepted.
 pub fn why_solve(
     factors: &[f64],
     swaps: &[usize],
@@ -243,19 +246,18 @@ pub fn why_solve(
     b: &[f64],
     k: usize,
     x: &mut [f64],
-) -> WhySolve
+) -> Option<WhySolve>
     ensures result_value { told_solve result ≡ explain_solving factors.now swaps.now told b.now k x.old }
     ensures x_after { x.new ≡ (solving factors.now swaps.now told b.now k x.old).left }
 {
-    let number = refusals::number_of(from_factors::solve(factors, swaps, told, b, k, x));
-    if number == 0 {
-        return WhySolve::NoReason;
+    let Err(refusal) = from_factors::solve(factors, swaps, told, b, k, x) else {
+        return None;
+    };
+    if refusal == Refusal::Singular {
+        return Some(WhySolve::Singular(lowest_dead(factors, told.rows)));
     }
-    if number == 6 {
-        return WhySolve::Singular(lowest_dead(factors, told.rows));
-    }
-    if number != 7 {
-        return WhySolve::Refused(number);
+    if refusal != Refusal::Overflow {
+        return Some(WhySolve::Refused(refusal));
     }
     blas::copy(x, b);
     let reason = overflow_in_solve(factors, swaps, told, x, k);

@@ -1,8 +1,8 @@
 -- Document 02, request 8, for a panel file: why its answer is refused. By the reader or by factoring, where those refuse it; else by the solve.
-use Rattle.std.specs.Prelude.{List, ℕ, ◌*◌, replicate}
-use Rattle.std.proofs.Math.Option.{map, some, none}
+use Rattle.std.specs.Prelude.{List, ℕ, ◌*◌, replicate, Some, None}
+use Rattle.std.proofs.Math.Option.{Option, map, some, none}
 use Rattle.numbers.specs.Column.{Column, zeros}
-use Rattle.refusals.specs.Outcome.{Outcome, done, refused, tested}
+use Rattle.refusals.specs.Outcome.{Outcome, done, refused, number, tested}
 use Rattle.elimination.specs.Reason.{Place}
 use Rattle.panel_file.specs.File.{pads_of, matrix_of, readings_of}
 use Rattle.panel_file.specs.Reading.{file_refusal}
@@ -12,7 +12,7 @@ use Rattle.why.specs.Factoring.{place_at}
 use Rattle.why.specs.Solving.{Spot, spot_at}
 use Rattle.why.specs.Why.{Told, told_number, explain_factoring, explain_solving}
 use Rattle.why_file.specs.declared.WhyFile.{WhyFile}
-use Rattle.why_file.specs.declared.WhyFile.TheVariants.{NoReason, Refused, Factoring, Singular, Solving}
+use Rattle.why_file.specs.declared.WhyFile.TheVariants.{Refused, Factoring, Singular, Solving}
 
 -- where the first result stands that is not finite: one of factoring, or one of the solve
 pub data Stage : Type 0 where
@@ -41,9 +41,9 @@ unfoldable pub explain_file : List ℕ → Told Stage
 explain_file bytes = explained_by (factors_in bytes) (explain_factors bytes) (λ f. explain_loads f (readings_of (pads_of bytes) bytes))
 
 -- what each case of the answer stands for
-unfoldable pub told_file : WhyFile → Told Stage
-told_file NoReason = told_number 0
-told_file (Refused number) = told_number number
-told_file (Factoring i j r) = record { number = 7; column = none; place = some (in_factoring (place_at i j r)) }
-told_file (Singular j) = record { number = 6; column = some j; place = none }
-told_file (Solving pass j r) = record { number = 7; column = none; place = some (in_solving (spot_at pass j r)) }
+unfoldable pub told_file : Option WhyFile → Told Stage
+told_file None = told_number 0
+told_file (Some (Refused refusal)) = told_number (number refusal)
+told_file (Some (Factoring i j r)) = record { number = 7; column = none; place = some (in_factoring (place_at i j r)) }
+told_file (Some (Singular j)) = record { number = 6; column = some j; place = none }
+told_file (Some (Solving pass j r)) = record { number = 7; column = none; place = some (in_solving (spot_at pass j r)) }

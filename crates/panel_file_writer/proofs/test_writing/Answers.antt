@@ -3,7 +3,7 @@ use mathlib.Core.Path.{sym, ◌∙◌}
 use native.Mathlib.Omega.{arith}
 use Rattle.refusals.proofs.Tests.{inside}
 use Rattle.panel_file_writer.proofs.Writing.{small, size_refused, size_passed}
-use Rattle.panel_file_writer.proofs.write_refusal.Goals as goal
+use Rattle.panel_file_writer.proofs.test_writing.Goals as goal
 
 pub returns-then-outside : goal.returns-then-outside
 returns-then-outside c = size_refused _ _ _ _ (sym c.outside.ensures ∙ c.if-outside.true)

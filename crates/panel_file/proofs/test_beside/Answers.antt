@@ -5,8 +5,8 @@ use native.Mathlib.Omega.{arith}
 use Rattle.finite.specs.Finite.{all_finite}
 use Rattle.panel_file.specs.File.{numbers_of}
 use Rattle.panel_file.proofs.Reading.{square, head_refusal, head_tested, refused_early, refused_late, places_tested}
-use Rattle.panel_file.proofs.refusal_beside.Goals.{After-pads_of-n}
-use Rattle.panel_file.proofs.refusal_beside.Goals as goal
+use Rattle.panel_file.proofs.test_beside.Goals.{After-pads_of-n}
+use Rattle.panel_file.proofs.test_beside.Goals as goal
 
 -- the number of pads, a byte, and its square
 few : (c : After-pads_of-n) → let n = c.pads_of-n.result in (n ≤ 255) × (n * n ≤ 65025)
