@@ -2,13 +2,12 @@
 // answered. a and b are read; x and swaps are written. The ops that read factors, and those that need none, are handed on.
 #![tactic(auto)]
 
-use adding::Added;
 use cases::Case;
 use factors::Record;
 use from_factors_ops::record_of;
 use lines::{Line, NO, Parts};
 use lu::Factored;
-use removing::Removed;
+use refusals::Refusal;
 use why::WhyFactor;
 
 // The line of a call that factors: pairs, factors, swaps, toss-ups, dead columns.
@@ -23,18 +22,19 @@ fn factors_line(number: usize, pairs: usize, toss_ups: usize, dead: usize) -> Li
 }
 
 // The line of factoring's answer.
-fn factored_line(answer: Factored) -> Line {
+fn factored_line(answer: Result<Factored, Refusal>) -> Line {
     match answer {
-        Factored::Accepted { told, toss_ups } => factors_line(0, told.pairs, toss_ups, told.dead),
-        Factored::Refused(number) => factors_line(number, 0, 0, 0),
+        Ok(Factored { told, toss_ups }) => factors_line(0, told.pairs, toss_ups, told.dead),
+        Err(refusal) => factors_line(usize::from(refusal), 0, 0, 0),
     }
 }
 
 // Op 2.
 fn add_column(case: Case, b: &[f64], x: &mut [f64], swaps: &mut [usize]) -> Line {
-    match adding::add_column(x, b, swaps, record_of(case)) {
-        Added::Accepted { told, toss_ups } => factors_line(0, told.pairs, toss_ups, told.dead),
-        Added::Refused { number, told } => factors_line(number, told.pairs, 0, told.dead),
+    let held = record_of(case);
+    match adding::add_column(x, b, swaps, held) {
+        Ok(Factored { told, toss_ups }) => factors_line(0, told.pairs, toss_ups, told.dead),
+        Err(refusal) => factors_line(usize::from(refusal), held.pairs, 0, held.dead),
     }
 }
 
@@ -51,18 +51,19 @@ fn removed_line(number: usize, told: Record) -> Line {
 
 // Op 22.
 fn remove_column(case: Case, x: &mut [f64], swaps: &mut [usize]) -> Line {
-    match removing::remove_column(x, swaps, record_of(case)) {
-        Removed::Accepted(told) => removed_line(0, told),
-        Removed::Refused { number, told } => removed_line(number, told),
+    let held = record_of(case);
+    match removing::remove_column(x, swaps, held) {
+        Ok(told) => removed_line(0, told),
+        Err(refusal) => removed_line(usize::from(refusal), held),
     }
 }
 
 // The line of op 27: step, column and row of an overflow.
-fn why_factor_line(reason: WhyFactor) -> Line {
+fn why_factor_line(reason: Option<WhyFactor>) -> Line {
     match reason {
-        WhyFactor::NoReason => lines::dash_line(0),
-        WhyFactor::Refused(number) => lines::dash_line(number),
-        WhyFactor::Overflow { step, column, row } => lines::place_line(7, step, column, row),
+        None => lines::dash_line(0),
+        Some(WhyFactor::Refused(refusal)) => lines::dash_line(usize::from(refusal)),
+        Some(WhyFactor::Overflow { step, column, row }) => lines::place_line(7, step, column, row),
     }
 }
 

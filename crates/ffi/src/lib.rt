@@ -9,25 +9,53 @@ ghost use Rattle.numbers.specs.Numbers.{zero64};
 ghost use Rattle.refusals.specs.Outcome.{number_of, outcome};
 ghost use Rattle.ranking.specs.Ranking.{loaded, every_pad, ranking};
 ghost use Rattle.factors.specs.Factors.{record_of, record_after};
-ghost use Rattle.lu.specs.Factoring.{factoring, factoring_answer, pairs_in, dead_columns_in, tossed_in};
+ghost use Rattle.lu.specs.Factoring.{factored, factoring, factoring_answer, pairs_in, dead_columns_in, tossed_in};
 ghost use Rattle.adding.specs.Adding.{adding, adding_answer};
 ghost use Rattle.from_factors.specs.Solving.{solving, inverting};
 ghost use Rattle.from_factors.specs.Determinant.{determining, inverse_test};
 ghost use Rattle.scaled_determinant.specs.Scaled.{scaled};
 ghost use Rattle.scaled_determinant.specs.Determinant.{vanished, scaling};
 ghost use Rattle.crossing.specs.Factors.{factors_in, toss_ups_in, tosses_given, stiffness};
-ghost use Rattle.crossing_pads.specs.Ordering.{ordering};
+ghost use Rattle.crossing_pads.specs.Ordering.{ordering, pads_ordered};
 ghost use Rattle.season.specs.Season.{handing, counts_of, season_from};
 ghost use Rattle.ffi.specs.Exports.{value_after, result_after, pads_in, count_in};
 
-use adding::Added;
 use crossing_pads::Order;
 use factors::Record;
-use from_factors::{Det, Invertible};
 use lu::Factored;
-use ranking::Listed;
-use scaled_determinant::ScaledDet;
+use refusals::Refusal;
 use season::Season;
+
+// Tells factors' record and their toss-ups, or none, through pointers. Answers the refusal's number.
+pub fn tell_factored(
+    answer: Result<Factored, Refusal>,
+    pairs: &mut usize,
+    dead: &mut usize,
+    toss_ups: &mut usize,
+) -> usize
+    ensures value { result ≡ number_of (factored answer) }
+    ensures pairs_after { pairs.new ≡ pairs_in (factored answer) }
+    ensures dead_after { dead.new ≡ dead_columns_in (factored answer) }
+    ensures toss_ups_after { toss_ups.new ≡ tossed_in (factored answer) }
+{
+    match answer {
+        Ok(Factored {
+            told,
+            toss_ups: tossed,
+        }) => {
+            *pairs = told.pairs;
+            *dead = told.dead;
+            *toss_ups = tossed;
+            0
+        }
+        Err(refusal) => {
+            *pairs = 0;
+            *dead = 0;
+            *toss_ups = 0;
+            usize::from(refusal)
+        }
+    }
+}
 
 // Factors the m by n matrix a. Refused: no pairs, no dead columns and no toss-ups.
 pub fn wejdarox_factor(
@@ -47,23 +75,7 @@ pub fn wejdarox_factor(
     ensures dead_after { dead.new ≡ dead_columns_in (factoring_answer a.now m n factors.old swaps.old) }
     ensures toss_ups_after { toss_ups.new ≡ tossed_in (factoring_answer a.now m n factors.old swaps.old) }
 {
-    match lu::factor(a, m, n, factors, swaps) {
-        Factored::Accepted {
-            told,
-            toss_ups: tossed,
-        } => {
-            *pairs = told.pairs;
-            *dead = told.dead;
-            *toss_ups = tossed;
-            0
-        }
-        Factored::Refused(number) => {
-            *pairs = 0;
-            *dead = 0;
-            *toss_ups = 0;
-            number
-        }
-    }
+    tell_factored(lu::factor(a, m, n, factors, swaps), pairs, dead, toss_ups)
 }
 
 // Adds a raw column to m by n factors with *pairs swaps and *dead dead columns. Refused: both as they were, and no toss-ups.
@@ -101,18 +113,18 @@ pub fn wejdarox_add_column(
         dead: died,
     };
     match adding::add_column(factors, column, swaps, held) {
-        Added::Accepted {
+        Ok(Factored {
             told,
             toss_ups: tossed,
-        } => {
+        }) => {
             *pairs = told.pairs;
             *dead = told.dead;
             *toss_ups = tossed;
             0
         }
-        Added::Refused { number, told: _ } => {
+        Err(refusal) => {
             *toss_ups = 0;
-            number
+            usize::from(refusal)
         }
     }
 }
@@ -185,15 +197,15 @@ pub fn wejdarox_determinant(
         dead,
     };
     match from_factors::determinant(factors, swaps, told) {
-        Det::Number(d) => {
+        Ok(d) => {
             *value = d;
             0
         }
-        Det::Refused(number) => {
-            if number == 7 {
+        Err(refusal) => {
+            if refusal == Refusal::Overflow {
                 *value = 0.0;
             }
-            number
+            usize::from(refusal)
         }
     }
 }
@@ -224,13 +236,13 @@ pub fn wejdarox_scaled_determinant(
         dead,
     };
     match scaled_determinant::scaled_determinant(factors, swaps, told) {
-        ScaledDet::Number(d) => {
+        Ok(d) => {
             let power = d.exponent;
             *significand = d.significand;
             *exponent = power;
             0
         }
-        ScaledDet::Refused(number) => number,
+        Err(refusal) => usize::from(refusal),
     }
 }
 
@@ -255,27 +267,27 @@ pub fn wejdarox_is_invertible(
         dead,
     };
     match from_factors::is_invertible(factors, swaps, told) {
-        Invertible::Is(holds) => {
+        Ok(holds) => {
             *invertible = holds;
             0
         }
-        Invertible::Refused(number) => number,
+        Err(refusal) => usize::from(refusal),
     }
 }
 
-// The number of listed pads through count, 0 where the ranking was refused. Answers the refusal's number.
-fn tell_count(answer: Listed, count: &mut usize) -> usize
+// Tells a count through a pointer, 0 where there is none. Answers the refusal's number.
+pub fn tell_count(answer: Result<usize, Refusal>, count: &mut usize) -> usize
     ensures value { result ≡ number_of (outcome answer) }
     ensures count_after { count.new ≡ count_in (outcome answer) }
 {
     match answer {
-        Listed::Pads(listed) => {
-            *count = listed;
+        Ok(counted) => {
+            *count = counted;
             0
         }
-        Listed::Refused(number) => {
+        Err(refusal) => {
             *count = 0;
-            number
+            usize::from(refusal)
         }
     }
 }
@@ -298,6 +310,33 @@ pub fn wejdarox_rank_all(loads: &[f64], n: usize, ranks: &mut [usize], count: &m
     tell_count(ranking::rank_all(loads, n, ranks), count)
 }
 
+// Tells the numbers of pads and of toss-ups, or none, through pointers. Answers the refusal's number.
+pub fn tell_order(
+    answer: Result<Order, Refusal>,
+    pads: &mut usize,
+    toss_ups: &mut usize,
+) -> usize
+    ensures value { result ≡ number_of (pads_ordered answer) }
+    ensures pads_after { pads.new ≡ pads_in (pads_ordered answer) }
+    ensures toss_ups_after { toss_ups.new ≡ tossed_in (pads_ordered answer) }
+{
+    match answer {
+        Ok(Order {
+            pads: n,
+            toss_ups: tossed,
+        }) => {
+            *pads = n;
+            *toss_ups = tossed;
+            0
+        }
+        Err(refusal) => {
+            *pads = 0;
+            *toss_ups = 0;
+            usize::from(refusal)
+        }
+    }
+}
+
 // The whole answer for a panel file, its number of pads through pads and of toss-ups through toss_ups. Refused: no pads and no toss-ups.
 pub fn wejdarox_pad_order(
     file: &[u8],
@@ -312,21 +351,7 @@ pub fn wejdarox_pad_order(
     ensures pads_after { pads.new ≡ pads_in (ordering file.now ranks.old loads.old).answer }
     ensures toss_ups_after { toss_ups.new ≡ tossed_in (ordering file.now ranks.old loads.old).answer }
 {
-    match crossing_pads::pad_order(file, ranks, loads) {
-        Order::Pads {
-            pads: n,
-            toss_ups: tossed,
-        } => {
-            *pads = n;
-            *toss_ups = tossed;
-            0
-        }
-        Order::Refused(number) => {
-            *pads = 0;
-            *toss_ups = 0;
-            number
-        }
-    }
+    tell_order(crossing_pads::pad_order(file, ranks, loads), pads, toss_ups)
 }
 
 // The stiffness of a panel file's crossing, as a significand and a binary exponent, with its number of toss-ups. Refused with 7 it is
@@ -348,18 +373,18 @@ pub fn wejdarox_stiffness(
     *toss_ups = check.toss_ups;
     let determinant = check.determinant;
     match determinant {
-        ScaledDet::Number(d) => {
+        Ok(d) => {
             let power = d.exponent;
             *significand = d.significand;
             *exponent = power;
             0
         }
-        ScaledDet::Refused(number) => {
-            if number == 7 {
+        Err(refusal) => {
+            if refusal == Refusal::Overflow {
                 *significand = 0.0;
                 *exponent = 0;
             }
-            number
+            usize::from(refusal)
         }
     }
 }
@@ -370,9 +395,11 @@ pub fn wejdarox_with_file(file: &[u8], season: &mut [usize; 17]) -> usize
     ensures season_after { season.new ≡ counts_of (handing (season_from season.old) file.now).left }
 {
     let counts = *season;
-    let handed = Season::from_counts(counts).with_file(file);
-    let answer = handed.answer;
-    let after = handed.season;
-    *season = after.counts();
-    refusals::number_of(answer)
+    match Season::from_counts(counts).with_file(file) {
+        Ok(after) => {
+            *season = after.counts();
+            0
+        }
+        Err(refusal) => usize::from(refusal),
+    }
 }

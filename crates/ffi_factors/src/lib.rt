@@ -11,8 +11,6 @@ ghost use Rattle.from_factors.specs.Triangles.{lowering, uppering};
 ghost use Rattle.from_factors.specs.Solving.{tr_solving};
 
 use factors::Record;
-use lu::Factored;
-use removing::Removed;
 
 // Takes the last column off m by n factors with *pairs swaps and *dead dead columns. Refused: both as they were.
 pub fn wejdarox_remove_column(
@@ -44,12 +42,12 @@ pub fn wejdarox_remove_column(
         dead: died,
     };
     match removing::remove_column(factors, swaps, held) {
-        Removed::Accepted(told) => {
+        Ok(told) => {
             *pairs = told.pairs;
             *dead = told.dead;
             0
         }
-        Removed::Refused { number, told: _ } => number,
+        Err(refusal) => usize::from(refusal),
     }
 }
 
@@ -71,23 +69,8 @@ pub fn wejdarox_build_up(
     ensures dead_after { dead.new ≡ dead_columns_in (factoring_answer a.now m n factors.old swaps.old) }
     ensures toss_ups_after { toss_ups.new ≡ tossed_in (factoring_answer a.now m n factors.old swaps.old) }
 {
-    match building_up::build_up(a, m, n, factors, swaps) {
-        Factored::Accepted {
-            told,
-            toss_ups: tossed,
-        } => {
-            *pairs = told.pairs;
-            *dead = told.dead;
-            *toss_ups = tossed;
-            0
-        }
-        Factored::Refused(number) => {
-            *pairs = 0;
-            *dead = 0;
-            *toss_ups = 0;
-            number
-        }
-    }
+    let answer = building_up::build_up(a, m, n, factors, swaps);
+    ffi::tell_factored(answer, pairs, dead, toss_ups)
 }
 
 // L of m by n factors, into x.

@@ -14,10 +14,6 @@ ghost use Rattle.panel_text.specs.Why.{why_text_of};
 ghost use Rattle.ffi.specs.Exports.{pads_in, count_in};
 ghost use Rattle.ffi_files.specs.Files.{writing_answer, left_with, version_number};
 
-use crossing_pads::Order;
-use panel_file::Panel;
-use panel_file_writer::Written;
-
 // Reads a panel file into two stores, its number of pads through pads. Refused: no pads.
 pub fn wejdarox_read_panel(
     file: &[u8],
@@ -30,16 +26,7 @@ pub fn wejdarox_read_panel(
     ensures readings_after { readings.new ≡ (reading file.now (stores matrix.old readings.old)).left.readings }
     ensures pads_after { pads.new ≡ count_in (reading file.now (stores matrix.old readings.old)).answer }
 {
-    match panel_file::read(file, matrix, readings) {
-        Panel::Pads(n) => {
-            *pads = n;
-            0
-        }
-        Panel::Refused(number) => {
-            *pads = 0;
-            number
-        }
-    }
+    ffi::tell_count(panel_file::read(file, matrix, readings), pads)
 }
 
 // Writes the panel file of n pads to the front of out, how many bytes it has through count. Refused: none.
@@ -55,16 +42,7 @@ pub fn wejdarox_write_panel(
         (left_with (writing_answer n matrix.now readings.now (length out.old)) out.new) }
     ensures count_after { count.new ≡ count_in (writing_answer n matrix.now readings.now (length out.old)) }
 {
-    match panel_file_writer::write(n, matrix, readings, out) {
-        Written::Bytes(bytes) => {
-            *count = bytes;
-            0
-        }
-        Written::Refused(number) => {
-            *count = 0;
-            number
-        }
-    }
+    ffi::tell_count(panel_file_writer::write(n, matrix, readings, out), count)
 }
 
 // How a pad's load moves with each reading of a panel file, its number of readings through pads and of toss-ups through toss_ups. Refused: none.
@@ -80,21 +58,7 @@ pub fn wejdarox_moves(
     ensures pads_after { pads.new ≡ pads_in (moving file.now pad moves.old).answer }
     ensures toss_ups_after { toss_ups.new ≡ tossed_in (moving file.now pad moves.old).answer }
 {
-    match crossing_pads::moves(file, pad, moves) {
-        Order::Pads {
-            pads: n,
-            toss_ups: tossed,
-        } => {
-            *pads = n;
-            *toss_ups = tossed;
-            0
-        }
-        Order::Refused(number) => {
-            *pads = 0;
-            *toss_ups = 0;
-            number
-        }
-    }
+    ffi::tell_order(crossing_pads::moves(file, pad, moves), pads, toss_ups)
 }
 
 // What the program prints for a file, at the front of out. Answers how many bytes it has.

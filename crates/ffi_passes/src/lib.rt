@@ -11,8 +11,6 @@ ghost use Rattle.triangular_passes.specs.declared.Pass.{Pass};
 ghost use Rattle.triangular_passes.specs.declared.Pass.TheVariants.{Lower, Upper, GivenDiagonal, CorrectedDiagonal, TransposedLower, TransposedUpper};
 ghost use Rattle.solve.specs.Calls.{solving};
 
-use swap_list::Appended;
-
 // Solves by the lower triangle of the n by n matrix t for the k right-hand columns b, into x.
 pub fn wejdarox_solve_lower_triangular(
     t: &[f64],
@@ -113,17 +111,11 @@ pub fn wejdarox_append_permutation(
 {
     let was = *pairs;
     match swap_list::append_permutation(swaps, was, d, i, i2) {
-        Appended::Pairs(count) => {
+        Ok(count) => {
             *pairs = count;
             0
         }
-        Appended::Refused {
-            number,
-            pairs: count,
-        } => {
-            *pairs = count;
-            number
-        }
+        Err(refusal) => usize::from(refusal),
     }
 }
 

@@ -22,14 +22,14 @@ struct Reason {
 }
 
 // The reason of a factoring: its place is step, column, row.
-fn of_factoring(reason: WhyFactor) -> Reason
+fn of_factoring(reason: Option<WhyFactor>) -> Reason
     ensures number_value { (result.number ≡ (told_factor reason).number) × (result.first ≡ (place_told (told_factor reason)).step) }
     ensures second_value { (result.second ≡ (place_told (told_factor reason)).column) × (result.third ≡ (place_told (told_factor reason)).row) }
 {
     match reason {
-        WhyFactor::NoReason => alone(0),
-        WhyFactor::Refused(number) => alone(number),
-        WhyFactor::Overflow { step, column, row } => Reason {
+        None => alone(0),
+        Some(WhyFactor::Refused(refusal)) => alone(usize::from(refusal)),
+        Some(WhyFactor::Overflow { step, column, row }) => Reason {
             number: 7,
             first: step,
             second: column,
@@ -39,20 +39,20 @@ fn of_factoring(reason: WhyFactor) -> Reason
 }
 
 // The reason of a solve: its place is pass, right-hand column, row; for 6 the column alone.
-fn of_solving(reason: WhySolve) -> Reason
+fn of_solving(reason: Option<WhySolve>) -> Reason
     ensures number_value { (result.number ≡ (told_solve reason).number) × (result.first ≡ (spot_told (told_solve reason)).pass) }
     ensures second_value { (result.second ≡ (spot_told (told_solve reason)).column) × (result.third ≡ (spot_told (told_solve reason)).row) }
 {
     match reason {
-        WhySolve::NoReason => alone(0),
-        WhySolve::Refused(number) => alone(number),
-        WhySolve::Singular(column) => Reason {
+        None => alone(0),
+        Some(WhySolve::Refused(refusal)) => alone(usize::from(refusal)),
+        Some(WhySolve::Singular(column)) => Reason {
             number: 6,
             first: 0,
             second: column,
             third: 0,
         },
-        WhySolve::Overflow { pass, column, row } => Reason {
+        Some(WhySolve::Overflow { pass, column, row }) => Reason {
             number: 7,
             first: pass,
             second: column,

@@ -4,8 +4,7 @@
 use cases::{Case, bytes_within};
 use crossing_pads::Order;
 use lines::{put, put_bar, put_bytes, put_front, put_scaled, put_shown, put_whole, put_word};
-use panel_file_writer::Written;
-use scaled_determinant::ScaledDet;
+use refusals::Refusal;
 
 // The digit of the refusal number in what a program prints, 0 where it prints pads or no reason.
 fn digit_of(answer: &[u8]) -> u8 {
@@ -19,8 +18,8 @@ fn digit_of(answer: &[u8]) -> u8 {
 }
 
 // The line of a refused call that would have answered a number.
-fn put_refused(text: &mut [u8], from: usize, number: usize) -> usize {
-    let at = put_whole(text, from, number);
+fn put_refused(text: &mut [u8], from: usize, refusal: Refusal) -> usize {
+    let at = put_whole(text, from, usize::from(refusal));
     put_word(text, at, b" | -")
 }
 
@@ -49,14 +48,14 @@ fn explained(text: &mut [u8], from: usize, file: &[u8]) -> usize {
 fn moves(text: &mut [u8], from: usize, pad: usize, file: &[u8]) -> usize {
     let mut numbers = [0.0f64; 64];
     match crossing_pads::moves(file, pad, &mut numbers) {
-        Order::Pads {
+        Ok(Order {
             pads: n,
             toss_ups: _,
-        } => {
+        }) => {
             let at = put_word(text, from, b"0 | ");
             put_front(text, at, n, &numbers)
         }
-        Order::Refused(number) => put_refused(text, from, number),
+        Err(refusal) => put_refused(text, from, refusal),
     }
 }
 
@@ -65,25 +64,25 @@ fn stiffness(text: &mut [u8], from: usize, file: &[u8]) -> usize {
     let check = crossing::stiffness(file);
     let determinant = check.determinant;
     match determinant {
-        ScaledDet::Number(r) => {
+        Ok(r) => {
             let at = put_word(text, from, b"0 | ");
             put_scaled(text, at, r.significand, r.exponent)
         }
-        ScaledDet::Refused(number) => {
-            let at = put_refused(text, from, number);
+        Err(refusal) => {
+            let at = put_refused(text, from, refusal);
             put_word(text, at, b" | -")
         }
     }
 }
 
 // The refusal number and the count of op 21.
-fn put_written(text: &mut [u8], from: usize, answer: Written) -> usize {
+fn put_written(text: &mut [u8], from: usize, answer: Result<usize, Refusal>) -> usize {
     match answer {
-        Written::Bytes(count) => {
+        Ok(count) => {
             let at = put_word(text, from, b"0 | ");
             put_whole(text, at, count)
         }
-        Written::Refused(number) => put_refused(text, from, number),
+        Err(refusal) => put_refused(text, from, refusal),
     }
 }
 

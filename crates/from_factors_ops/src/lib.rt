@@ -4,11 +4,9 @@
 
 use cases::Case;
 use factors::Record;
-use from_factors::{Det, Invertible};
 use lines::{Line, NO, Parts};
 use matrix_ops::{result_line, whole_of};
-use refusals::Answer;
-use scaled_determinant::ScaledDet;
+use refusals::Refusal;
 use why::WhySolve;
 
 // The record that a case tells.
@@ -24,29 +22,29 @@ pub fn record_of(case: Case) -> Record {
 // Op 5.
 fn determinant(case: Case, a: &[f64], swaps: &[usize]) -> Line {
     match from_factors::determinant(a, swaps, record_of(case)) {
-        Det::Number(number) => lines::float_line(number),
-        Det::Refused(number) => lines::dash_line(number),
+        Ok(number) => lines::float_line(number),
+        Err(refusal) => lines::dash_line(usize::from(refusal)),
     }
 }
 
 // Op 30.
 fn scaled_determinant(case: Case, a: &[f64], swaps: &[usize]) -> Line {
     match scaled_determinant::scaled_determinant(a, swaps, record_of(case)) {
-        ScaledDet::Number(r) => lines::scaled_line(r.significand, r.exponent),
-        ScaledDet::Refused(number) => lines::not_scaled_line(number),
+        Ok(r) => lines::scaled_line(r.significand, r.exponent),
+        Err(refusal) => lines::not_scaled_line(usize::from(refusal)),
     }
 }
 
 // Op 6.
 fn is_invertible(case: Case, a: &[f64], swaps: &[usize]) -> Line {
     match from_factors::is_invertible(a, swaps, record_of(case)) {
-        Invertible::Is(yes) => lines::whole_line(whole_of(yes)),
-        Invertible::Refused(number) => lines::dash_line(number),
+        Ok(yes) => lines::whole_line(whole_of(yes)),
+        Err(refusal) => lines::dash_line(usize::from(refusal)),
     }
 }
 
 // The ops of factors whose result is x: 3, 4, 7, 8, 25.
-fn of_factors(case: Case, a: &[f64], swaps: &[usize], b: &[f64], x: &mut [f64]) -> Answer {
+fn of_factors(case: Case, a: &[f64], swaps: &[usize], b: &[f64], x: &mut [f64]) -> Result<(), Refusal> {
     let op = case.op;
     let told = record_of(case);
     match op {
@@ -59,14 +57,14 @@ fn of_factors(case: Case, a: &[f64], swaps: &[usize], b: &[f64], x: &mut [f64]) 
 }
 
 // The line of op 28: the dead column of a singular matrix, or pass, right-hand column and row of an overflow.
-fn why_solve_line(reason: WhySolve) -> Line {
+fn why_solve_line(reason: Option<WhySolve>) -> Line {
     match reason {
-        WhySolve::NoReason => lines::dash_line(0),
-        WhySolve::Refused(number) => lines::dash_line(number),
-        WhySolve::Singular(column) => {
+        None => lines::dash_line(0),
+        Some(WhySolve::Refused(refusal)) => lines::dash_line(usize::from(refusal)),
+        Some(WhySolve::Singular(column)) => {
             lines::line_of(6, Parts(b'1', NO, NO, NO, NO), column, 0, 0)
         }
-        WhySolve::Overflow { pass, column, row } => lines::place_line(7, pass, column, row),
+        Some(WhySolve::Overflow { pass, column, row }) => lines::place_line(7, pass, column, row),
     }
 }
 

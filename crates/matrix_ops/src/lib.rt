@@ -4,12 +4,10 @@
 
 use cases::Case;
 use lines::{Line, NO, Parts};
-use ranking::Listed;
-use refusals::Answer;
-use swap_list::Appended;
+use refusals::Refusal;
 
 // The line of a call whose result is x.
-pub fn result_line(answer: Answer) -> Line {
+pub fn result_line(answer: Result<(), Refusal>) -> Line {
     lines::result_line(refusals::number_of(answer))
 }
 
@@ -19,7 +17,7 @@ pub fn whole_of(holds: bool) -> usize {
 }
 
 // The ops of a triangular matrix: 9 to 13 and 24.
-fn of_triangle(case: Case, a: &[f64], b: &[f64], x: &mut [f64]) -> Answer {
+fn of_triangle(case: Case, a: &[f64], b: &[f64], x: &mut [f64]) -> Result<(), Refusal> {
     let op = case.op;
     let n = case.n;
     let k = case.k;
@@ -35,7 +33,7 @@ fn of_triangle(case: Case, a: &[f64], b: &[f64], x: &mut [f64]) -> Answer {
 }
 
 // The ops of a swap list on a matrix: 14 to 17.
-fn permuted(case: Case, swaps: &[usize], x: &mut [f64]) -> Answer {
+fn permuted(case: Case, swaps: &[usize], x: &mut [f64]) -> Result<(), Refusal> {
     let op = case.op;
     let m = case.m;
     let n = case.n;
@@ -57,13 +55,13 @@ fn list_line(number: usize, pairs: usize) -> Line {
 fn append(case: Case, swaps: &mut [usize]) -> Line {
     let pairs = case.pairs;
     match swap_list::append_permutation(swaps, pairs, case.m, case.first, case.second) {
-        Appended::Pairs(now) => list_line(0, now),
-        Appended::Refused { number, pairs } => list_line(number, pairs),
+        Ok(now) => list_line(0, now),
+        Err(refusal) => list_line(usize::from(refusal), pairs),
     }
 }
 
 // Op 19: all pads, or for m = 0 those whose load is not zero.
-fn rank(case: Case, a: &[f64], swaps: &mut [usize]) -> Listed {
+fn rank(case: Case, a: &[f64], swaps: &mut [usize]) -> Result<usize, Refusal> {
     if case.m == 0 {
         ranking::rank(a, case.n, swaps)
     } else {
@@ -72,10 +70,16 @@ fn rank(case: Case, a: &[f64], swaps: &mut [usize]) -> Listed {
 }
 
 // The line of op 19: the number of listed pads, ranks.
-fn ranked_line(answer: Listed) -> Line {
+fn ranked_line(answer: Result<usize, Refusal>) -> Line {
     match answer {
-        Listed::Pads(count) => lines::line_of(0, Parts(b'1', b's', NO, NO, NO), count, 0, 0),
-        Listed::Refused(number) => lines::line_of(number, Parts(b'-', b's', NO, NO, NO), 0, 0, 0),
+        Ok(count) => lines::line_of(0, Parts(b'1', b's', NO, NO, NO), count, 0, 0),
+        Err(refusal) => lines::line_of(
+            usize::from(refusal),
+            Parts(b'-', b's', NO, NO, NO),
+            0,
+            0,
+            0,
+        ),
     }
 }
 

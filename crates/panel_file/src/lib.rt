@@ -7,7 +7,7 @@ ghost use Rattle.std.specs.Float.Ieee.{of_bits};
 ghost use Rattle.std.specs.Float.Ieee.Scale.{finite};
 ghost use Rattle.numbers.specs.Each.{list_of};
 ghost use Rattle.finite.specs.Finite.{all_finite};
-ghost use Rattle.refusals.specs.Outcome.{first_holding, outcome};
+ghost use Rattle.refusals.specs.Outcome.{first_holding, outcome, number_of};
 ghost use Rattle.panel_file.specs.File.{bits_at, headed, pads_of, number_at};
 ghost use Rattle.panel_file.specs.Inner.{Holds, reading_beside};
 ghost use Rattle.panel_file.specs.Reading.{file_tests, file_refusal, stores, reading, reading_sized};

@@ -10,19 +10,16 @@ ghost use Rattle.crossing.specs.Factors.{factors_in};
 ghost use Rattle.panel_pivots.specs.Outermost.{Greatest, Least, diagonal_of};
 ghost use Rattle.panel_pivots.specs.Pivots.{Spanned, MeasuredAs};
 
-use crossing::Held;
-use panel_file::Panel;
+use lu::Factored;
+use refusals::Refusal;
 
-// How the elimination went: the number of toss-ups, the greatest magnitude of the matrix, and the greatest and the least of the pivots; or a refusal's number.
+// How the elimination went: the number of toss-ups, the greatest magnitude of the matrix, and the greatest and the least of the pivots.
 #[derive(Clone, Copy)]
-enum Pivots {
-    Told {
-        toss_ups: usize,
-        matrix: f64,
-        greatest: f64,
-        least: f64,
-    },
-    Refused(usize),
+struct Pivots {
+    toss_ups: usize,
+    matrix: f64,
+    greatest: f64,
+    least: f64,
 }
 
 // The greatest magnitude of the numbers, +0.0 where there is none.
@@ -79,11 +76,11 @@ fn greatest_of(file: &[u8]) -> f64
     let mut matrix = [0.0f64; 4096];
     let mut readings = [0.0f64; 64];
     match panel_file::read(file, &mut matrix, &mut readings) {
-        Panel::Pads(n) => {
+        Ok(n) => {
             let entries = n * n;
             greatest(&matrix[..entries])
         }
-        Panel::Refused(_) => 0.0,
+        Err(_) => 0.0,
     }
 }
 
@@ -93,7 +90,7 @@ fn span(toss_ups: usize, most: f64, t: &[f64], n: usize, pivots: &mut [f64]) -> 
     ensures { Spanned t.now n toss_ups most result }
 {
     fill_diagonal(t, n, pivots);
-    Pivots::Told {
+    Pivots {
         toss_ups,
         matrix: most,
         greatest: greatest(pivots),
@@ -112,17 +109,16 @@ fn span_front(toss_ups: usize, most: f64, matrix: &[f64], n: usize) -> Pivots
 }
 
 // What a file comes to.
-fn pivots_of(file: &[u8]) -> Pivots
+fn pivots_of(file: &[u8]) -> Result<Pivots, Refusal>
     ensures { MeasuredAs file.now (factors_in file.now) result }
 {
     let most = greatest_of(file);
     let mut matrix = [0.0f64; 4096];
     let mut readings = [0.0f64; 64];
     let mut swaps = [0usize; 128];
-    match crossing::factor_file(file, &mut matrix, &mut readings, &mut swaps) {
-        Held::Factors { told, toss_ups } => span_front(toss_ups, most, &matrix, told.rows),
-        Held::Refused(number) => Pivots::Refused(number),
-    }
+    let Factored { told, toss_ups } =
+        crossing::factor_file(file, &mut matrix, &mut readings, &mut swaps)?;
+    Ok(span_front(toss_ups, most, &matrix, told.rows))
 }
 
 // Prints a word, and the bits of a magnitude as 16 small hex digits. A zero is printed without its sign.
@@ -144,18 +140,18 @@ fn print_count(word: &[u8], number: usize) {
 // Prints what a file comes to.
 fn print_pivots(file: &[u8]) {
     match pivots_of(file) {
-        Pivots::Told {
+        Ok(Pivots {
             toss_ups,
             matrix,
             greatest,
             least,
-        } => {
+        }) => {
             print_count(b"toss-ups ", toss_ups);
             print_bits(b"matrix ", matrix);
             print_bits(b"greatest ", greatest);
             print_bits(b"least ", least);
         }
-        Pivots::Refused(number) => print_count(b"refused ", number),
+        Err(refusal) => print_count(b"refused ", usize::from(refusal)),
     }
 }
 

@@ -4,8 +4,8 @@
 
 ghost use Rattle.io.specs.Counts.{IsPrefixLen};
 
-use refusals::Answer;
-use season::{Handed, Season};
+use refusals::Refusal;
+use season::Season;
 use std::fs::File;
 use std::io::Read;
 use std::os::fd::AsRawFd;
@@ -35,14 +35,14 @@ fn read_named(rt: HostRuntime, name: &[u8], file: &mut [u8]) -> usize
 }
 
 // The season with the file of a name.
-fn with_named(rt: HostRuntime, season: Season, name: &[u8]) -> Handed {
+fn with_named(rt: HostRuntime, season: Season, name: &[u8]) -> Result<Season, Refusal> {
     let mut file = [0u8; 33287];
     let held = read_named(rt, name, &mut file);
     season.with_file(&file[..held])
 }
 
 // The season with the file of a name of so many bytes, an empty file where that is too many.
-fn with_name(rt: HostRuntime, season: Season, name: &[u8], length: usize) -> Handed {
+fn with_name(rt: HostRuntime, season: Season, name: &[u8], length: usize) -> Result<Season, Refusal> {
     if length <= name.len() {
         return with_named(rt, season, &name[..length]);
     }
@@ -52,17 +52,14 @@ fn with_name(rt: HostRuntime, season: Season, name: &[u8], length: usize) -> Han
 // A name has ended. It goes on where the file was counted.
 fn ended(rt: HostRuntime, place: Place, name: &[u8]) -> Place {
     let was = place.season;
-    let handed = with_name(rt, was, name, place.length);
-    let answer = handed.answer;
-    let season = handed.season;
-    match answer {
-        Answer::Done => Place {
+    match with_name(rt, was, name, place.length) {
+        Ok(season) => Place {
             season,
             length: 0,
             going: true,
         },
-        Answer::Refused(_) => Place {
-            season,
+        Err(_) => Place {
+            season: was,
             length: 0,
             going: false,
         },

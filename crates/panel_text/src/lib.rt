@@ -8,6 +8,7 @@ ghost use Rattle.std.specs.Float.Ieee.Scale.{finite};
 ghost use Rattle.finite.specs.Finite.{all_finite};
 ghost use Rattle.ranking.specs.Ranking.{IsPad};
 ghost use Rattle.scaled_determinant.specs.Range.{Ranged};
+ghost use Rattle.refusals.specs.Outcome.{number};
 ghost use Rattle.io.specs.Counts.{IsPrefixLen};
 ghost use Rattle.io.specs.Digits.{last_digits, hex_digit_ascii as Digits·glyph};
 ghost use Rattle.panel_text.specs.Text.{written, decimal, line_of, lines_of, moves_text, pads_text, refused_text, whole, signed, scaled_text};
@@ -17,7 +18,8 @@ ghost use Rattle.why.specs.Why.{told_number};
 ghost use Rattle.why_file.specs.Explaining.{told_file};
 
 use crossing_pads::Order;
-use scaled_determinant::{Scaled, ScaledDet};
+use scaled_determinant::Scaled;
+use refusals::Refusal;
 use why_file::WhyFile;
 
 // The character of a digit below 16.
@@ -104,13 +106,13 @@ fn put_lines(out: &mut [u8], from: usize, ranks: &[usize], loads: &[f64]) -> usi
 }
 
 // Writes the text of a refusal. Answers how many bytes it has.
-fn put_refusal(out: &mut [u8], number: usize) -> usize
-    requires { (number < 100) × (length out.old ≡ 1288) }
-    ensures value { result ≡ length (refused_text number) }
-    ensures out_after { out.new ≡ written 0 (refused_text number) out.old }
+fn put_refusal(out: &mut [u8], refusal: Refusal) -> usize
+    requires { length out.old ≡ 1288 }
+    ensures value { result ≡ length (refused_text (number refusal)) }
+    ensures out_after { out.new ≡ written 0 (refused_text (number refusal)) out.old }
 {
     let at = put_word(out, 0, b"refused ");
-    let end = put_decimal(out, at, number);
+    let end = put_decimal(out, at, usize::from(refusal));
     out[end] = b'\n';
     end + 1
 }
@@ -137,11 +139,11 @@ pub fn text(file: &[u8], out: &mut [u8; 1288]) -> usize
     let mut ranks = [0usize; 64];
     let mut loads = [0.0f64; 64];
     match crossing_pads::pad_order(file, &mut ranks, &mut loads) {
-        Order::Pads {
+        Ok(Order {
             pads: n,
             toss_ups: _,
-        } => put_pads(out, n, &ranks[..n], &loads[..n]),
-        Order::Refused(number) => put_refusal(out, number),
+        }) => put_pads(out, n, &ranks[..n], &loads[..n]),
+        Err(refusal) => put_refusal(out, refusal),
     }
 }
 
@@ -168,11 +170,11 @@ pub fn moves_text(file: &[u8], pad: usize, out: &mut [u8; 1288]) -> usize
 {
     let mut moves = [0.0f64; 64];
     match crossing_pads::moves(file, pad, &mut moves) {
-        Order::Pads {
+        Ok(Order {
             pads: n,
             toss_ups: _,
-        } => put_moves(out, &moves[..n]),
-        Order::Refused(number) => put_refusal(out, number),
+        }) => put_moves(out, &moves[..n]),
+        Err(refusal) => put_refusal(out, refusal),
     }
 }
 
@@ -231,8 +233,8 @@ pub fn stiffness_text(file: &[u8], out: &mut [u8; 1288]) -> usize
     let check = crossing::stiffness(file);
     let determinant = check.determinant;
     match determinant {
-        ScaledDet::Number(r) => put_scaled(out, r),
-        ScaledDet::Refused(number) => put_refusal(out, number),
+        Ok(r) => put_scaled(out, r),
+        Err(refusal) => put_refusal(out, refusal),
     }
 }
 
@@ -257,25 +259,13 @@ fn put_spot(out: &mut [u8], at: usize, column: usize, row: usize) -> usize
     put_word(out, stop, b"\n")
 }
 
-// Writes a refusal's number alone, or that there is none. Answers how many bytes it has.
-fn put_number(out: &mut [u8], number: usize) -> usize
-    requires { (number < 100) × (length out.old ≡ 1288) }
-    ensures value { result ≡ length (reason_text (told_number number)) }
-    ensures out_after { out.new ≡ written 0 (reason_text (told_number number)) out.old }
-{
-    if number == 0 {
-        return put_word(out, 0, b"no reason\n");
-    }
-    put_refusal(out, number)
-}
-
 // Writes the place of an overflow in factoring. Answers how many bytes the text has.
 fn put_factoring(out: &mut [u8], step: usize, column: usize, row: usize) -> usize
     requires { (step < 64) × (column < 64) × (row < 64) × (length out.old ≡ 1288) }
-    ensures value { result ≡ length (reason_text (told_file (WhyFile.Factoring step column row))) }
-    ensures out_after { out.new ≡ written 0 (reason_text (told_file (WhyFile.Factoring step column row))) out.old }
+    ensures value { result ≡ length (reason_text (told_file (Some (WhyFile.Factoring step column row)))) }
+    ensures out_after { out.new ≡ written 0 (reason_text (told_file (Some (WhyFile.Factoring step column row)))) out.old }
 {
-    let at = put_refusal(out, 7);
+    let at = put_refusal(out, Refusal::Overflow);
     let end = put_place(out, at, b"factoring: step ", step);
     put_spot(out, end, column, row)
 }
@@ -283,10 +273,10 @@ fn put_factoring(out: &mut [u8], step: usize, column: usize, row: usize) -> usiz
 // Writes the lowest dead column. Answers how many bytes the text has.
 fn put_singular(out: &mut [u8], column: usize) -> usize
     requires { (column < 64) × (length out.old ≡ 1288) }
-    ensures value { result ≡ length (reason_text (told_file (WhyFile.Singular column))) }
-    ensures out_after { out.new ≡ written 0 (reason_text (told_file (WhyFile.Singular column))) out.old }
+    ensures value { result ≡ length (reason_text (told_file (Some (WhyFile.Singular column)))) }
+    ensures out_after { out.new ≡ written 0 (reason_text (told_file (Some (WhyFile.Singular column)))) out.old }
 {
-    let at = put_refusal(out, 6);
+    let at = put_refusal(out, Refusal::Singular);
     let end = put_place(out, at, b"column ", column);
     put_word(out, end, b"\n")
 }
@@ -305,10 +295,10 @@ fn pass_word(pass: usize) -> [u8; 19]
 // Writes the place of an overflow in the solve. Answers how many bytes the text has.
 fn put_solving(out: &mut [u8], pass: usize, column: usize, row: usize) -> usize
     requires { (column < 64) × (row < 64) × (length out.old ≡ 1288) }
-    ensures value { result ≡ length (reason_text (told_file (WhyFile.Solving pass column row))) }
-    ensures out_after { out.new ≡ written 0 (reason_text (told_file (WhyFile.Solving pass column row))) out.old }
+    ensures value { result ≡ length (reason_text (told_file (Some (WhyFile.Solving pass column row)))) }
+    ensures out_after { out.new ≡ written 0 (reason_text (told_file (Some (WhyFile.Solving pass column row)))) out.old }
 {
-    let at = put_refusal(out, 7);
+    let at = put_refusal(out, Refusal::Overflow);
     let name = pass_word(pass);
     let end = put_word(out, at, &name);
     put_spot(out, end, column, row)
@@ -321,10 +311,10 @@ pub fn why_text(file: &[u8], out: &mut [u8; 1288]) -> usize
     ensures out_after { out.new ≡ written 0 (why_text_of file.now) out.old }
 {
     match why_file::why_file(file) {
-        WhyFile::NoReason => put_number(out, 0),
-        WhyFile::Refused(number) => put_number(out, number),
-        WhyFile::Factoring { step, column, row } => put_factoring(out, step, column, row),
-        WhyFile::Singular(column) => put_singular(out, column),
-        WhyFile::Solving { pass, column, row } => put_solving(out, pass, column, row),
+        None => put_word(out, 0, b"no reason\n"),
+        Some(WhyFile::Refused(refusal)) => put_refusal(out, refusal),
+        Some(WhyFile::Factoring { step, column, row }) => put_factoring(out, step, column, row),
+        Some(WhyFile::Singular(column)) => put_singular(out, column),
+        Some(WhyFile::Solving { pass, column, row }) => put_solving(out, pass, column, row),
     }
 }

@@ -8,16 +8,13 @@ ghost use Rattle.std.specs.Float.Ieee.{of_bits};
 ghost use Rattle.panel_file_writer.specs.Writing.{written};
 ghost use Rattle.panel_write.specs.Text.{digit_of, four_at, bits_at, LineAt, AreLines, numbers_in, LinesWritten, two_digits, head_in, TextWritten};
 
-use panel_file_writer::Written;
+use refusals::Refusal;
 
 // The bytes of the longest text, of 64 pads: a line of 3 and 64 * 64 + 64 lines of 17. One more is held, so that a longer text is refused for its length.
 const TEXT: usize = 70724;
 
 // The most bytes of a file.
 const FILE: usize = 33286;
-
-// The refusal of a text that has not the lines that its number of pads asks for.
-const LENGTH: usize = 3;
 
 // What the first line tells: the number of pads, 0 for none, and the place behind the line.
 #[derive(Clone, Copy)]
@@ -146,7 +143,7 @@ fn write_filled(
     matrix: &mut [f64],
     readings: &mut [f64],
     out: &mut [u8],
-) -> Written
+) -> Result<usize, Refusal>
     requires { (n ≤ 64) × (length lines.now ≡ 17 * (n * n + n)) × (length matrix.old ≡ n * n) × (length readings.old ≡ n) }
     ensures { LinesWritten n lines.now out.old (written result out.new) }
 {
@@ -155,7 +152,7 @@ fn write_filled(
             return panel_file_writer::write(n, matrix, readings, out);
         }
     }
-    Written::Refused(LENGTH)
+    Err(Refusal::Length)
 }
 
 // The same in front of two stores, for any lines.
@@ -165,26 +162,26 @@ fn write_lines(
     matrix: &mut [f64],
     readings: &mut [f64],
     out: &mut [u8],
-) -> Written
+) -> Result<usize, Refusal>
     requires { (n ≤ 64) × (length matrix.old ≡ 4096) × (length readings.old ≡ 64) }
     ensures { LinesWritten n lines.now out.old (written result out.new) }
 {
     let entries = n * n;
     if lines.len() != 17 * (entries + n) {
-        return Written::Refused(LENGTH);
+        return Err(Refusal::Length);
     }
     write_filled(n, lines, &mut matrix[..entries], &mut readings[..n], out)
 }
 
 // Writes the file that a text stands for.
-fn write_text(text: &[u8], out: &mut [u8]) -> Written
+fn write_text(text: &[u8], out: &mut [u8]) -> Result<usize, Refusal>
     ensures { TextWritten text.now out.old (written result out.new) }
 {
     let head = head_of(text);
     let n = head.pads;
     let end = head.end;
     if refusals::outside(1, n) {
-        return Written::Refused(1);
+        return Err(Refusal::Size);
     }
     let mut matrix = [0.0f64; 4096];
     let mut readings = [0.0f64; 64];
@@ -192,9 +189,9 @@ fn write_text(text: &[u8], out: &mut [u8]) -> Written
 }
 
 // Prints the refusal.
-fn refuse(number: usize) {
+fn refuse(refusal: Refusal) {
     io::write_all(1, b"refused ");
-    io::print_decimal(1, number as u64);
+    io::print_decimal(1, usize::from(refusal) as u64);
     io::write_all(1, b"\n");
 }
 
@@ -202,10 +199,10 @@ fn refuse(number: usize) {
 fn print_text(text: &[u8]) {
     let mut file = [0u8; FILE];
     match write_text(text, &mut file) {
-        Written::Bytes(count) => {
+        Ok(count) => {
             io::write_all(1, &file[..count]);
         }
-        Written::Refused(number) => refuse(number),
+        Err(refusal) => refuse(refusal),
     }
 }
 

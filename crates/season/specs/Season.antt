@@ -1,9 +1,9 @@
 -- Document 02, request 13: the counts of a season over the files handed over, and the call that hands over one more.
-use Rattle.std.specs.Prelude.{ℕ, suc, ◌+◌, ◌-◌, ◌%◌, ◌^◌, Bool, true, false, cond, List, [], ◌∷◌, ◌++◌, length, ◌==◌, nat_le, slice_index, slice_set}
+use Rattle.std.specs.Prelude.{ℕ, suc, ◌+◌, ◌-◌, ◌%◌, ◌^◌, Bool, true, false, cond, List, [], ◌∷◌, ◌++◌, length, ◌==◌, nat_le, slice_index, slice_set, Result, Ok, Err}
 use Rattle.numbers.specs.Each.{list_of}
-use Rattle.refusals.specs.Outcome.{Outcome, done, refused, first_holding, tested, Call, leaving, outcome}
+use Rattle.refusals.specs.Outcome.{Outcome, done, refused, number, first_holding, tested, Call, leaving}
 use Rattle.season.specs.declared.Season.{Season}
-use Rattle.season.specs.declared.Handed.{Handed}
+use Rattle.refusals.specs.declared.Refusal.{Refusal}
 use Rattle.season.specs.Telling.{Share, telling}
 
 -- ---- the counts of a list of files
@@ -82,9 +82,10 @@ unfoldable pub handing : Season → File → Call (Unit {0}) Season
 handing s file =
     tested (first_holding ((10, nat_le 4000 s.files) ∷ [])) (leaving s) (record { answer = done tt; left = counted s (telling file) })
 
--- what the call's answer stands for
-abbrev pub handed : Handed → Call (Unit {0}) Season
-handed h = record { answer = outcome h.answer; left = h.season }
+-- what the call's answer stands for, and the season that the caller then holds: the one that is answered, or else the one before
+abbrev pub handed : Season → Result Season Refusal → Call (Unit {0}) Season
+handed before (Ok season) = record { answer = done tt; left = season }
+handed before (Err refusal) = record { answer = refused (number refusal); left = before }
 
 -- the season when the files of a list have been handed over, the first first
 unfoldable pub handed_over : Season → List File → Season

@@ -1,15 +1,15 @@
 -- What one panel file brings to a season (document 02, request 13): the pads that its ranking lists and the band of its crossing, or the refusal that the
 -- answer for it gives.
-use Rattle.std.specs.Prelude.{ℕ, false, List, length}
+use Rattle.std.specs.Prelude.{ℕ, false, List, length, Result, Ok, Err}
 use Rattle.numbers.specs.Column.{Column}
-use Rattle.refusals.specs.Outcome.{Outcome, done, refused, and_then}
+use Rattle.refusals.specs.declared.Refusal.{Refusal}
+use Rattle.refusals.specs.Outcome.{Outcome, done, refused, number, and_then}
 use Rattle.ranking.specs.Ranking.{loaded, listing}
 use Rattle.bands.specs.Bands.{band_on}
 use Rattle.panel_file.specs.File.{pads_of, readings_of}
 use Rattle.crossing.specs.Below.{Packed, solution_by}
 use Rattle.crossing.specs.Factors.{factors_in}
-use Rattle.season.specs.declared.Told.{Told}
-use Rattle.season.specs.declared.Told.TheVariants.{Crossing, Refused}
+use Rattle.season.specs.declared.Crossing.{Crossing}
 
 pub record Share : Type 0 where
   pub pads : ℕ
@@ -24,6 +24,6 @@ unfoldable pub telling : List ℕ → Outcome Share
 telling bytes = and_then (factors_in bytes) (λ f. and_then (solution_by false f (readings_of (pads_of bytes) bytes)) (λ x. done (share_of f x)))
 
 -- what each case of the answer stands for
-unfoldable pub share_told : Told → Outcome Share
-share_told (Crossing pads band) = done (record { pads = pads; band = band })
-share_told (Refused number) = refused number
+abbrev pub share_told : Result Crossing Refusal → Outcome Share
+share_told (Ok c) = done (record { pads = c.pads; band = c.band })
+share_told (Err refusal) = refused (number refusal)

@@ -1,25 +1,24 @@
 // A season's figures (document 02, request 13): panel files are handed over one at a time, and counted by what becomes of them.
 #![tactic(auto)]
 
-ghost use Rattle.std.specs.Prelude.{◌≡◌, ◌≤◌, true, false, [], length, ◌≢◌};
+ghost use Rattle.std.specs.Prelude.{◌≡◌, ◌≤◌, true, false, [], length};
 ghost use Rattle.finite.specs.Finite.{all_finite};
-ghost use Rattle.refusals.specs.Outcome.{done, refused, number_of, and_then};
+ghost use Rattle.refusals.specs.Outcome.{done, outcome, and_then};
 ghost use Rattle.ranking.specs.Ranking.{loaded, listing};
 ghost use Rattle.crossing.specs.Below.{packed_in, solution_in};
 ghost use Rattle.crossing.specs.Factors.{fronted};
 ghost use Rattle.season.specs.Telling.{share_of, telling, share_told};
 ghost use Rattle.season.specs.Season.{season_of, one_more_at, counted, handing, handed, counts_of, season_from};
 
-use crossing::Held;
 use factors::Record;
-use ranking::Listed;
-use refusals::Answer;
+use lu::Factored;
+use refusals::Refusal;
 
-// What a file brings to a season: the pads that are listed and the band of its crossing, or a refusal's number.
+// What an accepted file brings to a season: the pads that are listed, and the band of its crossing.
 #[derive(Clone, Copy)]
-enum Told {
-    Crossing { pads: usize, band: usize },
-    Refused(usize),
+struct Crossing {
+    pads: usize,
+    band: usize,
 }
 
 // How many of the n pads carry something.
@@ -28,83 +27,72 @@ fn listed(loads: &[f64], n: usize) -> usize
     ensures { result ≡ length (listing (loaded loads.now) loads.now n) }
 {
     let mut ranks = [0usize; 64];
-    match ranking::rank(loads, n, &mut ranks[..n]) {
-        Listed::Pads(count) => count,
-        Listed::Refused(_) => 0,
-    }
+    ranking::rank(loads, n, &mut ranks[..n]).unwrap_or(0)
 }
 
-// Solves for the readings, into loads, each in front of its store. Answers the refusal's number, 0 for none.
+// Solves for the readings, into loads, each in front of its store.
 fn solve_readings(
     matrix: &[f64],
     swaps: &[usize],
     told: Record,
     readings: &[f64],
     loads: &mut [f64],
-) -> usize
+) -> Result<(), Refusal>
     requires { (told.rows ≤ 64) × (length matrix.now ≡ 4096) × (length readings.now ≡ 64) × (length loads.old ≡ 64) }
-    ensures value { result ≡ number_of (solution_in false matrix.now swaps.now told readings.now) }
+    ensures value { outcome result ≡ and_then (solution_in false matrix.now swaps.now told readings.now) (λ _. done tt) }
     ensures loads_after { loads.new
         ≡ fronted told.rows (solution_in false matrix.now swaps.now told readings.now) loads.old }
 {
     let n = told.rows;
     let entries = n * n;
-    refusals::number_of(from_factors::solve(
+    from_factors::solve(
         &matrix[..entries],
         swaps,
         told,
         &readings[..n],
         1,
         &mut loads[..n],
-    ))
+    )
 }
 
 // What a crossing brings whose factors and readings stand in front of their stores.
-fn tell_crossing(matrix: &[f64], swaps: &[usize], told: Record, readings: &[f64]) -> Told
+fn tell_crossing(
+    matrix: &[f64],
+    swaps: &[usize],
+    told: Record,
+    readings: &[f64],
+) -> Result<Crossing, Refusal>
     requires { (1 ≤ told.rows) × (told.rows ≤ 64) × (length matrix.now ≡ 4096) × (length readings.now ≡ 64) }
     ensures { share_told result ≡ and_then (solution_in false matrix.now swaps.now told readings.now)
         (λ x. done (share_of (packed_in matrix.now swaps.now told) x)) }
 {
     let mut loads = [0.0f64; 64];
-    let number = solve_readings(matrix, swaps, told, readings, &mut loads);
-    if number != 0 {
-        return Told::Refused(number);
-    }
+    solve_readings(matrix, swaps, told, readings, &mut loads)?;
     let n = told.rows;
     let entries = n * n;
-    Told::Crossing {
+    Ok(Crossing {
         pads: listed(&loads[..n], n),
         band: bands::band(&matrix[..entries], n),
-    }
+    })
 }
 
 // What a file brings.
-fn tell(file: &[u8]) -> Told
+fn tell(file: &[u8]) -> Result<Crossing, Refusal>
     ensures { share_told result ≡ telling file.now }
 {
     let mut matrix = [0.0f64; 4096];
     let mut readings = [0.0f64; 64];
     let mut swaps = [0usize; 128];
-    match crossing::factor_file(file, &mut matrix, &mut readings, &mut swaps) {
-        Held::Factors { told, toss_ups: _ } => tell_crossing(&matrix, &swaps, told, &readings),
-        Held::Refused(number) => Told::Refused(number),
-    }
+    let Factored { told, toss_ups: _ } =
+        crossing::factor_file(file, &mut matrix, &mut readings, &mut swaps)?;
+    tell_crossing(&matrix, &swaps, told, &readings)
 }
 
 // One more at place i, where there is such a place.
-fn one_more_refused(mut a: [usize; 9], i: usize) -> [usize; 9]
+fn one_more<const N: usize>(mut a: [usize; N], i: usize) -> [usize; N]
     ensures { result ≡ one_more_at i a }
 {
-    if i < 9 {
-        a[i] = std::num::wrapping_add_usize(a[i], 1);
-    }
-    a
-}
-
-fn one_more_band(mut a: [usize; 5], i: usize) -> [usize; 5]
-    ensures { result ≡ one_more_at i a }
-{
-    if i < 5 {
+    if i < N {
         a[i] = std::num::wrapping_add_usize(a[i], 1);
     }
     a
@@ -118,13 +106,6 @@ pub struct Season {
     pub refused: [usize; 9],
     pub pads: usize,
     pub bands: [usize; 5],
-}
-
-// What handing over a file answers: that it was counted, or refusal 10, the season being full; and the season then, as it was where the file was refused.
-#[derive(Clone, Copy)]
-pub struct Handed {
-    pub answer: Answer,
-    pub season: Season,
 }
 
 impl Season {
@@ -141,46 +122,39 @@ impl Season {
         }
     }
 
-    // The season with a file that brought this; no refusal's number is 0.
-    fn counted(self, told: Told) -> Self
-        requires { share_told told ≢ refused 0 }
+    // The season with a file that brought this.
+    fn counted(self, told: Result<Crossing, Refusal>) -> Self
         ensures { result ≡ counted self (share_told told) }
     {
         let files = std::num::wrapping_add_usize(self.files, 1);
         let refused = self.refused;
         let bands = self.bands;
         match told {
-            Told::Crossing { pads, band } => Self {
+            Ok(Crossing { pads, band }) => Self {
                 files,
                 accepted: std::num::wrapping_add_usize(self.accepted, 1),
                 refused,
                 pads: std::num::wrapping_add_usize(self.pads, pads),
-                bands: one_more_band(bands, band),
+                bands: one_more(bands, band),
             },
-            Told::Refused(number) => Self {
+            Err(refusal) => Self {
                 files,
                 accepted: self.accepted,
-                refused: one_more_refused(refused, number - 1),
+                refused: one_more(refused, usize::from(refusal) - 1),
                 pads: self.pads,
                 bands,
             },
         }
     }
 
-    // One file more, where there are fewer than 4,000.
-    pub fn with_file(self, file: &[u8]) -> Handed
-        ensures { handed result ≡ handing self file.now }
+    // The season with one file more; refused where there are 4,000, and then the caller still holds the season before.
+    pub fn with_file(self, file: &[u8]) -> Result<Self, Refusal>
+        ensures { handed self result ≡ handing self file.now }
     {
         if self.files < 4000 {
-            let season = self.counted(tell(file));
-            return Handed {
-                answer: Answer::Done,
-                season,
-            };
-        }
-        Handed {
-            answer: Answer::Refused(10),
-            season: self,
+            Ok(self.counted(tell(file)))
+        } else {
+            Err(Refusal::SeasonFull)
         }
     }
 

@@ -5,8 +5,8 @@ ghost use Rattle.std.specs.Prelude.{◌≤◌, length};
 
 use cases::Case;
 use lines::{put_bar, put_whole, put_wholes};
-use refusals::Answer;
-use season::{Handed, Season};
+use refusals::Refusal;
+use season::Season;
 
 // Where a file ends that begins at a place and has so many bytes; at most the bytes' own end.
 fn end_of(bytes: &[u8], at: usize, count: usize) -> usize
@@ -19,22 +19,25 @@ fn end_of(bytes: &[u8], at: usize, count: usize) -> usize
     bytes.len()
 }
 
-// Hands the files with these lengths over to a season, the first first. Answers what the last one was answered.
-fn hand_over(lengths: &[usize], bytes: &[u8]) -> Handed {
-    let mut handed = Handed {
-        answer: Answer::Done,
-        season: Season::new(),
-    };
+// Hands the files with these lengths over to a season, the first first. Answers the season, and what the last one was answered.
+fn hand_over(lengths: &[usize], bytes: &[u8]) -> (Season, Result<(), Refusal>) {
+    let mut season = Season::new();
+    let mut last = Ok(());
     let mut at = 0;
     let mut k = 0;
     while k < lengths.len() {
         let end = end_of(bytes, at, lengths[k]);
-        let season = handed.season;
-        handed = season.with_file(&bytes[at..end]);
+        last = match season.with_file(&bytes[at..end]) {
+            Ok(after) => {
+                season = after;
+                Ok(())
+            }
+            Err(refusal) => Err(refusal),
+        };
         at = end;
         k += 1;
     }
-    handed
+    (season, last)
 }
 
 // Puts the sixteen counts, without the number of files behind them.
@@ -46,10 +49,8 @@ fn put_counts(text: &mut [u8], at: usize, counts: [usize; 17]) -> usize {
 pub fn run(text: &mut [u8], from: usize, case: Case, bytes: &[u8]) -> usize {
     let mut lengths = [0; cases::LIMIT];
     let n = cases::wholes(bytes, cases::SWAPS, case.swaps, &mut lengths);
-    let handed = hand_over(&lengths[..n], bytes);
-    let answer = handed.answer;
-    let season = handed.season;
-    let at = put_whole(text, from, refusals::number_of(answer));
+    let (season, last) = hand_over(&lengths[..n], bytes);
+    let at = put_whole(text, from, refusals::number_of(last));
     let bar = put_bar(text, at);
     put_counts(text, bar, season.counts())
 }
