@@ -58,6 +58,7 @@ fn test_appending(
 }
 
 // Appends the pair (i, i2) to a list for dimension d; two equal numbers add nothing. Answers how many pairs there are then.
+#[tactic(auto, using(crate::proofs::Appending::room))]
 pub fn append_permutation(
     swaps: &mut [usize],
     pairs: usize,
