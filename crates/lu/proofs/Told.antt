@@ -18,7 +18,7 @@ use Rattle.std.proofs.Common.{Result, Ok, Err}
 use Rattle.std.specs.Result.{IsErrAnd}
 use Rattle.refusals.specs.declared.Refusal.{Refusal}
 use Rattle.refusals.specs.declared.Refusal.TheVariants.{Overflow}
-use Rattle.refusals.specs.Outcome.{Outcome, done, refused, number, and_then, leaving}
+use Rattle.refusals.specs.Outcome.{Outcome, done, refused, number, leaving}
 use Rattle.refusals.specs.Refusals.{outside}
 use Rattle.refusals.proofs.Outcomes.{Numbered, first_none, none_first, never_0, handed_on, tested_none, tested_some}
 use Rattle.refusals.proofs.Tests.{neither, Inside, inside, not_outside}

@@ -84,6 +84,19 @@ never_0 NotAPanelFile e = omega (arith, e)
 never_0 DeadColumns e = omega (arith, e)
 never_0 SeasonFull e = omega (arith, e)
 
+-- the kinds that some calls tell apart
+pub only_overflow : (refusal : Refusal) → number refusal ≡ 7 → refusal ≡ Overflow
+only_overflow Size e = absurd (omega (arith, e))
+only_overflow NotSquare e = absurd (omega (arith, e))
+only_overflow Length e = absurd (omega (arith, e))
+only_overflow SwapList e = absurd (omega (arith, e))
+only_overflow NotFinite e = absurd (omega (arith, e))
+only_overflow Singular e = absurd (omega (arith, e))
+only_overflow Overflow e = refl
+only_overflow NotAPanelFile e = absurd (omega (arith, e))
+only_overflow DeadColumns e = absurd (omega (arith, e))
+only_overflow SeasonFull e = absurd (omega (arith, e))
+
 -- ---- a call whose promise is the answer and what its slices hold
 abbrev pub Promise : {A S : Type 0} → Call A S → Result A Refusal → S → Type 0
 Promise o r s = (outcome r ≡ o.answer) × (s ≡ o.left)

@@ -39,6 +39,7 @@ pub fn is_good_list(swaps: &[usize], pairs: usize, bound: usize, most: usize) ->
 }
 
 // Refuses to append (i, i2) to a list for dimension d, by the tests in their order.
+#[tactic(auto, unfolding(crate::specs::Appending::appending_refusal, refusals::specs::Outcome::first_holding))]
 fn test_appending(
     swaps: &[usize],
     pairs: usize,

@@ -1,27 +1,18 @@
--- Case by case. Assumes nothing.
-use Rattle.ffi.proofs.Told.{factored_told, not_factored}
+-- The call's answer, told. Assumes nothing.
+use mathlib.Core.Path.{ap, ◌∙◌}
+use Rattle.refusals.specs.Outcome.{number_of}
+use Rattle.lu.specs.Factoring.{pairs_in, dead_columns_in, tossed_in}
 use Rattle.ffi.proofs.wejdarox_factor.Goals as goal
 
-pub returns-in-Accepted : goal.returns-in-Accepted
-returns-in-Accepted c =
-    let o = factored_told _ _ c.factor.ensures.result_value _ _ c.in-Accepted.is in
+pub returns : goal.returns
+returns c =
+    let told = c.tell_factored.ensures in
+    let answer = c.factor.ensures.result_value in
     record {
-      value = o.0;
+      value = told.value ∙ ap number_of answer;
       factors_after = c.factor.ensures.out_after;
       swaps_after = c.factor.ensures.swaps_after;
-      pairs_after = o.1.0;
-      dead_after = o.1.1.0;
-      toss_ups_after = o.1.1.1;
-    }
-
-pub returns-in-Refused : goal.returns-in-Refused
-returns-in-Refused c =
-    let o = not_factored _ _ c.factor.ensures.result_value _ c.in-Refused.is in
-    record {
-      value = o.0;
-      factors_after = c.factor.ensures.out_after;
-      swaps_after = c.factor.ensures.swaps_after;
-      pairs_after = o.1.0;
-      dead_after = o.1.1.0;
-      toss_ups_after = o.1.1.1;
+      pairs_after = told.pairs_after ∙ ap pairs_in answer;
+      dead_after = told.dead_after ∙ ap dead_columns_in answer;
+      toss_ups_after = told.toss_ups_after ∙ ap tossed_in answer;
     }
