@@ -32,12 +32,8 @@ pub struct Asks {
 
 // Refuses what every call on factors refuses: the factors, the swap store and the record tested together, in the order of the numbers but for 9, which
 // comes before 6.
-pub fn test_held(
-    factors: &[f64],
-    swaps: &[usize],
-    told: Record,
-    asks: Asks,
-) -> Result<(), Refusal>
+#[tactic(auto, unfolding(crate::specs::Held::held_refusal, refusals::specs::Outcome::first_holding))]
+pub fn test_held(factors: &[f64], swaps: &[usize], told: Record, asks: Asks) -> Result<(), Refusal>
     ensures { number_of (outcome result) ≡ held_refusal factors.now swaps.now told asks }
 {
     let m = told.rows;

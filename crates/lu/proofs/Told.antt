@@ -14,16 +14,19 @@ use Rattle.store.specs.Columns.{columns, flat, is_matrix}
 use Rattle.store.proofs.Columns.{flat_columns, sized, same_matrix}
 use Rattle.dead_columns.specs.Dead.{dead_in, dead_of}
 use Rattle.dead_columns.proofs.Dead.{held_dead}
-use Rattle.refusals.specs.Outcome.{Outcome, done, refused, and_then, leaving}
+use Rattle.std.proofs.Common.{Result, Ok, Err}
+use Rattle.std.specs.Result.{IsErrAnd}
+use Rattle.refusals.specs.declared.Refusal.{Refusal}
+use Rattle.refusals.specs.declared.Refusal.TheVariants.{Overflow}
+use Rattle.refusals.specs.Outcome.{Outcome, done, refused, number, leaving}
 use Rattle.refusals.specs.Refusals.{outside}
-use Rattle.refusals.proofs.Outcomes.{Numbered, first_none, none_first, tested_none, tested_some}
+use Rattle.refusals.proofs.Outcomes.{Numbered, first_none, none_first, never_0, handed_on, tested_none, tested_some}
 use Rattle.refusals.proofs.Tests.{neither, Inside, inside, not_outside}
 use Rattle.factors.specs.declared.Record.{Record}
 use Rattle.factors.specs.Factors.{Factors, numbers_of, store_of, record_of, slices}
 use Rattle.elimination.specs.Elimination.{eliminate}
 use Rattle.elimination.specs.TossUps.{toss_ups}
 use Rattle.lu.specs.declared.Factored.{Factored}
-use Rattle.lu.specs.declared.Factored.TheVariants.{Accepted, Refused}
 use Rattle.lu.specs.Factoring.{factoring_tests, factoring_refusal, factoring, settled, factored, with_toss_ups, factoring_answer}
 use Rattle.lu.specs.Inner.{Held, Settled}
 
@@ -92,23 +95,22 @@ module _ (m n : ℕ) (a out : Column) (store : List ℕ) where
   worked none = tested_none _ _ _ none
 
   -- the promise of the call: its answer, the factors and the swap store
-  abbrev pub Promise : Factored → Column → List ℕ → Type 0
+  abbrev pub Promise : Result Factored Refusal → Column → List ℕ → Type 0
   Promise r f s =
       (factored r ≡ factoring_answer a m n out store) × ((f ≡ (factoring a m n out store).left.factors) × (s ≡ (factoring a m n out store).left.store))
 
-  pub promise_refused : (number : ℕ) → number ≡ factoring_refusal a m n out store → (number ≡ 0 → ⊥) → Promise (Refused number) out store
+  pub promise_refused : (r : Refusal) (answer : Result Factored Refusal) → number r ≡ factoring_refusal a m n out store → IsErrAnd answer (λ e. e ≡ r)
+      → Promise answer out store
   unfolding factoring factoring_answer with_toss_ups
-  promise_refused number e ne =
-      rw (tested_some _ (leaving (slices out store)) (settled m n (eliminate m (columns m n a))) (λ z. ne (e ∙ z))) (ap refused e, (refl, refl))
+  promise_refused r answer e h =
+      rw (handed_on r answer h, tested_some _ (leaving (slices out store)) (settled m n (eliminate m (columns m n a))) (λ z. never_0 r (e ∙ z)))
+      (ap refused e, (refl, refl))
 
   -- past the tests, from what the elimination settled on
-  pub promise_settled : (number : ℕ) (s : Column) (r : Factored) (s' : Column) (store' : List ℕ) → number ≡ factoring_refusal a m n out store → number ≡ 0
-      → s ≡ a
+  pub promise_settled : (s : Column) (r : Result Factored Refusal) (s' : Column) (store' : List ℕ) → 0 ≡ factoring_refusal a m n out store → s ≡ a
       → Settled s m n r s' store' → Promise r s' store'
   unfolding factoring_answer
-  promise_settled number s r s' store' is none same made =
-      let w = worked (sym is ∙ none) in
-      rw (w, ← same) (made.answer, (made.factors, made.store))
+  promise_settled s r s' store' none same made = let w = worked (sym none) in rw (w, ← same) (made.answer, (made.factors, made.store))
 
 -- ---- the elimination, settled: s held the matrix, t holds its factors
 module _ (m n : ℕ) (s t : Column) (store : List ℕ) (pairs : ℕ) (h : Held t m n store pairs (eliminate m (columns m n s))) where
@@ -125,7 +127,7 @@ module _ (m n : ℕ) (s t : Column) (store : List ℕ) (pairs : ℕ) (h : Held t
       held_dead m n t (same_matrix m n s t long ∙ fits) ∙ ap (dead_in m) h.is_columns
 
   pub settled_accepted : (tossed dead : ℕ) → tossed ≡ toss_ups m (columns m n s) → dead ≡ dead_of t m n → is_matrix s m n ≡ true → all_finite t ≡ true
-      → Settled s m n (Accepted (record_of m n pairs dead) tossed) t store
+      → Settled s m n (Ok (record { told = record_of m n pairs dead; toss_ups = tossed })) t store
   unfolding settled with_toss_ups
   settled_accepted tossed dead counted died fits e =
       let all : all_finite (flat f.columns) ≡ true = ap all_finite (sym whole) ∙ e in
@@ -136,7 +138,7 @@ module _ (m n : ℕ) (s t : Column) (store : List ℕ) (pairs : ℕ) (h : Held t
       }
 
   pub settled_overflow : (zeroed : Column) (cleared : List ℕ) → all_finite t ≡ false → zeroed ≡ zeros (length t) → cleared ≡ replicate (length store) 0
-      → length store ≡ 128 → Settled s m n (Refused 7) zeroed cleared
+      → length store ≡ 128 → Settled s m n (Err Overflow) zeroed cleared
   unfolding settled with_toss_ups store_of numbers_of
   settled_overflow zeroed cleared e z c len =
       let all : all_finite (flat f.columns) ≡ false = ap all_finite (sym whole) ∙ e in

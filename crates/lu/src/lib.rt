@@ -32,6 +32,7 @@ struct Counts {
 }
 
 // Refuses what factoring refuses before the work, by the tests in their order.
+#[tactic(auto, unfolding(crate::specs::Factoring::factoring_refusal, refusals::specs::Outcome::first_holding))]
 pub fn test_factoring(
     a: &[f64],
     m: usize,
@@ -190,7 +191,12 @@ fn factor_in_place(s: &mut [f64], m: usize, n: usize, swaps: &mut [usize]) -> Co
 }
 
 // Factors the m by n matrix in s where it lies, past the tests.
-fn factor_tested(s: &mut [f64], m: usize, n: usize, swaps: &mut [usize]) -> Result<Factored, Refusal>
+fn factor_tested(
+    s: &mut [f64],
+    m: usize,
+    n: usize,
+    swaps: &mut [usize],
+) -> Result<Factored, Refusal>
     requires { (is_matrix s.old m n ≡ true) × (length swaps.old ≡ 128) }
     ensures { Settled s.old m n result s.new swaps.new }
 {
@@ -214,7 +220,13 @@ fn factor_tested(s: &mut [f64], m: usize, n: usize, swaps: &mut [usize]) -> Resu
 }
 
 // Factors the m by n matrix a into out, and records the swaps.
-pub fn factor(a: &[f64], m: usize, n: usize, out: &mut [f64], swaps: &mut [usize]) -> Result<Factored, Refusal>
+pub fn factor(
+    a: &[f64],
+    m: usize,
+    n: usize,
+    out: &mut [f64],
+    swaps: &mut [usize],
+) -> Result<Factored, Refusal>
     ensures result_value { factored result ≡ factoring_answer a.now m n out.old swaps.old }
     ensures out_after { out.new ≡ (factoring a.now m n out.old swaps.old).left.factors }
     ensures swaps_after { swaps.new ≡ (factoring a.now m n out.old swaps.old).left.store }
@@ -225,7 +237,12 @@ pub fn factor(a: &[f64], m: usize, n: usize, out: &mut [f64], swaps: &mut [usize
 }
 
 // The same where the matrix lies: its slice is read as the matrix and holds the factors afterwards.
-pub fn factor_mut(s: &mut [f64], m: usize, n: usize, swaps: &mut [usize]) -> Result<Factored, Refusal>
+pub fn factor_mut(
+    s: &mut [f64],
+    m: usize,
+    n: usize,
+    swaps: &mut [usize],
+) -> Result<Factored, Refusal>
     ensures result_value { factored result ≡ factoring_answer s.old m n s.old swaps.old }
     ensures s_after { s.new ≡ (factoring s.old m n s.old swaps.old).left.factors }
     ensures swaps_after { swaps.new ≡ (factoring s.old m n s.old swaps.old).left.store }

@@ -12,15 +12,17 @@ use Rattle.numbers.specs.Column.{Column}
 use Rattle.finite.specs.Finite.{all_finite}
 use Rattle.numbers.proofs.Each.{each_each, each_id}
 use Rattle.blas.proofs.Exchange.{exchanged_twice}
-use Rattle.refusals.specs.Outcome.{done, refused, number_of, Call, leaving, outcome}
-use Rattle.refusals.specs.declared.Answer.TheVariants.{Done, Refused}
+use Rattle.std.proofs.Common.{Result, Ok}
+use Rattle.std.specs.Result.{IsErrAnd}
+use Rattle.refusals.specs.declared.Refusal.{Refusal}
+use Rattle.refusals.specs.Outcome.{done, number, number_of, Call, leaving}
 use Rattle.store.specs.Columns.{flat, on_columns}
 use Rattle.store.specs.Steps.{Matrix, swap_in_all}
 use Rattle.store.proofs.Columns.{same_matrix}
 use Rattle.swap_list.specs.SwapList.{Swaps, pairs_of, good_list}
 use Rattle.exchanges.specs.Permute.{permuted_by, exchange_of, in_order, exchanges_on}
 use Rattle.permutation_sequence.specs.Calls.{permuting_refusal, permuting, permuting_rows, permuting_columns}
-use Rattle.refusals.proofs.Outcomes.{first_none, tested_none, tested_some, none_given, Promise, promise_refused}
+use Rattle.refusals.proofs.Outcomes.{first_none, tested_none, none_given, Promise, promise_refused, promise_made}
 use Rattle.swap_list.proofs.SwapList.{pairs_same, held_good, good_unread}
 use Rattle.exchanges.proofs.Permute.{permuted_keeps, permuted_back}
 use Rattle.exchanges.proofs.OnColumns.{Shape, exchange_keeps, length_on, on_nothing, on_on}
@@ -28,11 +30,10 @@ use Rattle.exchanges.proofs.Finite.{exchange_finite, finite_on}
 
 -- ---- the call, by its refusal
 module _ (exchange : ℕ → ℕ → Matrix → Matrix) (bound : ℕ) (backwards : Bool) (m n pairs : ℕ) (store : List ℕ) (s : Column) where
-  pub permuting_refused : (number : ℕ) → number ≡ permuting_refusal s m n store pairs bound → (number ≡ 0 → ⊥)
-      → Promise (permuting exchange bound backwards s m n store pairs) (Refused number) s
+  pub permuting_refused : (r : Refusal) (answer : Result (Unit {0}) Refusal) → number r ≡ permuting_refusal s m n store pairs bound
+      → IsErrAnd answer (λ e. e ≡ r) → Promise (permuting exchange bound backwards s m n store pairs) answer s
   unfolding permuting
-  permuting_refused number e g =
-      promise_refused (permuting_refusal s m n store pairs bound) number s _ (Refused number) e g (sym (tested_some number refused (done tt) g))
+  permuting_refused = promise_refused (permuting_refusal s m n store pairs bound) s _
 
   -- a list that is not refused is good
   good_permuted : permuting_refusal s m n store pairs bound ≡ 0 → good_list store pairs bound 64 ≡ true
@@ -45,14 +46,13 @@ module _ (exchange : ℕ → ℕ → Matrix → Matrix) (bound : ℕ) (backwards
   unfolding permuting
   accepted e = tested_none (permuting_refusal s m n store pairs bound) (leaving s) _ e
 
-  pub permuting_done : (t : Column) → permuting_refusal s m n store pairs bound ≡ 0 → t ≡ exchanges_on exchange backwards s m n store pairs
-      → Promise (permuting exchange bound backwards s m n store pairs) Done t
-  permuting_done t e made =
-      rw (accepted e) (
-        refl,
-        made ∙ ap (λ (swaps : Swaps). on_columns m n (permuted_by exchange (in_order backwards swaps)) s)
-            (held_good bound 64 pairs store (good_permuted e)),
-      )
+  pub permuting_done : (t : Column) → 0 ≡ permuting_refusal s m n store pairs bound → t ≡ exchanges_on exchange backwards s m n store pairs
+      → Promise (permuting exchange bound backwards s m n store pairs) (Ok tt) t
+  unfolding permuting
+  permuting_done t none made =
+      let good = held_good bound 64 pairs store (good_permuted (sym none)) in
+      let same = ap (λ (swaps : Swaps). on_columns m n (permuted_by exchange (in_order backwards swaps)) s) good in
+      promise_made (permuting_refusal s m n store pairs bound) s _ (Ok tt) t none refl (made ∙ same)
 
   not_refused : number_of (permuting exchange bound backwards s m n store pairs).answer ≡ 0 → permuting_refusal s m n store pairs bound ≡ 0
   unfolding permuting

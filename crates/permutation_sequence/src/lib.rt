@@ -16,6 +16,7 @@ pub fn determinant(pairs: usize) -> f64
 }
 
 // Refuses what permuting refuses, by the tests in their order; the bound is the row count, for columns the column count.
+#[tactic(auto, unfolding(crate::specs::Calls::permuting_refusal, refusals::specs::Outcome::first_holding))]
 pub fn test_permuting(
     s: &[f64],
     m: usize,
@@ -31,7 +32,10 @@ pub fn test_permuting(
     refusals::first_of(&[
         (Refusal::Size, sizes),
         (Refusal::Length, !lengths),
-        (Refusal::SwapList, !swap_list::is_good_list(swaps, pairs, bound, 64)),
+        (
+            Refusal::SwapList,
+            !swap_list::is_good_list(swaps, pairs, bound, 64),
+        ),
         (Refusal::NotFinite, !finite::all_finite(s)),
     ])
 }
@@ -56,7 +60,13 @@ fn permute_or_refuse(
 }
 
 // Applies the list to the rows of s, first pair first.
-pub fn permute_rows(s: &mut [f64], m: usize, n: usize, swaps: &[usize], pairs: usize) -> Result<(), Refusal>
+pub fn permute_rows(
+    s: &mut [f64],
+    m: usize,
+    n: usize,
+    swaps: &[usize],
+    pairs: usize,
+) -> Result<(), Refusal>
     ensures result_value { outcome result ≡ (permuting_rows false s.old m n swaps.now pairs).answer }
     ensures s_after { s.new ≡ (permuting_rows false s.old m n swaps.now pairs).left }
 {
@@ -64,7 +74,13 @@ pub fn permute_rows(s: &mut [f64], m: usize, n: usize, swaps: &[usize], pairs: u
 }
 
 // Applies the list in reverse to the rows of s, last pair first.
-pub fn inv_permute_rows(s: &mut [f64], m: usize, n: usize, swaps: &[usize], pairs: usize) -> Result<(), Refusal>
+pub fn inv_permute_rows(
+    s: &mut [f64],
+    m: usize,
+    n: usize,
+    swaps: &[usize],
+    pairs: usize,
+) -> Result<(), Refusal>
     ensures result_value { outcome result ≡ (permuting_rows true s.old m n swaps.now pairs).answer }
     ensures s_after { s.new ≡ (permuting_rows true s.old m n swaps.now pairs).left }
 {
@@ -72,7 +88,13 @@ pub fn inv_permute_rows(s: &mut [f64], m: usize, n: usize, swaps: &[usize], pair
 }
 
 // Applies the list to the columns of s, first pair first.
-pub fn permute_columns(s: &mut [f64], m: usize, n: usize, swaps: &[usize], pairs: usize) -> Result<(), Refusal>
+pub fn permute_columns(
+    s: &mut [f64],
+    m: usize,
+    n: usize,
+    swaps: &[usize],
+    pairs: usize,
+) -> Result<(), Refusal>
     ensures result_value { outcome result ≡ (permuting_columns false s.old m n swaps.now pairs).answer }
     ensures s_after { s.new ≡ (permuting_columns false s.old m n swaps.now pairs).left }
 {

@@ -40,6 +40,7 @@ impl From<Refusal> for usize {
 }
 
 // Whether a size lies outside `least` to 64.
+#[tactic(auto, unfolding(crate::specs::Refusals::outside))]
 pub fn outside(least: usize, size: usize) -> bool
     ensures { result ≡ outside least size }
 {
@@ -62,6 +63,7 @@ pub fn first_of(tests: &[(Refusal, bool)]) -> Result<(), Refusal>
 }
 
 // Refusal 7: where some result is not finite, all results become +0.0.
+#[tactic(auto, unfolding(crate::specs::Refusals::seventh))]
 pub fn settle(res: &mut [f64]) -> Result<(), Refusal>
     ensures value { outcome result ≡ (seventh res.old).answer }
     ensures res_after { res.new ≡ (seventh res.old).left }

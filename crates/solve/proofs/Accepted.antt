@@ -1,4 +1,4 @@
--- What a call's refusal number says: with none, the three slices are matrices of the call's sizes and the work is done on a copy of the
+-- What a call's tests say: with no refusal, the three slices are matrices of the call's sizes and the work is done on a copy of the
 -- right-hand sides; with one, the result's slice stays. By the tests in turn. Assumes nothing.
 use mathlib.Core.Path.{◌≡◌, sym, ap, ◌∙◌}
 use mathlib.Core.Bool.{true, ◌&&◌}
@@ -12,10 +12,12 @@ use Rattle.numbers.proofs.Choice.{and_first, and_second}
 use Rattle.blas.proofs.Rows.{copied_whole}
 use Rattle.store.specs.Columns.{is_matrix}
 use Rattle.store.proofs.Columns.{sized}
-use Rattle.refusals.specs.declared.Answer.{Answer}
-use Rattle.refusals.specs.Outcome.{done, refused, number_of, tested, leaving, outcome}
+use Rattle.std.proofs.Common.{Result}
+use Rattle.std.specs.Result.{IsErrAnd}
+use Rattle.refusals.specs.declared.Refusal.{Refusal}
+use Rattle.refusals.specs.Outcome.{outcome, number, leaving}
 use Rattle.refusals.specs.Refusals.{seventh}
-use Rattle.refusals.proofs.Outcomes.{first_none, tested_none, Promise, promise_refused, seventh_answer}
+use Rattle.refusals.proofs.Outcomes.{first_none, tested_none, Promise, promise_refused}
 use Rattle.triangular_passes.specs.declared.Pass.{Pass}
 use Rattle.triangular_passes.specs.Triangular.{solved_in_place}
 use Rattle.solve.specs.Calls.{lengths_fit, refusal_of, solving}
@@ -39,10 +41,10 @@ module _ (pass : Pass) (n k : ℕ) (t b x : Column) where
       }
 
   -- a call that its tests refuse
-  pub refused_by : (number : ℕ) (r : Answer) → number ≡ refusal_of pass t n b k x → (number ≡ 0 → ⊥) → outcome r ≡ tested number refused (done tt)
-      → Promise (solving pass t n b k x) r x
+  pub refused_by : (r : Refusal) (answer : Result (Unit {0}) Refusal) → number r ≡ refusal_of pass t n b k x → IsErrAnd answer (λ e. e ≡ r)
+      → Promise (solving pass t n b k x) answer x
   unfolding solving
-  refused_by number r e some a = promise_refused (refusal_of pass t n b k x) number x _ r e some a
+  refused_by = promise_refused (refusal_of pass t n b k x) x _
 
   -- and one that they do not
   pub accepted : refusal_of pass t n b k x ≡ 0 → solving pass t n b k x ≡ seventh (solved_in_place pass t n b k)
@@ -50,12 +52,10 @@ module _ (pass : Pass) (n k : ℕ) (t b x : Column) where
   accepted e = tested_none (refusal_of pass t n b k x) (leaving x) _ e
 
   -- the right-hand sides were copied to the result's slice, solved there and settled
-  pub worked : (number : ℕ) (c s y : Column) (seven : ℕ) (r : Answer) → number ≡ refusal_of pass t n b k x → number ≡ 0
-      → c ≡ copied b x → s ≡ solved_in_place pass t n c k → (seven ≡ number_of (seventh s).answer) × (y ≡ (seventh s).left)
-      → outcome r ≡ tested seven refused (done tt) → Promise (solving pass t n b k x) r y
-  worked number c s y seven r e none copy made settled a =
-      let ok = sym e ∙ none in
-      let p = fit ok in
+  pub worked : (c s y : Column) (r : Result (Unit {0}) Refusal) → 0 ≡ refusal_of pass t n b k x → c ≡ copied b x → s ≡ solved_in_place pass t n c k
+      → outcome r ≡ (seventh s).answer → y ≡ (seventh s).left → Promise (solving pass t n b k x) r y
+  worked c s y r none copy made answer left =
+      let p = fit (sym none) in
       let fits : length b ≡ length x = (sized n k b p.sides).size ∙ sym (sized n k x p.room).size in
-      rw (accepted ok ∙ ap seventh (ap (λ (c : Column). solved_in_place pass t n c k) (sym (copy ∙ copied_whole b x fits)) ∙ sym made))
-      (a ∙ seventh_answer s seven settled.0, settled.1)
+      let is : s ≡ solved_in_place pass t n b k = made ∙ ap (λ (c : Column). solved_in_place pass t n c k) (copy ∙ copied_whole b x fits) in
+      rw (accepted (sym none), ← is) (answer, left)

@@ -74,7 +74,15 @@ fn numbers_finite(pass: Pass, t: &[f64], b: &[f64]) -> bool
 }
 
 // Refuses what the solves refuse before the work, by the tests in their order.
-fn test_solving(pass: Pass, t: &[f64], n: usize, b: &[f64], k: usize, x: &[f64]) -> Result<(), Refusal>
+#[tactic(auto, unfolding(crate::specs::Calls::refusal_of, refusals::specs::Outcome::first_holding))]
+fn test_solving(
+    pass: Pass,
+    t: &[f64],
+    n: usize,
+    b: &[f64],
+    k: usize,
+    x: &[f64],
+) -> Result<(), Refusal>
     ensures { number_of (outcome result) ≡ refusal_of pass t.now n b.now k x.now }
 {
     refusals::first_of(&[
@@ -86,7 +94,14 @@ fn test_solving(pass: Pass, t: &[f64], n: usize, b: &[f64], k: usize, x: &[f64])
 }
 
 // Solves by the n by n matrix t for the k right-hand columns b, into x.
-fn solve_by(pass: Pass, t: &[f64], n: usize, b: &[f64], k: usize, x: &mut [f64]) -> Result<(), Refusal>
+fn solve_by(
+    pass: Pass,
+    t: &[f64],
+    n: usize,
+    b: &[f64],
+    k: usize,
+    x: &mut [f64],
+) -> Result<(), Refusal>
     ensures result_value { outcome result ≡ (solving pass t.now n b.now k x.old).answer }
     ensures x_after { x.new ≡ (solving pass t.now n b.now k x.old).left }
 {
@@ -97,7 +112,13 @@ fn solve_by(pass: Pass, t: &[f64], n: usize, b: &[f64], k: usize, x: &mut [f64])
 }
 
 // The lower triangle of t, by its own diagonal.
-pub fn solve_lower_triangular(t: &[f64], n: usize, b: &[f64], k: usize, x: &mut [f64]) -> Result<(), Refusal>
+pub fn solve_lower_triangular(
+    t: &[f64],
+    n: usize,
+    b: &[f64],
+    k: usize,
+    x: &mut [f64],
+) -> Result<(), Refusal>
     ensures result_value { outcome result ≡ (solving Pass.Lower t.now n b.now k x.old).answer }
     ensures x_after { x.new ≡ (solving Pass.Lower t.now n b.now k x.old).left }
 {
@@ -105,7 +126,13 @@ pub fn solve_lower_triangular(t: &[f64], n: usize, b: &[f64], k: usize, x: &mut 
 }
 
 // The upper triangle of t, by its own diagonal.
-pub fn solve_upper_triangular(t: &[f64], n: usize, b: &[f64], k: usize, x: &mut [f64]) -> Result<(), Refusal>
+pub fn solve_upper_triangular(
+    t: &[f64],
+    n: usize,
+    b: &[f64],
+    k: usize,
+    x: &mut [f64],
+) -> Result<(), Refusal>
     ensures result_value { outcome result ≡ (solving Pass.Upper t.now n b.now k x.old).answer }
     ensures x_after { x.new ≡ (solving Pass.Upper t.now n b.now k x.old).left }
 {
@@ -143,7 +170,13 @@ pub fn solve_lower_triangular_with_diag_corrected(
 }
 
 // The lower triangle of t, transposed.
-pub fn tr_solve_lower_triangular(t: &[f64], n: usize, b: &[f64], k: usize, x: &mut [f64]) -> Result<(), Refusal>
+pub fn tr_solve_lower_triangular(
+    t: &[f64],
+    n: usize,
+    b: &[f64],
+    k: usize,
+    x: &mut [f64],
+) -> Result<(), Refusal>
     ensures result_value { outcome result ≡ (solving Pass.TransposedLower t.now n b.now k x.old).answer }
     ensures x_after { x.new ≡ (solving Pass.TransposedLower t.now n b.now k x.old).left }
 {
@@ -151,7 +184,13 @@ pub fn tr_solve_lower_triangular(t: &[f64], n: usize, b: &[f64], k: usize, x: &m
 }
 
 // The upper triangle of t, transposed.
-pub fn tr_solve_upper_triangular(t: &[f64], n: usize, b: &[f64], k: usize, x: &mut [f64]) -> Result<(), Refusal>
+pub fn tr_solve_upper_triangular(
+    t: &[f64],
+    n: usize,
+    b: &[f64],
+    k: usize,
+    x: &mut [f64],
+) -> Result<(), Refusal>
     ensures result_value { outcome result ≡ (solving Pass.TransposedUpper t.now n b.now k x.old).answer }
     ensures x_after { x.new ≡ (solving Pass.TransposedUpper t.now n b.now k x.old).left }
 {

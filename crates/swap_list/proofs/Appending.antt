@@ -10,7 +10,7 @@ use borrow.Author.Tests.{leb-false, eqb-true, eqb-false, eq-eqb, ne_eqb, lt-ltb,
 use lib.Dec.{leb, eqb}
 use lib.ListN.{length, get_or}
 use Rattle.numbers.proofs.Choice.{test_cases, cond_map}
-use Rattle.std.proofs.Common.{Result, Ok, Err}
+use Rattle.std.proofs.Common.{Result, Ok}
 use Rattle.std.specs.Result.{IsErrAnd}
 use Rattle.refusals.specs.declared.Refusal.{Refusal}
 use Rattle.refusals.specs.Outcome.{done, refused, number, number_of, tested, Call, leaving}

@@ -39,6 +39,7 @@ pub fn is_good_list(swaps: &[usize], pairs: usize, bound: usize, most: usize) ->
 }
 
 // Refuses to append (i, i2) to a list for dimension d, by the tests in their order.
+#[tactic(auto, unfolding(crate::specs::Appending::appending_refusal, refusals::specs::Outcome::first_holding))]
 fn test_appending(
     swaps: &[usize],
     pairs: usize,
@@ -58,6 +59,7 @@ fn test_appending(
 }
 
 // Appends the pair (i, i2) to a list for dimension d; two equal numbers add nothing. Answers how many pairs there are then.
+#[tactic(auto, using(crate::proofs::Appending::room))]
 pub fn append_permutation(
     swaps: &mut [usize],
     pairs: usize,

@@ -16,29 +16,8 @@ returns-then-i-i2 c =
     let whole = outcome_same _ _ _ _ _ (sym c.in_ok-test_appending.ensures) c.if-i-i2.true in
     record { result_value = whole.0; count_left = whole.1.0; swaps_after = whole.1.1 }
 
-pub overflow_mul-swaps : goal.overflow_mul-swaps
-overflow_mul-swaps c = omega (arith, room _ _ _ _ _ (sym c.in_ok-test_appending.ensures) c.if-i-i2.false)
-
-pub offset_bounds-swaps-pairs : goal.offset_bounds-swaps-pairs
-offset_bounds-swaps-pairs c = omega (arith, room _ _ _ _ _ (sym c.in_ok-test_appending.ensures) c.if-i-i2.false)
-
-pub bounds-swaps-pairs : goal.bounds-swaps-pairs
-bounds-swaps-pairs c = omega (arith, room _ _ _ _ _ (sym c.in_ok-test_appending.ensures) c.if-i-i2.false)
-
-pub overflow_mul-swaps-2 : goal.overflow_mul-swaps-2
-overflow_mul-swaps-2 c = omega (arith, room _ _ _ _ _ (sym c.in_ok-test_appending.ensures) c.if-i-i2.false)
-
-pub overflow_add-swaps : goal.overflow_add-swaps
-overflow_add-swaps c = omega (arith, room _ _ _ _ _ (sym c.in_ok-test_appending.ensures) c.if-i-i2.false)
-
-pub offset_bounds-swaps-pairs-2 : goal.offset_bounds-swaps-pairs-2
-offset_bounds-swaps-pairs-2 c = omega (arith, room _ _ _ _ _ (sym c.in_ok-test_appending.ensures) c.if-i-i2.false)
-
 pub bounds-swaps-pairs-2 : goal.bounds-swaps-pairs-2
 bounds-swaps-pairs-2 c = simp length-set (omega (arith, room _ _ _ _ _ (sym c.in_ok-test_appending.ensures) c.if-i-i2.false))
-
-pub overflow_add-result : goal.overflow_add-result
-overflow_add-result c = omega (arith, room _ _ _ _ _ (sym c.in_ok-test_appending.ensures) c.if-i-i2.false)
 
 pub returns : goal.returns
 unfolding with_pair

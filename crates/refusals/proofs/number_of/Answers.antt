@@ -1,8 +1,0 @@
--- Case by case. Assumes nothing.
-use Rattle.refusals.proofs.number_of.Goals as goal
-
-pub returns-in-Ok : goal.returns-in-Ok
-returns-in-Ok c = rw c.in-Ok.is
-
-pub returns-in-Err : goal.returns-in-Err
-returns-in-Err c = rw c.in-Err.is c.from.ensures
