@@ -11,7 +11,13 @@ use lu::Factored;
 use refusals::Refusal;
 
 // Adds the columns of the m by n matrix a one by one, from none on. Answers the last record, or refusal 7 where a column is refused.
-fn add_all(a: &[f64], m: usize, n: usize, out: &mut [f64], swaps: &mut [usize]) -> Result<Factored, Refusal>
+fn add_all(
+    a: &[f64],
+    m: usize,
+    n: usize,
+    out: &mut [f64],
+    swaps: &mut [usize],
+) -> Result<Factored, Refusal>
     requires swaps_value { factoring_refusal a.now m n out.old swaps.old ≡ 0 }
     requires swaps_value_2 { swaps.old ≡ store_of [] }
     ensures { AllAdded a.now m n result out.new swaps.new }
@@ -41,7 +47,13 @@ fn add_all(a: &[f64], m: usize, n: usize, out: &mut [f64], swaps: &mut [usize]) 
 }
 
 // Factors the m by n matrix a into out by adding its columns one by one: the same outcome as `factor`, on every input.
-pub fn build_up(a: &[f64], m: usize, n: usize, out: &mut [f64], swaps: &mut [usize]) -> Result<Factored, Refusal>
+pub fn build_up(
+    a: &[f64],
+    m: usize,
+    n: usize,
+    out: &mut [f64],
+    swaps: &mut [usize],
+) -> Result<Factored, Refusal>
     ensures result_value { factored result ≡ factoring_answer a.now m n out.old swaps.old }
     ensures out_after { out.new ≡ (factoring a.now m n out.old swaps.old).left.factors }
     ensures swaps_after { swaps.new ≡ (factoring a.now m n out.old swaps.old).left.store }

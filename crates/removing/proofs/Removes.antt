@@ -16,8 +16,11 @@ use Rattle.store.specs.Steps.{Matrix, swap_in_all, rows_swapped}
 use Rattle.store.proofs.Columns.{sized, column_within, same_matrix, length_columns, column_length, flat_columns, flat_snoc}
 use Rattle.dead_columns.specs.Dead.{dead_at, dead_in}
 use Rattle.dead_columns.proofs.Dead.{dead_snoc, dead_swapped}
-use Rattle.refusals.specs.Outcome.{done, refused, first_holding, leaving, outcome}
-use Rattle.refusals.proofs.Outcomes.{tested_none, tested_some}
+use Rattle.std.proofs.Common.{Result, Ok}
+use Rattle.std.specs.Result.{IsErrAnd}
+use Rattle.refusals.specs.declared.Refusal.{Refusal}
+use Rattle.refusals.specs.Outcome.{done, refused, number, first_holding, leaving}
+use Rattle.refusals.proofs.Outcomes.{tested_none, tested_some, never_0, handed_on}
 use Rattle.swap_list.specs.SwapList.{Swaps, pairs_of, with_pair, good_list}
 use Rattle.swap_list.proofs.SwapList.{length_pairs, good}
 use Rattle.factors.specs.declared.Record.{Record}
@@ -25,8 +28,7 @@ use Rattle.factors.specs.Factors.{record_of, factors_in, slices, record_after}
 use Rattle.factors.specs.Held.{held_refusal}
 use Rattle.factors.proofs.Held.{passed}
 use Rattle.elimination.specs.Removing.{last_pair, undoes, pairs_before, remove_column}
-use Rattle.removing.specs.declared.Removed.TheVariants.{Accepted, Refused}
-use Rattle.removing.specs.Removing.{good_undoing, removing_asks, removing_refusal, erased, removing_made, removing, record_in}
+use Rattle.removing.specs.Removing.{good_undoing, removing_asks, removing_refusal, erased, removing_made, removing}
 use Rattle.removing.specs.Inner.{RemovableIf, Ready, RemovedFrom}
 use Rattle.adding.proofs.Slot.{slot_columns, slot_lent, slot_part, older_exchanged}
 use Rattle.removing.proofs.Undone.{second_at}
@@ -102,12 +104,14 @@ module _ (r : Record) (s : Column) (store : List ℕ) where
         dead = p.dead;
       }
 
-  pub refused_by : (number : ℕ) → number ≡ removing_refusal s store r → (number ≡ 0 → ⊥) → RemovedFrom s store r (Refused number r) s store
-  unfolding removing record_in record_after
-  refused_by number e ne =
+  pub refused_by : (refusal : Refusal) (answer : Result Record Refusal) → number refusal ≡ removing_refusal s store r → IsErrAnd answer (λ e. e ≡ refusal)
+      → RemovedFrom s store r answer s store
+  unfolding removing record_after
+  refused_by refusal answer e h =
       let made = removing_made store r (factors_in s m r.columns store r.pairs) in
-      let w = tested_some (removing_refusal s store r) (leaving (slices s store)) made (λ z. ne (e ∙ z)) in
-      record { answer = rw w (ap refused e); told = rw w refl; factors = rw w refl; pairs = rw w refl }
+      let on = handed_on refusal answer h in
+      let w = tested_some (removing_refusal s store r) (leaving (slices s store)) made (λ z. never_0 refusal (e ∙ z)) in
+      record { answer = rw (on, w) (ap refused e); told = rw (on, w) refl; factors = rw w refl; pairs = rw w refl }
 
   module _ (go : Ready s store r) where
     pub worked : removing s store r ≡ removing_made store r (factors_in s m r.columns store r.pairs)
@@ -170,8 +174,8 @@ module _ (r : Record) (s : Column) (store : List ℕ) where
 
       -- no pair goes
       pub promise_kept : (dead : ℕ) → dead ≡ dead_in m (columns m n s) → undoes n swaps ≡ false
-          → RemovedFrom s store r (Accepted (record_of m n r.pairs dead)) t store
-      unfolding removing_made remove_column pairs_before erased record_in record_after
+          → RemovedFrom s store r (Ok (record_of m n r.pairs dead)) t store
+      unfolding removing_made remove_column pairs_before erased record_after
       promise_kept dead left u =
           let count = length_pairs r.pairs store in
           let dead_is = left ∙ ap (dead_in m) (sym older) in
@@ -187,8 +191,8 @@ module _ (r : Record) (s : Column) (store : List ℕ) where
           → length v ≡ length t
           → v ≡ on_columns m (n + 1) (rows_swapped n (get_or store (2 * r.pairs - 1) 0) 0 n) t
           → store' ≡ set (set store (2 * r.pairs - 2) 0) (2 * r.pairs - 1) 0
-          → RemovedFrom s store r (Accepted (record_of m n (r.pairs - 1) dead)) v store'
-      unfolding removing_made remove_column pairs_before erased record_in record_after with_pair
+          → RemovedFrom s store r (Ok (record_of m n (r.pairs - 1) dead)) v store'
+      unfolding removing_made remove_column pairs_before erased record_after with_pair
       promise_undone dead v store' left some u kv swapped wrote =
           let p = get_or store (2 * r.pairs - 1) 0 in
           let count : length (take (length swaps - 1) swaps) ≡ r.pairs - 1 =

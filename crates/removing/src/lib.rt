@@ -118,11 +118,7 @@ fn remove_tested(s: &mut [f64], swaps: &mut [usize], told: Record) -> Record
 
 // Takes the last column off the factors in s: the factors before it was added, its slot zero. Answers the new record; a caller who is refused still holds
 // the one before.
-pub fn remove_column(
-    s: &mut [f64],
-    swaps: &mut [usize],
-    told: Record,
-) -> Result<Record, Refusal>
+pub fn remove_column(s: &mut [f64], swaps: &mut [usize], told: Record) -> Result<Record, Refusal>
     ensures result_value { outcome result ≡ (removing s.old swaps.old told).answer }
     ensures record_value { record_after told (outcome result) ≡ record_after told (removing s.old swaps.old told).answer }
     ensures s_after { s.new ≡ (removing s.old swaps.old told).left.factors }
