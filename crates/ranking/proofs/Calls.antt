@@ -11,11 +11,12 @@ use lib.ListN.{length, replicate}
 use Rattle.numbers.specs.Column.{Column}
 use Rattle.finite.specs.Finite.{all_finite}
 use Rattle.numbers.proofs.Choice.{and_first, and_second}
-use Rattle.refusals.specs.Outcome.{done, refused, first_holding, leaving, outcome}
-use Rattle.refusals.proofs.Outcomes.{first_none, tested_none, tested_some}
+use Rattle.std.proofs.Common.{Result, Ok}
+use Rattle.std.specs.Result.{IsErrAnd}
+use Rattle.refusals.specs.declared.Refusal.{Refusal}
+use Rattle.refusals.specs.Outcome.{done, number, first_holding, leaving}
+use Rattle.refusals.proofs.Outcomes.{Promise, promise_refused, promise_made, first_none, tested_none}
 use Rattle.refusals.proofs.Tests.{Inside, inside, not_outside}
-use Rattle.ranking.specs.declared.Listed.{Listed}
-use Rattle.ranking.specs.declared.Listed.TheVariants.{Pads, Refused}
 use Rattle.ranking.specs.Ranking.{Choice, every_pad, ranked, pads_to, chosen, listing, ranking_refusal, padded, ranking}
 use Rattle.ranking.proofs.Inserting.{length_ranked}
 use Rattle.ranking.proofs.Listing.{length_pads}
@@ -47,23 +48,25 @@ module _ (n : ℕ) (loads : Column) (was : List ℕ) where
       rw (not_outside 1 n a.size.at_least a.size.at_most, eq-eqb (length loads) n a.loads_length, eq-eqb (length was) n a.ranks_length, a.finite)
 
 module _ (choice : Choice) (n : ℕ) (loads : Column) (was : List ℕ) where
-  -- the promise on the answer and on the slice
-  abbrev pub Answers : Listed → List ℕ → Type 0
-  Answers r s = (outcome r ≡ (ranking choice loads n was).answer) × (s ≡ (ranking choice loads n was).left)
+  -- the promise on the answer and on the slice, at the call's two ends
+  abbrev pub Answers : Result ℕ Refusal → List ℕ → Type 0
+  Answers = Promise (ranking choice loads n was)
 
-  pub outcome_refused : (number : ℕ) → number ≡ ranking_refusal loads n was → (number ≡ 0 → ⊥) → Answers (Refused number) was
+  pub outcome_refused : (r : Refusal) (answer : Result ℕ Refusal) → number r ≡ ranking_refusal loads n was → IsErrAnd answer (λ e. e ≡ r)
+      → Answers answer was
   unfolding ranking
-  outcome_refused number e h = rw (tested_some (ranking_refusal loads n was) (leaving was) _ (λ z. h (e ∙ z))) (ap refused e, refl)
+  outcome_refused r answer e h = promise_refused (ranking_refusal loads n was) was _ r answer e h
+
+  pub outcome_ranked : (s : List ℕ) (count : ℕ) → 0 ≡ ranking_refusal loads n was
+      → (count ≡ length (listing choice loads n)) × (s ≡ padded n (listing choice loads n)) → Answers (Ok count) s
+  unfolding ranking
+  outcome_ranked s count e made = promise_made (ranking_refusal loads n was) was _ (Ok count) s e (ap done made.0) made.1
 
   -- the call where it is not refused
   pub ranking_accepted : ranking_refusal loads n was ≡ 0
       → ranking choice loads n was ≡ record { answer = done (length (listing choice loads n)); left = padded n (listing choice loads n) }
   unfolding ranking
   ranking_accepted e = tested_none (ranking_refusal loads n was) (leaving was) _ e
-
-  pub outcome_ranked : (s : List ℕ) (count : ℕ) → ranking_refusal loads n was ≡ 0
-      → (count ≡ length (listing choice loads n)) × (s ≡ padded n (listing choice loads n)) → Answers (Pads count) s
-  outcome_ranked s count e made = rw (ranking_accepted e) (ap done made.0, made.1)
 
 -- ---- all pads: n of them, and no slot behind
 chosen_all : (s : List ℕ) → chosen every_pad s ≡ s

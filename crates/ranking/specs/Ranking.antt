@@ -6,7 +6,7 @@ use Rattle.std.specs.Float.Ieee.{lt}
 use Rattle.numbers.specs.Numbers.{magnitude, is_zero}
 use Rattle.numbers.specs.Column.{Column, entry}
 use Rattle.finite.specs.Finite.{all_finite}
-use Rattle.refusals.specs.Outcome.{Outcome, done, refused, first_holding, tested, Call, leaving}
+use Rattle.refusals.specs.Outcome.{done, first_holding, tested, Call, leaving}
 use Rattle.refusals.specs.Refusals.{outside}
 
 -- p is the number of one of n pads

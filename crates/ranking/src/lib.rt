@@ -2,7 +2,6 @@
 #![tactic(auto)]
 
 ghost use Rattle.std.specs.Prelude.{◌≡◌, ◌++◌, ℕ, ◌+◌, ◌<◌, length, get_or, take, drop};
-ghost use Rattle.refusals.specs.Outcome.{outcome};
 ghost use Rattle.ranking.specs.Ranking.{IsPad, ahead, loaded, every_pad, insert_pad, listing, ranking_refusal, padded, ranking};
 ghost use Rattle.refusals.specs.Outcome.{outcome, number_of};
 ghost use Rattle.ranking.specs.Inner.{choice_by};
@@ -58,6 +57,7 @@ fn insert(loads: &[f64], ranks: &mut [usize], count: usize, pad: usize)
 }
 
 // Refuses what ranking refuses, by the tests in their order.
+#[tactic(auto, unfolding(crate::specs::Ranking::ranking_refusal, refusals::specs::Outcome::first_holding))]
 fn test_ranking(loads: &[f64], n: usize, ranks: &[usize]) -> Result<(), Refusal>
     ensures { number_of (outcome result) ≡ ranking_refusal loads.now n ranks.now }
 {

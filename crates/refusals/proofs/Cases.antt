@@ -6,8 +6,9 @@ use mathlib.Core.List.{List, [], ◌∷◌, ◌++◌}
 use Prim.Native.Nat.{ℕ}
 use native.Mathlib.Omega.{arith}
 use Rattle.numbers.proofs.Choice.{cond_cases}
-use Rattle.refusals.specs.Outcome.{Outcome, done, refused, first_holding, tested, and_then}
-use Rattle.refusals.proofs.Outcomes.{Numbered, tested_none, tested_some, tested_cases}
+use Rattle.refusals.specs.declared.Refusal.{Refusal}
+use Rattle.refusals.specs.Outcome.{Outcome, done, refused, number, first_holding, tested, and_then}
+use Rattle.refusals.proofs.Outcomes.{Numbered, never_0, tested_none, tested_some, tested_cases}
 
 -- ---- the first of the tests
 
@@ -28,6 +29,19 @@ unfolding first_holding
 first_behind [] us n = sym (tested_none 0 (λ k. k) (first_holding us) refl)
 first_behind ((k, true) ∷ ts) us n = sym (tested_some k (λ j. j) (first_holding us) n.0)
 first_behind ((k, false) ∷ ts) us n = first_behind ts us n.1
+
+-- tests made in two goes: the first go refuses, or the second decides
+pub refused_before : (ts us : List (ℕ × Bool)) (r : Refusal) → number r ≡ first_holding ts → number r ≡ first_holding (ts ++ us)
+unfolding first_holding
+refused_before [] us r e = absurd (never_0 r e)
+refused_before ((k, true) ∷ ts) us r e = e
+refused_before ((k, false) ∷ ts) us r e = refused_before ts us r e
+
+pub passed_before : (ts us : List (ℕ × Bool)) → Numbered ts → 0 ≡ first_holding ts → first_holding us ≡ first_holding (ts ++ us)
+unfolding first_holding
+passed_before [] us n e = refl
+passed_before ((k, true) ∷ ts) us n e = absurd (n.0 (sym e))
+passed_before ((k, false) ∷ ts) us n e = passed_before ts us n.1 e
 
 -- ---- done, or refused, is one of the two and holds one value
 module _ {A : Type 0} where

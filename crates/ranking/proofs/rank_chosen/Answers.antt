@@ -1,22 +1,18 @@
 -- The tests, then the pads listed. Assumes nothing.
-use mathlib.Core.Path.{◌≡◌, sym, ◌∙◌}
-use Rattle.ranking.specs.Ranking.{ranking_refusal}
+use mathlib.Core.Path.{sym, ◌∙◌}
 use Rattle.ranking.proofs.Calls.{accepted, outcome_refused, outcome_ranked}
-use Rattle.ranking.proofs.rank_chosen.Goals.{After-list-arg-1}
 use Rattle.ranking.proofs.rank_chosen.Goals as goal
 
-none : (c : After-list-arg-1) → let g = c.args in ranking_refusal g.loads.now g.n g.ranks.now ≡ 0
-none c = sym c.rank_refusal-number.ensures ∙ c.if-number-ne0.false
-
-pub returns-then-number-ne0 : goal.returns-then-number-ne0
-returns-then-number-ne0 c =
-    let whole = outcome_refused _ _ _ _ _ c.rank_refusal-number.ensures c.if-number-ne0.true in record { result_value = whole.0; ranks_after = whole.1 }
+pub returns-in_err-test_ranking : goal.returns-in_err-test_ranking
+returns-in_err-test_ranking c =
+    let whole = outcome_refused _ _ _ _ _ _ c.in_err-test_ranking.ensures c.from_residual.ensures.1 in
+    record { result_value = whole.0; ranks_after = whole.1 }
 
 pub list-requires : goal.list-requires
-list-requires c = let a = accepted _ _ _ (none c) in a.ranks_length ∙ sym a.loads_length
+list-requires c = let a = accepted _ _ _ (sym c.in_ok-test_ranking.ensures) in a.ranks_length ∙ sym a.loads_length
 
 pub returns : goal.returns
 returns c =
-    let e = none (goal.at.returns c).After-list-arg-1 in
-    let whole = outcome_ranked _ _ _ _ _ _ e (rw (← (accepted _ _ _ e).loads_length) (c.list.ensures.value, c.list.ensures.ranks_after)) in
+    let none = c.in_ok-test_ranking.ensures in
+    let whole = outcome_ranked _ _ _ _ _ _ none (rw (← (accepted _ _ _ (sym none)).loads_length) (c.list.ensures.value, c.list.ensures.ranks_after)) in
     record { result_value = whole.0; ranks_after = whole.1 }
