@@ -17,14 +17,12 @@ fn next_above(col: &[f64], from: usize, top: f64) -> usize
     requires { from ≤ length col.now }
     ensures { result ≡ above_from top from (drop from col.now) }
 {
-    let mut k = from;
-    while k < col.len() {
+    for k in from..col.len() {
         if numbers::magnitude(col[k]) > top {
             return k;
         }
-        k += 1;
     }
-    k
+    col.len()
 }
 
 // Whether a row below `row` has the magnitude `top`.
@@ -32,12 +30,10 @@ fn is_shared(col: &[f64], row: usize, top: f64) -> bool
     requires { row < length col.now }
     ensures { result ≡ shared_from top row (row + 1) (drop (row + 1) col.now) }
 {
-    let mut k = row + 1;
-    while k < col.len() {
+    for k in row + 1..col.len() {
         if numbers::magnitude(col[k]) == top {
             return true;
         }
-        k += 1;
     }
     false
 }
@@ -55,6 +51,7 @@ pub fn icamax(col: &[f64], from: usize) -> FoundPivot
     }
     let mut the_i = from;
     let mut i = next_above(col, from + 1, numbers::magnitude(col[from]));
+    // No `for`: the next row is what the search answers, so a range or an iterator over the rows would be no plainer.
     while i < col.len() {
         the_i = i;
         i = next_above(col, i + 1, numbers::magnitude(col[i]));
