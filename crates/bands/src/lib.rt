@@ -12,8 +12,7 @@ fn least_on_diagonal(t: &[f64], n: usize) -> f64
     ensures { result ≡ least_on_diagonal n (columns n n t.now) }
 {
     let mut least = f64::from_bits(0x7ff0_0000_0000_0000);
-    let mut i = 0;
-    while i < n {
+    for i in 0..n {
         let a = i * n;
         let p = a + i;
         let x = numbers::magnitude(t[p]);
@@ -21,7 +20,6 @@ fn least_on_diagonal(t: &[f64], n: usize) -> f64
         if lower {
             least = x;
         }
-        i += 1;
     }
     least
 }

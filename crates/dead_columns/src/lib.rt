@@ -30,12 +30,10 @@ pub fn dead_of(s: &[f64], m: usize, n: usize) -> usize
     }
     let end = store::min(m, n);
     let mut dead = 0;
-    let mut j = 0;
-    while j < end {
+    for j in 0..end {
         let a = j * m;
         let q = a + j;
         dead += zero_count(s[q]);
-        j += 1;
     }
     dead
 }

@@ -177,10 +177,8 @@ fn solve_column(pass: Pass, t: &[f64], n: usize, b: &mut [f64])
     ensures { b.new ≡ solved_column pass n (columns n n t.now) b.old }
 {
     let turns = turns_of(pass, n);
-    let mut k = 0;
-    while k < turns {
+    for k in 0..turns {
         take_turn(pass, t, n, b, k);
-        k += 1;
     }
 }
 
@@ -195,11 +193,9 @@ pub fn solve_in_place(pass: Pass, t: &[f64], n: usize, b: &mut [f64], k: usize)
     if !store::is_matrix(b, n, k) {
         return;
     }
-    let mut j = 0;
-    while j < k {
+    for j in 0..k {
         let a = j * n;
         let e = a + n;
         solve_column(pass, t, n, &mut b[a..e]);
-        j += 1;
     }
 }

@@ -53,6 +53,3 @@ offset_bounds-t-p c = omega (arith, within c)
 
 pub bounds-t-p : goal.bounds-t-p
 bounds-t-p c = omega (arith, within (goal.at.bounds-t-p c).In-loop-i)
-
-pub overflow_add-i : goal.overflow_add-i
-overflow_add-i c = omega (arith, within (goal.at.overflow_add-i c).In-loop-i)
