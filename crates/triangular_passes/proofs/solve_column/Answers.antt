@@ -9,9 +9,6 @@ pub loop-k-init : goal.loop-k-init
 unfolding solved_column
 loop-k-init c = turns_begin _ _ _
 
-pub take_turn-requires : goal.take_turn-requires
-take_turn-requires c = (c.requires.0, c.loop-k.auto.b ∙ c.requires.1, rw c.turns_of-turns.ensures at c.loop-k-test.true)
-
 pub loop-k-preserved : goal.loop-k-preserved
 loop-k-preserved c =
     let g = c.args in
