@@ -173,6 +173,7 @@ fn solve_column(upward: bool, t: &[f64], n: usize, b: &mut [f64])
 
 // Solves the k right-hand columns in b in place by the n by n matrix t: by its upper triangle, or by its lower one with ones on the diagonal. Where a slice
 // holds no such matrix, b stays as it was.
+#[tactic(auto, using(triangular_passes::proofs::InPlace::column_loop))]
 pub fn solve_in_place(upward: bool, t: &[f64], n: usize, b: &mut [f64], k: usize)
     ensures { b.new ≡ solved_in_place (pass_of upward) t.now n b.old k }
 {

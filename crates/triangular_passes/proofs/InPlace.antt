@@ -46,3 +46,6 @@ module _ (pass : Pass) (n k : ℕ) (t b₀ : Column) where
   pub no_sides : is_matrix t n n ≡ true → is_matrix b₀ n k ≡ false → b₀ ≡ solved_in_place pass t n b₀ k
   unfolding solved_in_place
   no_sides matrix h = rw matrix (on_none n k _ b₀ h)
+
+-- what such a loop needs
+pub ruleset column_loop = (left_within, left_turn, left_none, no_matrix, no_sides)

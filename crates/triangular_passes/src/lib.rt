@@ -184,6 +184,7 @@ fn solve_column(pass: Pass, t: &[f64], n: usize, b: &mut [f64])
 
 // A pass without the tests: solves the k right-hand columns in b in place by the n by n matrix t. Where a slice holds no such matrix,
 // b stays as it was.
+#[tactic(auto, using(crate::proofs::InPlace::column_loop))]
 pub fn solve_in_place(pass: Pass, t: &[f64], n: usize, b: &mut [f64], k: usize)
     ensures { b.new ≡ solved_in_place pass t.now n b.old k }
 {
