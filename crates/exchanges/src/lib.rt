@@ -82,6 +82,7 @@ fn swap_four(
 }
 
 // Exchanges the rows of four pairs, all four in a column before the next: so their numbers are read once, and a column's entries are near each other.
+#[tactic(auto, using(store::proofs::Columns::sized, store::proofs::Columns::column_within))]
 fn exchange_four(s: &mut [f64], m: usize, n: usize, four: &[usize])
     requires { (is_matrix s.old m n ≡ true) × (length four.now ≡ 8) }
     ensures { s.new ≡ on_columns m n (rows_permuted (pairs_of 4 four.now)) s.old }
