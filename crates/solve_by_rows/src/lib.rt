@@ -33,6 +33,7 @@ fn row_sums(upward: bool, t: &[f64], n: usize, b: &[f64], r: usize, turns: usize
 }
 
 // The rows r on, which v holds with the products of the turns before them, solved by each other downward.
+#[tactic(auto, using(store::proofs::Columns::sized, store::proofs::Columns::column_within))]
 fn within_down(t: &[f64], n: usize, r: usize, v: &mut [f64])
     requires { (is_matrix t.now n n ≡ true) × (r + length v.old ≤ n) }
     ensures { v.new ≡ solved_within false (columns n n t.now) r v.old }
@@ -48,6 +49,7 @@ fn within_down(t: &[f64], n: usize, r: usize, v: &mut [f64])
 }
 
 // The same upward.
+#[tactic(auto, using(store::proofs::Columns::sized, store::proofs::Columns::column_within))]
 fn within_up(t: &[f64], n: usize, r: usize, v: &mut [f64])
     requires { (is_matrix t.now n n ≡ true) × (r + length v.old ≤ n) }
     ensures { v.new ≡ solved_within true (columns n n t.now) r v.old }

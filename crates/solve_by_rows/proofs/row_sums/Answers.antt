@@ -1,13 +1,11 @@
 -- After k turns of the loop, v holds the sums over these turns. Assumes nothing.
-use Prim.Native.Nat.{◌+◌, ◌-◌, ◌*◌, ◌≤◌, ◌<◌}
-use mathlib.Core.Path.{◌≡◌, ap, ap₂, ◌∙◌}
+use Prim.Native.Nat.{◌+◌, ◌*◌, ◌≤◌, ◌<◌}
+use mathlib.Core.Path.{◌≡◌, ◌∙◌}
 use native.Mathlib.Omega.{arith}
 use lib.ListN.{length}
-use Rattle.store.specs.Columns.{columns}
 use Rattle.store.proofs.Columns.{sized, column_within}
-use Rattle.solve_by_rows.specs.Rows.{row_sums}
 use Rattle.solve_by_rows.proofs.Rows.{row_below}
-use Rattle.solve_by_rows.proofs.Blocks.{sums_begin, sums_next, length_sums}
+use Rattle.solve_by_rows.proofs.Blocks.{sums_begin, sums_next}
 use Rattle.solve_by_rows.proofs.row_sums.Goals.{After-row_of-c}
 use Rattle.solve_by_rows.proofs.row_sums.Goals as goal
 

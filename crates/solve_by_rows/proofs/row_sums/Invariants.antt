@@ -1,5 +1,5 @@
 -- After k turns of the loop, v holds the sums over these turns. Assumes nothing.
-use Prim.Native.Nat.{◌-◌, ◌≤◌}
+use Prim.Native.Nat.{◌-◌}
 use mathlib.Core.Path.{◌≡◌}
 use Rattle.store.specs.Columns.{columns}
 use Rattle.solve_by_rows.specs.Rows.{row_sums}

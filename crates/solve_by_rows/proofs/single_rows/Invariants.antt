@@ -1,7 +1,6 @@
 -- The turns that are left from turn k on, on what the column holds then, give all of them. Assumes nothing.
-use Prim.Native.Nat.{◌-◌, ◌≤◌}
+use Prim.Native.Nat.{◌-◌}
 use mathlib.Core.Path.{◌≡◌}
-use lib.ListN.{length}
 use Rattle.numbers.specs.Each.{turns_from}
 use Rattle.store.specs.Columns.{columns}
 use Rattle.solve_by_rows.specs.Rows.{row_done}

@@ -1,5 +1,4 @@
 -- The loop over the right-hand columns (`InPlace` of `triangular_passes`). Assumes nothing.
-use Prim.Native.Nat.{◌-◌}
 use Rattle.triangular_passes.proofs.InPlace.{Left}
 use Rattle.solve_by_rows.specs.Rows.{pass_of}
 use Rattle.solve_by_rows.proofs.solve_in_place.Given as goal

@@ -1,6 +1,6 @@
 -- The turns that are left when rows up to p are, on what v holds then, give the block solved. Assumes nothing.
 use Prim.Native.Nat.{◌+◌, ◌-◌, ◌*◌, ◌≤◌}
-use mathlib.Core.Path.{◌≡◌, refl, sym, ◌∙◌}
+use mathlib.Core.Path.{◌≡◌, sym, ◌∙◌}
 use native.Mathlib.Omega.{arith}
 use lib.ListN.{length}
 use Rattle.numbers.specs.Each.{turns_from}
@@ -13,13 +13,10 @@ use Rattle.solve_by_rows.proofs.within_up.Goals.{In-loop-p}
 use Rattle.solve_by_rows.proofs.within_up.Goals as goal
 
 -- in a turn, the column of its row ends within the matrix
-within : (c : In-loop-p) → let g = c.args in
-    ((g.r + (c.loop-p.p - 1)) * g.n + g.n ≤ length g.t.now) × (1 ≤ c.loop-p.p) × (c.loop-p.p ≤ length g.v.now) × (g.r + length g.v.now ≤ g.n) × (g.n ≤ 64)
+within : (c : In-loop-p) → let g = c.args in (g.r + (c.loop-p.p - 1)) * g.n + g.n ≤ length g.t.now
 within c =
-    let g = c.args in
     let p = c.requires in
-    let fits = sized _ _ _ p.0 in
-    (column_within _ _ _ g.t.now (omega (arith, p.1)) fits.size, omega arith, omega arith, p.1, fits.rows_most)
+    column_within _ _ _ c.args.t.now (omega (arith, p.1)) (sized _ _ _ p.0).size
 
 pub loop-p-init : goal.loop-p-init
 unfolding solved_within
@@ -43,23 +40,8 @@ loop-p-preserved c =
 pub returns : goal.returns
 returns c = sym (turns_stop _ _ _ _ (omega arith)) ∙ c.loop-p.invariant
 
-pub overflow_mul-a : goal.overflow_mul-a
-overflow_mul-a c = omega (arith, within c)
-
-pub overflow_add-a-in-loop-p : goal.overflow_add-a-in-loop-p
-overflow_add-a-in-loop-p c = omega (arith, within c)
-
-pub overflow_add-to : goal.overflow_add-to
-overflow_add-to c = omega (arith, within c)
-
-pub offset_bounds-t-to : goal.offset_bounds-t-to
-offset_bounds-t-to c = omega (arith, within (goal.at.offset_bounds-t-to c).In-loop-p)
-
 pub bounds-t-to : goal.bounds-t-to
-bounds-t-to c = omega (arith, within (goal.at.bounds-t-to c).In-loop-p)
-
-pub offset_bounds-t-a : goal.offset_bounds-t-a
-offset_bounds-t-a c = omega (arith, within (goal.at.offset_bounds-t-a c).In-loop-p)
+bounds-t-to c = omega (arith, within (goal.at.bounds-t-to c).In-loop-p, c.requires.1)
 
 pub slice_bounds-axpy-end-in-loop-p-2 : goal.slice_bounds-axpy-end-in-loop-p-2
-slice_bounds-axpy-end-in-loop-p-2 c = omega (arith, within (goal.at.slice_bounds-axpy-end-in-loop-p-2 c).In-loop-p)
+slice_bounds-axpy-end-in-loop-p-2 c = omega (arith, within (goal.at.slice_bounds-axpy-end-in-loop-p-2 c).In-loop-p, c.requires.1)
