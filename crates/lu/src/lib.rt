@@ -130,10 +130,8 @@ fn factor_steps(
     ensures { Stepped s.old m n from to swaps.old counts result s.new swaps.new }
 {
     let mut now = counts;
-    let mut i = from;
-    while i < to {
+    for i in from..to {
         now = factor_step(s, m, n, i, swaps, now);
-        i += 1;
     }
     now
 }

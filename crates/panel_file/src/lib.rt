@@ -78,10 +78,8 @@ fn fill(file: &[u8], from: usize, dst: &mut [f64])
     requires by_index { (k : ℕ) → k < length dst.old → finite (number_at file.now (from + k)) ≡ true }
     ensures { dst.new ≡ list_of (length dst.old) (λ k. number_at file.now (from + k)) }
 {
-    let mut k = 0;
-    while k < dst.len() {
+    for k in 0..dst.len() {
         dst[k] = f64::from_bits(bits_at(file, 6 + 8 * (from + k)));
-        k += 1;
     }
 }
 

@@ -40,6 +40,3 @@ offset_bounds-factors-q c = omega (arith, within c)
 
 pub bounds-factors-q : goal.bounds-factors-q
 bounds-factors-q c = omega (arith, within (goal.at.bounds-factors-q c).In-loop-i)
-
-pub overflow_add-i : goal.overflow_add-i
-overflow_add-i c = omega (arith, within (goal.at.overflow_add-i c).In-loop-i)

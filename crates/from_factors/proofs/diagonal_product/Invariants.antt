@@ -8,6 +8,3 @@ use Rattle.from_factors.proofs.diagonal_product.Given as goal
 
 abbrev pub invariant-loop-i : goal.invariant-loop-i
 invariant-loop-i l = turns_from (times_diagonal (columns l.n l.n l.factors)) l.i (l.n - l.i) l.res ≡ diagonal_product l.n (columns l.n l.n l.factors)
-
-abbrev pub decreases-loop-i : goal.decreases-loop-i
-decreases-loop-i l = l.n - l.i

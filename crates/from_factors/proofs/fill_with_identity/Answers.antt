@@ -55,6 +55,3 @@ slice_bounds-unit_column-start c = omega (arith, within c, whole (goal.at.slice_
 
 pub slice_bounds-unit_column-end : goal.slice_bounds-unit_column-end
 slice_bounds-unit_column-end c = omega (arith, within c, whole (goal.at.slice_bounds-unit_column-end c).After-slice_known-1)
-
-pub overflow_add-j : goal.overflow_add-j
-overflow_add-j c = omega (arith, within (goal.at.overflow_add-j c).In-loop-j, whole (goal.at.overflow_add-j c).After-slice_known-1)

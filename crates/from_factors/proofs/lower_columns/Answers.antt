@@ -91,6 +91,3 @@ slice_bounds-lower_column-end-in-loop-j c =
       within_factors (goal.at.slice_bounds-lower_column-end-in-loop-j
           c).In-loop-j,
     )
-
-pub overflow_add-j : goal.overflow_add-j
-overflow_add-j c = omega (arith, within (goal.at.overflow_add-j c).In-loop-j, within_factors (goal.at.overflow_add-j c).In-loop-j)

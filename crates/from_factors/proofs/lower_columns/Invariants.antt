@@ -13,6 +13,3 @@ lower m n factors j = lower_of j (column (columns m n factors) j)
 
 abbrev pub invariant-loop-j : goal.invariant-loop-j
 invariant-loop-j l = Written (lower l.m l.n l.factors) l.m l.k l.j l.out
-
-abbrev pub decreases-loop-j : goal.decreases-loop-j
-decreases-loop-j l = l.k - l.j

@@ -113,12 +113,3 @@ slice_bounds-upper_column-end-in-loop-j c =
           c).In-loop-j,
       whole (goal.at.slice_bounds-upper_column-end-in-loop-j c).After-shared_slice_known-1,
     )
-
-pub overflow_add-j : goal.overflow_add-j
-overflow_add-j c =
-    omega (
-      arith,
-      within (goal.at.overflow_add-j c).In-loop-j,
-      within_factors (goal.at.overflow_add-j c).In-loop-j,
-      whole (goal.at.overflow_add-j c).After-shared_slice_known-1,
-    )

@@ -13,6 +13,3 @@ upper k m n factors j = upper_of k j (column (columns m n factors) j)
 
 abbrev pub invariant-loop-j : goal.invariant-loop-j
 invariant-loop-j l = Written (upper l.k l.m l.n l.factors) l.k l.n l.j l.out
-
-abbrev pub decreases-loop-j : goal.decreases-loop-j
-decreases-loop-j l = l.n - l.j

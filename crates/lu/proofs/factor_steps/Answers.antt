@@ -25,9 +25,6 @@ factor_step-now-requires c =
       n_value = (same_matrix _ _ _ _ c.loop-i.invariant.0 ∙ c.requires.n_value.0, c.loop-i.invariant.1 ∙ c.requires.n_value.1);
     }
 
-pub overflow_add-i : goal.overflow_add-i
-overflow_add-i c = omega (arith, (sized _ _ _ c.requires.n_value.0).rows_most)
-
 pub loop-i-preserved : goal.loop-i-preserved
 loop-i-preserved c =
     let g = c.args in

@@ -17,6 +17,3 @@ invariant-loop-i l =
     g × (turns_from step l.i (l.to - l.i) g ≡ turns_from step l.from (l.to - l.from) f) × (l.now.tossed + toss_from l.i (l.to - l.i) g
     ≡ l.initial.now.tossed + toss_from l.from
     (l.to - l.from) f)))
-
-abbrev pub decreases-loop-i : goal.decreases-loop-i
-decreases-loop-i l = l.to - l.i

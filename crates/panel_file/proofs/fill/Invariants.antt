@@ -10,6 +10,3 @@ abbrev pub invariant-loop-k : goal.invariant-loop-k
 invariant-loop-k l =
     (length l.dst ≡ length l.initial.dst) × (each_from (λ i v. number_at l.file (l.from + i)) l.k l.dst
     ≡ list_of (length l.initial.dst) (λ i. number_at l.file (l.from + i)))
-
-abbrev pub decreases-loop-k : goal.decreases-loop-k
-decreases-loop-k l = length l.initial.dst - l.k

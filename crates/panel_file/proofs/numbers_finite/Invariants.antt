@@ -9,6 +9,3 @@ use Rattle.panel_file.proofs.numbers_finite.Given as goal
 
 abbrev pub invariant-loop-k : goal.invariant-loop-k
 invariant-loop-k l = all_finite (drop l.k (list_of l.count (number_at l.file))) ≡ all_finite (list_of l.count (number_at l.file))
-
-abbrev pub decreases-loop-k : goal.decreases-loop-k
-decreases-loop-k l = l.count - l.k

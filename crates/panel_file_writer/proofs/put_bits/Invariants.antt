@@ -5,6 +5,3 @@ use Rattle.panel_file_writer.proofs.put_bits.Given as goal
 
 abbrev pub invariant-loop-k : goal.invariant-loop-k
 invariant-loop-k l = Putting l.at l.bits l.initial.file l.file l.rest l.k
-
-abbrev pub decreases-loop-k : goal.decreases-loop-k
-decreases-loop-k l = 8 - l.k

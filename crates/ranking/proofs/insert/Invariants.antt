@@ -5,6 +5,3 @@ use Rattle.ranking.proofs.insert.Given as goal
 
 abbrev pub invariant-loop-j : goal.invariant-loop-j
 invariant-loop-j l = Pushing l.loads l.pad l.initial.ranks l.count l.ranks l.carried l.j
-
-abbrev pub decreases-loop-j : goal.decreases-loop-j
-decreases-loop-j l = l.count - l.j

@@ -7,6 +7,3 @@ use Rattle.ranking.proofs.list.Given as goal
 
 abbrev pub invariant-loop-k : goal.invariant-loop-k
 invariant-loop-k l = (l.k ≤ length l.loads) × Filling (choice_by l.all l.loads) l.loads l.initial.ranks l.ranks l.count l.k
-
-abbrev pub decreases-loop-k : goal.decreases-loop-k
-decreases-loop-k l = length l.loads - l.k

@@ -10,6 +10,3 @@ use Rattle.scaled_determinant.proofs.scaled_product.Given as goal
 abbrev pub invariant-loop-i : goal.invariant-loop-i
 invariant-loop-i l =
     (turns_from (scaled_turn (columns l.n l.n l.factors)) l.i (l.n - l.i) l.r ≡ scaled_product l.n (columns l.n l.n l.factors)) × Bounded l.i l.r
-
-abbrev pub decreases-loop-i : goal.decreases-loop-i
-decreases-loop-i l = l.n - l.i

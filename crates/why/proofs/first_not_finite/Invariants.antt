@@ -8,6 +8,3 @@ use Rattle.why.proofs.first_not_finite.Given as goal
 
 abbrev pub invariant-loop-k : goal.invariant-loop-k
 invariant-loop-k l = (l.k ≤ length l.s) × (l.k + first_failing finite (drop l.k l.s) ≡ first_failing finite l.s)
-
-abbrev pub decreases-loop-k : goal.decreases-loop-k
-decreases-loop-k l = length l.s - l.k

@@ -8,6 +8,3 @@ use Rattle.why.proofs.lowest_dead.Given as goal
 
 abbrev pub invariant-loop-j : goal.invariant-loop-j
 invariant-loop-j l = lowest_zero l.j (drop l.j (columns l.n l.n l.t)) ≡ lowest_zero 0 (columns l.n l.n l.t)
-
-abbrev pub decreases-loop-j : goal.decreases-loop-j
-decreases-loop-j l = l.n - l.j

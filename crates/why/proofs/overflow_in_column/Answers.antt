@@ -95,9 +95,3 @@ returns c =
 
 pub loop-k-init : goal.loop-k-init
 loop-k-init c = turning_begin (pass_of c.args.upper) _ _ _ c.requires.1
-
-pub overflow_add-k : goal.overflow_add-k
-overflow_add-k c = let t = in_time (goal.at.overflow_add-k c).In-loop-k in omega arith
-
-pub loop-k-smaller : goal.loop-k-smaller
-loop-k-smaller c = let t = in_time (goal.at.loop-k-smaller c).In-loop-k in omega arith

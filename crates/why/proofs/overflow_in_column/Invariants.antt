@@ -8,6 +8,3 @@ use Rattle.why.proofs.overflow_in_column.Given as goal
 
 abbrev pub invariant-loop-k : goal.invariant-loop-k
 invariant-loop-k l = Turning (pass_of l.upper) l.n (columns l.n l.n l.t) l.initial.b l.b l.k
-
-abbrev pub decreases-loop-k : goal.decreases-loop-k
-decreases-loop-k l = turns_of (pass_of l.upper) l.n - l.k

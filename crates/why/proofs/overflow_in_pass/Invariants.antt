@@ -10,6 +10,3 @@ use Rattle.why.proofs.overflow_in_pass.Given as goal
 abbrev pub invariant-loop-j : goal.invariant-loop-j
 invariant-loop-j l = (length l.x ≡ length l.initial.x) × Passing (pass_of l.upper) l.n l.k (columns l.n l.n l.t) (columns l.n l.k l.initial.x)
     (columns l.n l.k l.x) l.j
-
-abbrev pub decreases-loop-j : goal.decreases-loop-j
-decreases-loop-j l = l.k - l.j

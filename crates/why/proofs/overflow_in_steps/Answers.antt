@@ -39,9 +39,3 @@ loop-i-init c = stepping_begin _ _ _ c.requires.0 c.requires.1
 
 pub nonzero_rem-result : goal.nonzero_rem-result
 nonzero_rem-result c = let h = before_end (goal.at.nonzero_rem-result c).After-plain_step-arg-1 in omega arith
-
-pub overflow_add-i : goal.overflow_add-i
-overflow_add-i c = let h = before_end (goal.at.overflow_add-i c).After-plain_step-arg-1 in omega arith
-
-pub loop-i-smaller : goal.loop-i-smaller
-loop-i-smaller c = let h = before_end (goal.at.loop-i-smaller c).After-plain_step-arg-1 in omega arith

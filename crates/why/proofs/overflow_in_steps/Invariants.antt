@@ -5,6 +5,3 @@ use Rattle.why.proofs.overflow_in_steps.Given as goal
 
 abbrev pub invariant-loop-i : goal.invariant-loop-i
 invariant-loop-i l = Stepping l.m l.n l.initial.s l.s l.i
-
-abbrev pub decreases-loop-i : goal.decreases-loop-i
-decreases-loop-i l = min l.m l.n - l.i
