@@ -52,15 +52,9 @@ pub enum WhySolve {
 fn first_not_finite(s: &[f64]) -> usize
     ensures { result ≡ first_failing finite s.now }
 {
-    let mut k = 0;
-    while k < s.len() {
-        if numbers::is_finite(s[k]) {
-            k += 1;
-        } else {
-            return k;
-        }
-    }
-    k
+    s.iter()
+        .position(|x| !numbers::is_finite(*x))
+        .unwrap_or(s.len())
 }
 
 // The reason of an overflow in the elimination of the m by n matrix in s, by plain steps.

@@ -28,13 +28,6 @@ within_factors c =
 pub loop-j-init : goal.loop-j-init
 loop-j-init c = written_start _ _ _ _ c.requires.1
 
-pub upper_column-requires : goal.upper_column-requires
-upper_column-requires c =
-    let g = c.args in
-    let long = column_length g.k g.n c.loop-j.j c.loop-j.out c.loop-j-test.true c.loop-j.invariant.size in
-    let long-factors = column_length g.m g.n c.loop-j.j g.factors.now c.loop-j-test.true (sized _ _ _ c.requires.0).size in
-    rw (long, long-factors) c.requires.2
-
 pub loop-j-preserved : goal.loop-j-preserved
 loop-j-preserved c =
     let g = c.args in
@@ -43,36 +36,15 @@ loop-j-preserved c =
     (c.upper_column.ensures ∙ ap₂ (λ (i : ℕ) (x : Column). upper_of i c.loop-j.j x) (column_length g.k g.n c.loop-j.j c.loop-j.out t c.loop-j.invariant.size)
     (part_column g.m g.n c.loop-j.j g.factors.now t))
 
-pub shape_of-out : goal.shape_of-out
-shape_of-out c = c.loop-j.invariant.size ∙ sym (whole (goal.at.shape_of-out c).After-shared_slice_known-1)
-
 pub returns : goal.returns
 unfolding upper_factor
 returns c = written_flat _ _ _ _ _ c.loop-j-test.false c.loop-j.invariant
-
-pub overflow_mul-a : goal.overflow_mul-a
-overflow_mul-a c = omega (arith, within c, within_factors c, whole (goal.at.overflow_mul-a c).After-shared_slice_known-1)
-
-pub overflow_add-e : goal.overflow_add-e
-overflow_add-e c = omega (arith, within c, within_factors c, whole (goal.at.overflow_add-e c).After-shared_slice_known-1)
 
 pub overflow_mul-b : goal.overflow_mul-b
 overflow_mul-b c = omega (arith, within c, within_factors c, whole (goal.at.overflow_mul-b c).After-shared_slice_known-1)
 
 pub overflow_add-f : goal.overflow_add-f
 overflow_add-f c = omega (arith, within c, within_factors c, whole (goal.at.overflow_add-f c).After-shared_slice_known-1)
-
-pub offset_bounds-out-a : goal.offset_bounds-out-a
-offset_bounds-out-a c = omega (arith, within c, within_factors c, whole (goal.at.offset_bounds-out-a c).After-shared_slice_known-1)
-
-pub slice_bounds-upper_column-count : goal.slice_bounds-upper_column-count
-slice_bounds-upper_column-count c = omega (arith, within c, within_factors c, whole (goal.at.slice_bounds-upper_column-count c).After-shared_slice_known-1)
-
-pub slice_bounds-upper_column-start : goal.slice_bounds-upper_column-start
-slice_bounds-upper_column-start c = omega (arith, within c, within_factors c, whole (goal.at.slice_bounds-upper_column-start c).After-shared_slice_known-1)
-
-pub slice_bounds-upper_column-end : goal.slice_bounds-upper_column-end
-slice_bounds-upper_column-end c = omega (arith, within c, within_factors c, whole (goal.at.slice_bounds-upper_column-end c).After-shared_slice_known-1)
 
 pub offset_bounds-factors-b : goal.offset_bounds-factors-b
 offset_bounds-factors-b c =
@@ -82,26 +54,6 @@ offset_bounds-factors-b c =
       within_factors (goal.at.offset_bounds-factors-b c).In-loop-j,
       whole
           (goal.at.offset_bounds-factors-b c).After-shared_slice_known-1,
-    )
-
-pub slice_bounds-upper_column-count-in-loop-j : goal.slice_bounds-upper_column-count-in-loop-j
-slice_bounds-upper_column-count-in-loop-j c =
-    omega (
-      arith,
-      within (goal.at.slice_bounds-upper_column-count-in-loop-j c).In-loop-j,
-      within_factors (goal.at.slice_bounds-upper_column-count-in-loop-j
-          c).In-loop-j,
-      whole (goal.at.slice_bounds-upper_column-count-in-loop-j c).After-shared_slice_known-1,
-    )
-
-pub slice_bounds-upper_column-start-in-loop-j : goal.slice_bounds-upper_column-start-in-loop-j
-slice_bounds-upper_column-start-in-loop-j c =
-    omega (
-      arith,
-      within (goal.at.slice_bounds-upper_column-start-in-loop-j c).In-loop-j,
-      within_factors (goal.at.slice_bounds-upper_column-start-in-loop-j
-          c).In-loop-j,
-      whole (goal.at.slice_bounds-upper_column-start-in-loop-j c).After-shared_slice_known-1,
     )
 
 pub slice_bounds-upper_column-end-in-loop-j : goal.slice_bounds-upper_column-end-in-loop-j

@@ -1,13 +1,14 @@
 -- After each panel the slices hold the factors of its last step; the steps that are left give the elimination. Assumes nothing.
 use Prim.Native.Nat.{◌+◌, ◌-◌, ◌≤◌, min}
 use native.Mathlib.Nat.{zero-add, add_assoc}
+use mathlib.Core.Bool.{true}
 use mathlib.Core.Path.{◌≡◌, refl, sym, ap, subst, ◌∙◌}
 use mathlib.Core.List.{[]}
 use native.Mathlib.Omega.{arith}
 use borrow.Author.Rules.{rules}
 use lib.ListN.{length}
 use Rattle.numbers.specs.Each.{turns_from}
-use Rattle.store.specs.Columns.{columns}
+use Rattle.store.specs.Columns.{columns, is_matrix}
 use Rattle.store.proofs.Columns.{sized, same_matrix}
 use Rattle.elimination.specs.Elimination.{step, unfactored, eliminate}
 use Rattle.lu.specs.Inner.{Held}
@@ -16,7 +17,7 @@ use Rattle.lu.proofs.Slices.{held_unfactored, steps_begin}
 use Rattle.elimination.proofs.Step.{turns_join}
 use Rattle.factors.proofs.Swaps.{length_store}
 use Rattle.elimination.proofs.Tossing.{toss_begin, toss_join}
-use Rattle.lu.proofs.factor_in_place.Goals.{After-factor_panel-arg-in-loop-i-1}
+use Rattle.lu.proofs.factor_in_place.Goals.{After-factor_panel-arg-in-loop-i-1, At-loop-i}
 use Rattle.lu.proofs.factor_in_place.Goals as goal
 
 -- more than eight steps are left
@@ -25,6 +26,10 @@ left : (c : After-factor_panel-arg-in-loop-i-1) → let g = c.args in
 left c =
     let e = c.min-min_nrows_ncols.ensures in
     (omega (arith, e, c.loop-i-test.true), e, (sized _ _ _ c.requires.0).rows_most)
+
+-- the sizes that both calls ask for
+sizes : (c : At-loop-i) → let g = c.args in (is_matrix c.loop-i.s g.m g.n ≡ true) × (length c.loop-i.swaps ≡ 128)
+sizes c = (same_matrix _ _ _ _ c.loop-i.invariant.0 ∙ c.requires.0, c.loop-i.invariant.1 ∙ ap length c.requires.1 ∙ length_store [] (omega arith))
 
 pub loop-i-init : goal.loop-i-init
 loop-i-init c =
@@ -44,17 +49,8 @@ loop-i-init c =
       ),
     )
 
-pub overflow_sub-min_nrows_ncols : goal.overflow_sub-min_nrows_ncols
-overflow_sub-min_nrows_ncols c = rw c.min-min_nrows_ncols.ensures c.loop-i.invariant.2
-
-pub factor_panel-counts-requires : goal.factor_panel-counts-requires
-factor_panel-counts-requires c =
-    let pre = c.requires in
-    let few = (left c).0 in
-    record {
-      i_bound = (omega arith, omega arith, c.loop-i.invariant.3.0, c.loop-i.invariant.3.1);
-      n_value = (same_matrix _ _ _ _ c.loop-i.invariant.0 ∙ pre.0, c.loop-i.invariant.1 ∙ ap length pre.1 ∙ length_store [] (omega arith));
-    }
+pub factor_panel-counts-requires-clause-n_value : goal.factor_panel-counts-requires-clause-n_value
+factor_panel-counts-requires-clause-n_value c = sizes (goal.at.factor_panel-counts-requires-clause-n_value c).At-loop-i
 
 pub loop-i-preserved : goal.loop-i-preserved
 loop-i-preserved c =
@@ -89,30 +85,5 @@ loop-i-preserved c =
       ),
     )
 
-pub factor_steps-requires : goal.factor_steps-requires
-factor_steps-requires c =
-    let pre = c.requires in
-    record {
-      from_le_to = (omega (arith, c.loop-i.invariant.2), omega arith, omega arith, c.loop-i.invariant.3.0, c.loop-i.invariant.3.1);
-      n_value = (same_matrix _ _ _ _ c.loop-i.invariant.0 ∙ pre.0, c.loop-i.invariant.1 ∙ ap length pre.1 ∙ length_store [] (omega arith));
-    }
-
-pub returns : goal.returns
-returns c =
-    let g = c.args in
-    let e = c.min-min_nrows_ncols.ensures in
-    let f = c.loop-i.invariant.4.0 in
-    let h = c.loop-i.invariant.4.1.0 in
-    let upto = c.min-min_nrows_ncols.result in
-    let steps : turns_from step c.loop-i.i (upto - c.loop-i.i) f ≡ eliminate g.m (columns g.m g.n g.s.now) =
-    ap (λ j. turns_from step c.loop-i.i (j - c.loop-i.i) f) e ∙ c.loop-i.invariant.4.1.1 in
-    record {
-      held = subst (λ w. Held c.factor_steps.new.s g.m g.n c.factor_steps.new.swaps c.factor_steps.result.pairs w) steps (c.factor_steps.ensures.steps f h);
-      tossed_value = c.factor_steps.ensures.toss f h ∙ ap (λ j. c.loop-i.counts.tossed + toss_from c.loop-i.i (j - c.loop-i.i) f) e ∙ c.loop-i.invariant.4.1.2;
-    }
-
-pub overflow_add-i : goal.overflow_add-i
-overflow_add-i c = omega (arith, left (goal.at.overflow_add-i c).After-factor_panel-arg-in-loop-i-1)
-
-pub loop-i-smaller : goal.loop-i-smaller
-loop-i-smaller c = omega (arith, left (goal.at.loop-i-smaller c).After-factor_panel-arg-in-loop-i-1)
+pub factor_steps-requires-clause-n_value : goal.factor_steps-requires-clause-n_value
+factor_steps-requires-clause-n_value c = sizes (goal.at.factor_steps-requires-clause-n_value c).At-loop-i

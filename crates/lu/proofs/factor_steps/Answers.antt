@@ -14,16 +14,9 @@ use Rattle.elimination.specs.TossUps.{toss_at, toss_from}
 use Rattle.elimination.proofs.Tossing.{toss_turn, toss_done}
 use Rattle.lu.proofs.factor_steps.Goals as goal
 
-pub loop-i-init : goal.loop-i-init
-loop-i-init c =
-    (refl, refl, c.requires.from_le_to.0, (c.requires.from_le_to.3, c.requires.from_le_to.4, omega arith), λ f h. (f, (h, refl, refl)))
-
-pub factor_step-now-requires : goal.factor_step-now-requires
-factor_step-now-requires c =
-    record {
-      i_lt_m = (omega arith, omega arith, c.loop-i.invariant.3.0, c.loop-i.invariant.3.1);
-      n_value = (same_matrix _ _ _ _ c.loop-i.invariant.0 ∙ c.requires.n_value.0, c.loop-i.invariant.1 ∙ c.requires.n_value.1);
-    }
+pub factor_step-now-requires-clause-n_value : goal.factor_step-now-requires-clause-n_value
+factor_step-now-requires-clause-n_value c =
+    (same_matrix _ _ _ _ c.loop-i.invariant.0 ∙ c.requires.n_value.0, c.loop-i.invariant.1 ∙ c.requires.n_value.1)
 
 pub loop-i-preserved : goal.loop-i-preserved
 loop-i-preserved c =

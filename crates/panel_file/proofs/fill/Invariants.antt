@@ -8,5 +8,4 @@ use Rattle.panel_file.proofs.fill.Given as goal
 
 abbrev pub invariant-loop-k : goal.invariant-loop-k
 invariant-loop-k l =
-    (length l.dst ≡ length l.initial.dst) × (each_from (λ i v. number_at l.file (l.from + i)) l.k l.dst
-    ≡ list_of (length l.initial.dst) (λ i. number_at l.file (l.from + i)))
+    each_from (λ i v. number_at l.file (l.from + i)) l.k l.dst ≡ list_of (length l.initial.dst) (λ i. number_at l.file (l.from + i))
