@@ -49,9 +49,6 @@ grown c =
 pub loop-k-init : goal.loop-k-init
 loop-k-init c = building_none _ _ _ _ _ c.requires.swaps_value _ _ c.requires.swaps_value_2 refl
 
-pub shape_of-swaps-in_default : goal.shape_of-swaps-in_default
-shape_of-swaps-in_default c = c.add_column-answer.auto.swaps ∙ c.loop-k.invariant.room
-
 pub returns-in_default : goal.returns-in_default
 returns-in_default c =
     not_added _ _ _ _ _ c.requires.swaps_value _ _
@@ -106,15 +103,3 @@ offset_bounds-a-b c = omega (arith, within (goal.at.offset_bounds-a-b c).In-loop
 
 pub slice_bounds-add_column-end-in-loop-k-2 : goal.slice_bounds-add_column-end-in-loop-k-2
 slice_bounds-add_column-end-in-loop-k-2 c = (within (goal.at.slice_bounds-add_column-end-in-loop-k-2 c).In-loop-k).0
-
-pub shape_of-out-in_default : goal.shape_of-out-in_default
-shape_of-out-in_default c =
-    let same_long : let g = c.args in length (c.add_column-answer.new.s ++ drop (c.loop-k.k * g.m + g.m) c.loop-k.out) ≡ length g.out.now =
-    let g = c.args in length_front c.loop-k.out c.add_column-answer.new.s (c.loop-k.k * g.m + g.m) c.add_column-answer.auto.s ∙ c.loop-k.invariant.long in
-    same_long
-
-pub shape_of-out : goal.shape_of-out
-shape_of-out c = c.loop-k.invariant.long
-
-pub shape_of-swaps : goal.shape_of-swaps
-shape_of-swaps c = c.loop-k.invariant.room

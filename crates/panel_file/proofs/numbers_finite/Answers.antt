@@ -4,9 +4,6 @@ use mathlib.Core.Bool.{true, false}
 use Rattle.panel_file.proofs.Numbers.{test_next, test_end}
 use Rattle.panel_file.proofs.numbers_finite.Goals as goal
 
-pub loop-k-init : goal.loop-k-init
-loop-k-init c = refl
-
 pub loop-k-preserved : goal.loop-k-preserved
 loop-k-preserved c =
     sym (test_next _ _ c.loop-k.k _ _ true c.loop-k-test.true c.bits_at.ensures

@@ -10,13 +10,10 @@ use Rattle.ranking.proofs.list.Goals as goal
 pub loop-k-init : goal.loop-k-init
 loop-k-init c = (omega arith, filling_begins _ _ _)
 
-pub insert-requires : goal.insert-requires
-insert-requires c =
+pub insert-requires-clause-by_index : goal.insert-requires-clause-by_index
+insert-requires-clause-by_index c =
     let room : c.loop-k.k < length c.args.ranks.now = omega arith in
-    record {
-      pad = ((omega arith, omega arith), simp length-set (omega (arith, c.loop-k.invariant.1.size, c.loop-k.invariant.1.few)));
-      by_index = held_pads _ _ _ c.loop-k.ranks c.loop-k.count c.loop-k.k c.loop-k.invariant.1 room c.loop-k.invariant.0;
-    }
+    held_pads _ _ _ c.loop-k.ranks c.loop-k.count c.loop-k.k c.loop-k.invariant.1 room c.loop-k.invariant.0
 
 pub loop-k-preserved : goal.loop-k-preserved
 loop-k-preserved c =
@@ -30,9 +27,3 @@ loop-k-preserved c =
             ∙ w.if-is_listed.false))
       ],
     )
-
-pub returns : goal.returns
-returns c =
-    let whole = filling_ends _ _ _ c.args.ranks.now c.loop-k.ranks c.loop-k.count c.loop-k.k c.loop-k.invariant.1 c.loop-k-test.false c.loop-k.invariant.0
-    c.requires in
-    record { value = whole.0; ranks_after = whole.1 }

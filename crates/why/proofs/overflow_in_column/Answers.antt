@@ -38,22 +38,6 @@ taken c =
 kept : (c : After-slice_known-in-loop-k-1) → length c.solve_turn.new.b ≡ length c.loop-k.b
 kept c = c.solve_turn.auto.b
 
-pub row_of-requires : goal.row_of-requires
-row_of-requires c =
-    let g = c.args in
-    omega (arith, in_time (goal.at.row_of-requires c).In-loop-k, turns_most (pass_of g.upper) g.n)
-
-pub stored_row-row-requires : goal.stored_row-row-requires
-stored_row-row-requires c =
-    omega (
-      arith,
-      below (goal.at.stored_row-row-requires c).In-loop-k,
-      c.row_of.ensures,
-      kept
-          (goal.at.stored_row-row-requires c).After-slice_known-in-loop-k-1,
-      c.loop-k.invariant.long,
-    )
-
 pub returns-then-row-n : goal.returns-then-row-n
 unfolding first_row
 returns-then-row-n c =

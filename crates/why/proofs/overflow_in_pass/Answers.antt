@@ -33,10 +33,6 @@ part_is c =
     let wide : let g = c.args in length (columns g.n g.k g.x.now) ≡ g.k = let g = c.args in length_columns g.n g.k g.x.now in
     part_now c ∙ same_column _ _ _ _ _ _ _ c.loop-j.invariant.1 wide wide_now
 
-pub overflow_in_column-row-requires : goal.overflow_in_column-row-requires
-overflow_in_column-row-requires c =
-    (c.requires.0, column_length _ _ _ c.loop-j.x c.loop-j-test.true (size (goal.at.overflow_in_column-row-requires c).In-loop-j), c.requires.2)
-
 pub returns-then-row-n : goal.returns-then-row-n
 returns-then-row-n c =
     let wide_now : let g = c.args in length (columns g.n g.k c.loop-j.x) ≡ g.k = let g = c.args in length_columns g.n g.k c.loop-j.x in
@@ -97,15 +93,3 @@ offset_bounds-x-a c = omega (arith, within c)
 
 pub slice_bounds-overflow_in_column-end : goal.slice_bounds-overflow_in_column-end
 slice_bounds-overflow_in_column-end c = within c
-
-pub shape_of-x-then-row-n : goal.shape_of-x-then-row-n
-shape_of-x-then-row-n c =
-    let kept : let g = c.args in length c.overflow_in_column-row.new.b
-    ≡ length (mid_of (c.loop-j.j * g.n) (c.loop-j.j * g.n + g.n - c.loop-j.j * g.n) c.loop-j.x) = c.overflow_in_column-row.auto.b in
-    let long : let g = c.args in length (put_mid (c.loop-j.j * g.n) (c.loop-j.j * g.n + g.n - c.loop-j.j * g.n) c.loop-j.x c.overflow_in_column-row.new.b)
-    ≡ length g.x.now = let g = c.args in same_len_mid (c.loop-j.j * g.n) (c.loop-j.j * g.n + g.n - c.loop-j.j * g.n) c.loop-j.x
-    c.overflow_in_column-row.new.b kept ∙ c.loop-j.invariant.0 in
-    long
-
-pub shape_of-x : goal.shape_of-x
-shape_of-x c = c.loop-j.invariant.0

@@ -13,9 +13,6 @@ before_end : (c : After-plain_step-arg-1) → c.loop-i.i < min c.args.m
     c.args.n
 before_end c = let least = c.min-end.ensures in rw least at c.loop-i-test.true
 
-pub nonzero_div-result : goal.nonzero_div-result
-nonzero_div-result c = let h = before_end (goal.at.nonzero_div-result c).After-plain_step-arg-1 in omega arith
-
 pub returns-then-at-s : goal.returns-then-at-s
 returns-then-at-s c =
     let found = c.first_not_finite-at.ensures in
@@ -36,6 +33,3 @@ returns c = sym (stepping_end _ _ _ c.requires.0 _ _ c.loop-i.invariant (rw c.mi
 
 pub loop-i-init : goal.loop-i-init
 loop-i-init c = stepping_begin _ _ _ c.requires.0 c.requires.1
-
-pub nonzero_rem-result : goal.nonzero_rem-result
-nonzero_rem-result c = let h = before_end (goal.at.nonzero_rem-result c).After-plain_step-arg-1 in omega arith
