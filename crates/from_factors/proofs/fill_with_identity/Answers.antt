@@ -6,16 +6,7 @@ use lib.ListN.{length}
 use Rattle.store.proofs.Columns.{sized, column_end, column_length}
 use Rattle.from_factors.specs.Solving.{unit_column}
 use Rattle.from_factors.proofs.Written.{written_start, written_turn, written_end}
-use Rattle.from_factors.proofs.fill_with_identity.Goals.{After-slice_known-1, In-loop-j}
 use Rattle.from_factors.proofs.fill_with_identity.Goals as goal
-
--- the slice has its size, and in a turn column j ends within it
-whole : (c : After-slice_known-1) → length c.args.x.now ≡ c.args.n * c.args.n
-whole c = (sized _ _ _ c.requires).size
-
-within : (c : In-loop-j) → c.loop-j.j * c.args.n + c.args.n ≤ c.args.n *
-    c.args.n
-within c = column_end _ _ _ c.loop-j-test.true
 
 pub loop-j-init : goal.loop-j-init
 loop-j-init c = written_start _ _ _ _ c.requires

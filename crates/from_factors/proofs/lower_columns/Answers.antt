@@ -7,37 +7,20 @@ use Rattle.store.proofs.Columns.{sized, column_within, column_length, part_colum
 use Rattle.from_factors.specs.Triangles.{lower_of, lower_factor}
 use Rattle.from_factors.proofs.Written.{written_start, written_turn, written_flat}
 use Rattle.from_factors.proofs.lower_columns.Invariants.{lower}
-use Rattle.from_factors.proofs.lower_columns.Goals.{In-loop-j}
 use Rattle.from_factors.proofs.lower_columns.Goals as goal
 
--- in a turn, column j ends within the slice and within the factors
-within : (c : In-loop-j) → c.loop-j.j * c.args.m + c.args.m ≤ length c.loop-j.out
-within c = column_within _ _ _ c.loop-j.out c.loop-j-test.true c.loop-j.invariant.size
-
-within_factors : (c : In-loop-j) → c.loop-j.j * c.args.m + c.args.m ≤ length
-    c.args.factors.now
-within_factors c =
-    column_within _ c.args.n _ c.args.factors.now (omega arith)
-    (sized _ _ _ c.requires.0).size
-
 pub loop-j-init : goal.loop-j-init
-loop-j-init c = written_start _ _ _ _ c.requires.1
+loop-j-init c = ((sized _ _ _ c.requires.0).size, written_start _ _ _ _ c.requires.1)
 
 pub loop-j-preserved : goal.loop-j-preserved
 loop-j-preserved c =
     let g = c.args in
-    written_turn (lower g.m g.n g.factors.now) _ _ _ _ _ c.loop-j-test.true c.loop-j.invariant c.lower_column.auto.dst
-    (c.lower_column.ensures ∙ ap (lower_of c.loop-j.j) (part_column g.m g.n c.loop-j.j g.factors.now (omega arith)))
+    (
+      c.loop-j.invariant.0,
+      written_turn (lower g.m g.n g.factors.now) _ _ _ _ _ c.loop-j-test.true c.loop-j.invariant.1 c.lower_column.auto.dst
+          (c.lower_column.ensures ∙ ap (lower_of c.loop-j.j) (part_column g.m g.n c.loop-j.j g.factors.now (omega arith))),
+    )
 
 pub returns : goal.returns
 unfolding lower_factor
-returns c = written_flat _ _ _ _ _ c.loop-j-test.false c.loop-j.invariant
-
-pub slice_bounds-lower_column-end-in-loop-j : goal.slice_bounds-lower_column-end-in-loop-j
-slice_bounds-lower_column-end-in-loop-j c =
-    omega (
-      arith,
-      within (goal.at.slice_bounds-lower_column-end-in-loop-j c).In-loop-j,
-      within_factors (goal.at.slice_bounds-lower_column-end-in-loop-j
-          c).In-loop-j,
-    )
+returns c = written_flat _ _ _ _ _ c.loop-j-test.false c.loop-j.invariant.1
