@@ -29,14 +29,12 @@ left c =
 
 -- the sizes that both calls ask for
 sizes : (c : At-loop-i) → let g = c.args in (is_matrix c.loop-i.s g.m g.n ≡ true) × (length c.loop-i.swaps ≡ 128)
-sizes c = (same_matrix _ _ _ _ c.loop-i.invariant.0 ∙ c.requires.0, c.loop-i.invariant.1 ∙ ap length c.requires.1 ∙ length_store [] (omega arith))
+sizes c = (same_matrix _ _ _ _ c.loop-i.auto.s ∙ c.requires.0, c.loop-i.auto.swaps ∙ ap length c.requires.1 ∙ length_store [] (omega arith))
 
 pub loop-i-init : goal.loop-i-init
 loop-i-init c =
     let g = c.args in
     let size = (sized g.m g.n g.s.now c.requires.0).size in (
-      refl,
-      refl,
       omega arith,
       (omega arith, omega arith),
       (
@@ -58,8 +56,8 @@ loop-i-preserved c =
     let i = c.loop-i.i in
     let end = min g.m g.n in
     let here = (left (goal.at.loop-i-preserved c).After-factor_panel-arg-in-loop-i-1).0 in
-    let f = c.loop-i.invariant.4.0 in
-    let h = c.loop-i.invariant.4.1.0 in
+    let f = c.loop-i.invariant.2.0 in
+    let h = c.loop-i.invariant.2.1.0 in
     let four = i + 4 - i in
     let there : i + 4 ≡ i + four = omega arith in
     let whole : four + (end - (i + 4)) ≡ end - i = omega arith in
@@ -68,19 +66,17 @@ loop-i-preserved c =
     ap (λ j. turns_from step j (end - (i + 4)) f') there ∙ turns_join step i four (end - (i + 4)) f ∙ ap (λ j. turns_from step i j f) whole in
     let toss : toss_from i four f + toss_from (i + 4) (end - (i + 4)) f' ≡ toss_from i (end - i) f =
     ap (λ j. toss_from i four f + toss_from j (end - (i + 4)) f') there ∙ sym (toss_join four i (end - (i + 4)) f) ∙ ap (λ j. toss_from i j f) whole in (
-      c.factor_panel-counts.auto.s ∙ c.loop-i.invariant.0,
-      search rules,
       here,
       (c.factor_panel-counts.ensures.few.0, c.factor_panel-counts.ensures.few.1),
       (
         f',
         (
           c.factor_panel-counts.ensures.steps f h,
-          steps ∙ c.loop-i.invariant.4.1.1,
+          steps ∙ c.loop-i.invariant.2.1.1,
           ap (λ t. t + toss_from (i + 4) (end - (i + 4)) f') (c.factor_panel-counts.ensures.toss f h)
               ∙ add_assoc c.loop-i.counts.tossed (toss_from i four f) (toss_from (i + 4) (end - (i + 4)) f')
               ∙ ap (λ t. c.loop-i.counts.tossed + t) toss
-              ∙ c.loop-i.invariant.4.1.2,
+              ∙ c.loop-i.invariant.2.1.2,
         ),
       ),
     )

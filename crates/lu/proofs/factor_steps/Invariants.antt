@@ -11,7 +11,7 @@ use Rattle.lu.proofs.factor_steps.Given as goal
 
 abbrev pub invariant-loop-i : goal.invariant-loop-i
 invariant-loop-i l =
-    (length l.s ≡ length l.initial.s) × (length l.swaps ≡ length l.initial.swaps) × (l.i ≤ l.to) × ((l.now.pairs ≤ l.i) × (l.now.tossed ≤ l.i)
+    ((l.now.pairs ≤ l.i) × (l.now.tossed ≤ l.i)
     × (l.initial.now.pairs ≤ l.now.pairs))
     × ((f : Factors) → Held l.initial.s l.m l.n l.initial.swaps l.initial.now.pairs f → (g : Factors) × (Held l.s l.m l.n l.swaps l.now.pairs
     g × (turns_from step l.i (l.to - l.i) g ≡ turns_from step l.from (l.to - l.from) f) × (l.now.tossed + toss_from l.i (l.to - l.i) g

@@ -6,4 +6,4 @@ use Rattle.ranking.proofs.Listing.{Filling}
 use Rattle.ranking.proofs.list.Given as goal
 
 abbrev pub invariant-loop-k : goal.invariant-loop-k
-invariant-loop-k l = (l.k ≤ length l.loads) × Filling (choice_by l.all l.loads) l.loads l.initial.ranks l.ranks l.count l.k
+invariant-loop-k l = Filling (choice_by l.all l.loads) l.loads l.initial.ranks l.ranks l.count l.k
