@@ -6,7 +6,7 @@ use native.Mathlib.Omega.{arith}
 use lib.ListN.{length, take, drop, length-drop}
 use lib.Seq.{length-take-le, length_front}
 use Rattle.numbers.specs.Column.{Column}
-use Rattle.store.proofs.Columns.{sized, column_within}
+use Rattle.store.proofs.Columns.{column_within}
 use Rattle.lu.proofs.Shape.{ok}
 use Rattle.building_up.proofs.Build.{building_none, Grown, went_on, gave_up, all_added, not_added}
 use Rattle.building_up.proofs.add_all.Goals.{In-Accepted}

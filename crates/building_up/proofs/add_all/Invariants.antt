@@ -1,5 +1,4 @@
 -- After k columns the slices hold the outcome of factoring the first k (`Build`). Assumes nothing.
-use Prim.Native.Nat.{◌-◌}
 use Rattle.building_up.proofs.Build.{Building}
 use Rattle.building_up.proofs.add_all.Given as goal
 

@@ -1,12 +1,9 @@
 -- The factors that are left from row i on give the whole product. Assumes nothing.
-use Prim.Native.Nat.{◌*◌, ◌+◌, ◌≤◌}
 use mathlib.Core.Path.{sym, ap, ◌∙◌}
-use native.Mathlib.Omega.{arith}
-use lib.ListN.{length}
 use lib.Ieee.{nan, mul, binary64}
 use Rattle.numbers.proofs.Each.{turns_begin, turns_next, turns_done}
 use Rattle.store.specs.Columns.{columns}
-use Rattle.store.proofs.Columns.{sized, column_within, entry_at}
+use Rattle.store.proofs.Columns.{sized, entry_at}
 use Rattle.from_factors.specs.Determinant.{times_diagonal, diagonal_product}
 use Rattle.from_factors.proofs.diagonal_product.Goals as goal
 
@@ -17,11 +14,10 @@ loop-i-init c = ((sized _ _ _ c.requires).size, turns_begin _ _ _)
 pub loop-i-preserved : goal.loop-i-preserved
 unfolding times_diagonal
 loop-i-preserved c =
-    let g = c.args in
-    (
+    let g = c.args in (
       c.loop-i.invariant.0,
       turns_next (times_diagonal (columns g.n g.n g.factors.now)) _ _ _ _ c.loop-i-test.true
-    (ap (mul binary64 c.loop-i.res) (entry_at g.n g.n c.loop-i.i c.loop-i.i g.factors.now nan c.loop-i-test.true c.loop-i-test.true)) ∙ c.loop-i.invariant.1,
+          (ap (mul binary64 c.loop-i.res) (entry_at g.n g.n c.loop-i.i c.loop-i.i g.factors.now nan c.loop-i-test.true c.loop-i-test.true)) ∙ c.loop-i.invariant.1,
     )
 
 pub returns : goal.returns

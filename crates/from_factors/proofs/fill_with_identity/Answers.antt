@@ -1,9 +1,7 @@
 -- The columns that are left to write from column j on give the identity. Assumes nothing.
-use Prim.Native.Nat.{ℕ, ◌*◌, ◌+◌, ◌≤◌}
-use mathlib.Core.Path.{◌≡◌, sym, ap, ◌∙◌}
-use native.Mathlib.Omega.{arith}
-use lib.ListN.{length}
-use Rattle.store.proofs.Columns.{sized, column_end, column_length}
+use Prim.Native.Nat.{ℕ}
+use mathlib.Core.Path.{ap, ◌∙◌}
+use Rattle.store.proofs.Columns.{column_length}
 use Rattle.from_factors.specs.Solving.{unit_column}
 use Rattle.from_factors.proofs.Written.{written_start, written_turn, written_end}
 use Rattle.from_factors.proofs.fill_with_identity.Goals as goal

@@ -1,5 +1,4 @@
 -- The columns that are left to write from column j on give the identity. Assumes nothing.
-use Prim.Native.Nat.{◌-◌}
 use Rattle.from_factors.specs.Solving.{unit_column}
 use Rattle.from_factors.proofs.Written.{Written}
 use Rattle.from_factors.proofs.fill_with_identity.Given as goal

@@ -1,10 +1,8 @@
 -- The columns of U that are left to write from column j on give all of them. Assumes nothing.
-use Prim.Native.Nat.{ℕ, ◌*◌, ◌+◌, ◌≤◌}
-use mathlib.Core.Path.{◌≡◌, sym, ap₂, ◌∙◌}
-use native.Mathlib.Omega.{arith}
-use lib.ListN.{length}
+use Prim.Native.Nat.{ℕ}
+use mathlib.Core.Path.{ap₂, ◌∙◌}
 use Rattle.numbers.specs.Column.{Column}
-use Rattle.store.proofs.Columns.{sized, column_end, column_within, column_length, part_column}
+use Rattle.store.proofs.Columns.{sized, column_length, part_column}
 use Rattle.from_factors.specs.Triangles.{upper_of, upper_factor}
 use Rattle.from_factors.proofs.Written.{written_start, written_turn, written_flat}
 use Rattle.from_factors.proofs.upper_columns.Invariants.{upper}
@@ -16,8 +14,7 @@ loop-j-init c = ((sized _ _ _ c.requires.0).size, written_start _ _ _ _ c.requir
 pub loop-j-preserved : goal.loop-j-preserved
 loop-j-preserved c =
     let g = c.args in
-    let t = c.loop-j-test.true in
-    (
+    let t = c.loop-j-test.true in (
       c.loop-j.invariant.0,
       written_turn (upper g.k g.m g.n g.factors.now) _ _ _ _ _ t c.loop-j.invariant.1 c.upper_column.auto.dst
           (c.upper_column.ensures ∙ ap₂ (λ (i : ℕ) (x : Column). upper_of i c.loop-j.j x)

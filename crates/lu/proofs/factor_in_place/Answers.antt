@@ -2,16 +2,14 @@
 use Prim.Native.Nat.{◌+◌, ◌-◌, ◌≤◌, min}
 use native.Mathlib.Nat.{zero-add, add_assoc}
 use mathlib.Core.Bool.{true}
-use mathlib.Core.Path.{◌≡◌, refl, sym, ap, subst, ◌∙◌}
+use mathlib.Core.Path.{◌≡◌, sym, ap, ◌∙◌}
 use mathlib.Core.List.{[]}
 use native.Mathlib.Omega.{arith}
-use borrow.Author.Rules.{rules}
 use lib.ListN.{length}
 use Rattle.numbers.specs.Each.{turns_from}
 use Rattle.store.specs.Columns.{columns, is_matrix}
 use Rattle.store.proofs.Columns.{sized, same_matrix}
-use Rattle.elimination.specs.Elimination.{step, unfactored, eliminate}
-use Rattle.lu.specs.Inner.{Held}
+use Rattle.elimination.specs.Elimination.{step, unfactored}
 use Rattle.elimination.specs.TossUps.{toss_from}
 use Rattle.lu.proofs.Slices.{held_unfactored, steps_begin}
 use Rattle.elimination.proofs.Step.{turns_join}

@@ -1,7 +1,6 @@
 -- After each panel the slices hold the factors of its last step; the steps that are left give the elimination. Assumes nothing.
 use Prim.Native.Nat.{◌+◌, ◌-◌, ◌≤◌, min}
 use mathlib.Core.Path.{◌≡◌}
-use lib.ListN.{length}
 use Rattle.numbers.specs.Each.{turns_from}
 use Rattle.store.specs.Columns.{columns}
 use Rattle.factors.specs.Factors.{Factors}

@@ -3,10 +3,9 @@ use Prim.Native.Nat.{ℕ, ◌+◌, ◌-◌}
 use native.Mathlib.Nat.{add-zero, add_assoc}
 use mathlib.Core.Path.{refl, sym, ap, subst, ◌∙◌}
 use native.Mathlib.Omega.{arith}
-use borrow.Author.Rules.{rules}
 use Rattle.numbers.proofs.Each.{turns_next, turns_done}
 use Rattle.store.specs.Steps.{Matrix, column}
-use Rattle.store.proofs.Columns.{sized, same_matrix}
+use Rattle.store.proofs.Columns.{same_matrix}
 use Rattle.factors.specs.Factors.{Factors}
 use Rattle.elimination.specs.Elimination.{step}
 use Rattle.lu.specs.Inner.{Held}

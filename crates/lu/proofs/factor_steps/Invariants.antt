@@ -1,7 +1,6 @@
 -- After each step the slices hold the factors of that step, whatever was held before; the steps that are left give the whole. Assumes nothing.
 use Prim.Native.Nat.{◌+◌, ◌-◌, ◌≤◌}
 use mathlib.Core.Path.{◌≡◌}
-use lib.ListN.{length}
 use Rattle.numbers.specs.Each.{turns_from}
 use Rattle.factors.specs.Factors.{Factors}
 use Rattle.elimination.specs.Elimination.{step}

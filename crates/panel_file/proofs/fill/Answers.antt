@@ -1,8 +1,7 @@
 -- What is left to write from number k on is `each_from` from k on. Assumes nothing.
 use Prim.Native.Nat.{ℕ, ◌+◌}
-use mathlib.Core.Path.{◌≡◌, refl, sym, ap, ◌∙◌}
+use mathlib.Core.Path.{◌≡◌, sym, ap, ◌∙◌}
 use native.Mathlib.Omega.{arith}
-use borrow.Author.Rules.{rules}
 use lib.ListN.{set}
 use lib.Ieee.{Float, nan, binary64, of_bits}
 use lib.Ieee.Scale.{finite}

@@ -1,5 +1,5 @@
 -- What is left to test from number k on gives the whole answer. Assumes nothing.
-use mathlib.Core.Path.{refl, sym, ◌∙◌}
+use mathlib.Core.Path.{sym, ◌∙◌}
 use mathlib.Core.Bool.{true, false}
 use Rattle.panel_file.proofs.Numbers.{test_next, test_end}
 use Rattle.panel_file.proofs.numbers_finite.Goals as goal

@@ -1,5 +1,4 @@
 -- What is left to test from number k on gives the whole answer. Assumes nothing.
-use Prim.Native.Nat.{◌-◌}
 use mathlib.Core.Path.{◌≡◌}
 use lib.ListN.{drop}
 use Rattle.numbers.specs.Each.{list_of}

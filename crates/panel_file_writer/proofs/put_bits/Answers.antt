@@ -1,6 +1,6 @@
 -- What is left at byte k are the bits divided by 256 so often (`Putting`). Assumes nothing.
 use Prim.Native.Nat.{◌+◌}
-use mathlib.Core.Path.{◌≡◌, ◌∙◌}
+use mathlib.Core.Path.{◌∙◌}
 use native.Mathlib.Omega.{arith}
 use borrow.Rule.Slice.PartMut.{mid_len}
 use Rattle.panel_file_writer.proofs.Fields.{put_begin, put_turn, put_end}

@@ -1,5 +1,4 @@
 -- The numbers before number k are written, and what stands before them stays (`Filling`). Assumes nothing.
-use mathlib.Core.Path.{refl}
 use native.Mathlib.Omega.{arith}
 use Rattle.finite.proofs.Finite.{finite_entry}
 use Rattle.panel_file.proofs.Bits.{no_nan}

@@ -1,6 +1,4 @@
 -- The numbers before number k are written, and what stands before them stays (`Filling`). Assumes nothing.
-use Prim.Native.Nat.{◌-◌}
-use lib.ListN.{length}
 use Rattle.panel_file_writer.proofs.Fields.{Filling}
 use Rattle.panel_file_writer.proofs.put_numbers.Given as goal
 

@@ -1,6 +1,5 @@
 -- What is left to do at place j gives the whole (`Pushing`). Assumes nothing.
-use mathlib.Core.Path.{refl, sym, ◌∙◌}
-use native.Mathlib.Omega.{arith}
+use mathlib.Core.Path.{sym, ◌∙◌}
 use Rattle.ranking.proofs.Inserting.{turn_moves, turn_stays, turns_end}
 use Rattle.ranking.proofs.insert.Goals.{then-is_ahead, else-is_ahead}
 use Rattle.ranking.proofs.insert.Goals as goal

@@ -1,5 +1,4 @@
 -- What is left to do at place j gives the whole (`Pushing`). Assumes nothing.
-use Prim.Native.Nat.{◌-◌}
 use Rattle.ranking.proofs.Inserting.{Pushing}
 use Rattle.ranking.proofs.insert.Given as goal
 

@@ -2,8 +2,8 @@
 use Prim.Native.Nat.{◌<◌}
 use mathlib.Core.Path.{sym, ◌∙◌}
 use native.Mathlib.Omega.{arith}
-use lib.ListN.{length, length-set}
-use Rattle.ranking.proofs.Listing.{held_pads, turn_with, turn_without, filling_begins, filling_ends}
+use lib.ListN.{length}
+use Rattle.ranking.proofs.Listing.{held_pads, turn_with, turn_without, filling_begins}
 use Rattle.ranking.proofs.list.Goals.{then-is_listed, else-is_listed}
 use Rattle.ranking.proofs.list.Goals as goal
 
@@ -25,4 +25,3 @@ loop-k-preserved c =
       | else-is_listed w ↦ rw (w.ranks-is, w.count-is) (turn_without _ _ _ c.loop-k.ranks c.loop-k.count c.loop-k.k c.loop-k.invariant room (test
           ∙ w.if-is_listed.false))
     ]
-

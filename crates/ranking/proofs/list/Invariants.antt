@@ -1,6 +1,4 @@
 -- After k pads the first k slots hold the chosen ones of them, and 0 behind (`Filling`). Assumes nothing.
-use Prim.Native.Nat.{◌-◌, ◌≤◌}
-use lib.ListN.{length}
 use Rattle.ranking.specs.Inner.{choice_by}
 use Rattle.ranking.proofs.Listing.{Filling}
 use Rattle.ranking.proofs.list.Given as goal

@@ -1,9 +1,9 @@
 -- The turns that are left from diagonal i on give the whole product; what is made so far keeps its range, so the next turn has room. Assumes nothing.
 use mathlib.Core.Path.{◌≡◌, sym, ap, ◌∙◌, subst}
-use Prim.Native.Nat.{ℕ, suc, ◌*◌, ◌+◌, ◌<◌}
+use Prim.Native.Nat.{ℕ, suc, ◌*◌, ◌+◌}
 use native.Mathlib.Numerals.{add-one}
 use native.Mathlib.Omega.{arith}
-use lib.ListN.{length, get_or}
+use lib.ListN.{get_or}
 use lib.Ieee.{nan}
 use Rattle.numbers.proofs.Each.{turns_begin, turns_next, turns_done}
 use Rattle.store.specs.Columns.{columns}

@@ -1,12 +1,10 @@
 -- What `position` answers is the place of the first number that is not finite, and the length where there is none. Assumes nothing.
-use Prim.Native.Nat.{suc, ◌+◌}
-use mathlib.Core.Path.{◌≡◌, refl, sym, ap, ◌∙◌}
-use mathlib.Core.Bool.{not, cond}
+use mathlib.Core.Path.{◌≡◌, refl, ap, ◌∙◌}
+use mathlib.Core.Bool.{not}
 use native.Mathlib.Omega.{arith}
-use lib.Dec.{ltb}
 use lib.ListN.{length}
 use lib.Ieee.Scale.{finite}
-use Rattle.std.proofs.Common.{rules, tests, Some, None, unwrap_or}
+use Rattle.std.proofs.Common.{rules, tests, unwrap_or}
 use Rattle.std.specs.List.{position_or_len, position}
 use Rattle.std.proofs.lemmas.Grind.{common_steps}
 use Rattle.std.proofs.lemmas.Bool.Decides.{nat_tests}

@@ -1,9 +1,6 @@
 -- What is left to look at from column j on gives the whole answer. Assumes nothing.
 use mathlib.Core.Path.{refl, sym, ap, ◌∙◌}
-use Prim.Native.Nat.{◌+◌, ◌*◌, ◌≤◌}
-use native.Mathlib.Omega.{arith}
-use lib.ListN.{length}
-use Rattle.store.proofs.Columns.{sized, column_within}
+use Rattle.store.proofs.Columns.{sized}
 use Rattle.why.specs.Inner.{column_or}
 use Rattle.why.proofs.Lowest.{lowest_next, lowest_here, lowest_end}
 use Rattle.why.proofs.lowest_dead.Goals as goal

@@ -11,7 +11,7 @@ use Rattle.store.specs.Columns.{columns}
 use Rattle.triangular_passes.specs.declared.Pass.{Pass}
 use Rattle.triangular_passes.specs.Triangular.{row_at, turns_of, turn, turned_by}
 use Rattle.solve.specs.Reason.{first_row}
-use Rattle.triangular_passes.proofs.Turns.{turns_most, turn_row}
+use Rattle.triangular_passes.proofs.Turns.{turn_row}
 use Rattle.why.specs.Inner.{pass_of}
 use Rattle.why.proofs.Column.{row_fine, row_spoilt, turning_begin, turning_on, turning_found, turning_end, turn_taken}
 use Rattle.why.proofs.overflow_in_column.Goals.{After-slice_known-in-loop-k-1, In-loop-k}

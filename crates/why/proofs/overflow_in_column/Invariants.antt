@@ -1,7 +1,5 @@
 -- After k turns, what is left gives the first result that is not finite and the solved column (`Turning`). Assumes nothing.
-use Prim.Native.Nat.{◌-◌}
 use Rattle.store.specs.Columns.{columns}
-use Rattle.triangular_passes.specs.Triangular.{turns_of}
 use Rattle.why.specs.Inner.{pass_of}
 use Rattle.why.proofs.Column.{Turning}
 use Rattle.why.proofs.overflow_in_column.Given as goal

@@ -1,11 +1,11 @@
 -- After j columns, what is left gives the first result that is not finite and the solved columns (`Passing`). Assumes nothing.
 use mathlib.Core.Path.{◌≡◌, refl, sym, ap, ◌∙◌}
-use Prim.Native.Nat.{◌+◌, ◌-◌, ◌*◌, ◌≤◌}
+use Prim.Native.Nat.{◌+◌, ◌-◌, ◌*◌}
 use native.Mathlib.Omega.{arith}
-use borrow.Rule.Slice.PartMut.{mid_of, put_mid, same_len_mid}
+use borrow.Rule.Slice.PartMut.{mid_of, same_len_mid}
 use lib.ListN.{length}
 use Rattle.store.specs.Columns.{columns}
-use Rattle.store.proofs.Columns.{sized, length_columns, column_length, part_column, column_lent}
+use Rattle.store.proofs.Columns.{sized, length_columns, part_column, column_lent}
 use Rattle.store.specs.Steps.{column}
 use Rattle.triangular_passes.specs.Triangular.{solved_column}
 use Rattle.solve.specs.Reason.{first_in_column}

@@ -1,7 +1,6 @@
 -- After i steps, what is left to store gives the whole answer (`Stepping`). Assumes nothing.
 use Prim.Native.Nat.{◌<◌, min}
 use mathlib.Core.Path.{sym}
-use native.Mathlib.Omega.{arith}
 use Rattle.why.specs.Why.{told_factor}
 use Rattle.why.proofs.Results.{failing_all, failing_some}
 use Rattle.why.proofs.Steps.{stepping_begin, stepping_on, stepping_found, stepping_end}

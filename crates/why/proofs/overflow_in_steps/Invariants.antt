@@ -1,5 +1,4 @@
 -- After i steps, what is left to store gives the whole answer (`Stepping`). Assumes nothing.
-use Prim.Native.Nat.{◌-◌, min}
 use Rattle.why.proofs.Steps.{Stepping}
 use Rattle.why.proofs.overflow_in_steps.Given as goal
 
