@@ -14,10 +14,11 @@ loop-i-init c = ((sized _ _ _ c.requires).size, turns_begin _ _ _)
 pub loop-i-preserved : goal.loop-i-preserved
 unfolding times_diagonal
 loop-i-preserved c =
-    let g = c.args in (
+    let g = c.args in
+    let t = c.loop-i-test.true in (
       c.loop-i.invariant.0,
-      turns_next (times_diagonal (columns g.n g.n g.factors.now)) _ _ _ _ c.loop-i-test.true
-          (ap (mul binary64 c.loop-i.res) (entry_at g.n g.n c.loop-i.i c.loop-i.i g.factors.now nan c.loop-i-test.true c.loop-i-test.true)) ∙ c.loop-i.invariant.1,
+      turns_next (times_diagonal (columns g.n g.n g.factors.now)) _ _ _ _ t
+          (ap (mul binary64 c.loop-i.res) (entry_at g.n g.n c.loop-i.i c.loop-i.i g.factors.now nan t t)) ∙ c.loop-i.invariant.1,
     )
 
 pub returns : goal.returns
