@@ -23,8 +23,7 @@ fn add_all(a: &[f64], m: usize, n: usize, out: &mut [f64], swaps: &mut [usize]) 
         dead: 0,
     };
     let mut tossed = 0;
-    let mut k = 0;
-    while k < n {
+    for k in 0..n {
         let b = k * m;
         let e = b + m;
         let answer = adding::add_column(&mut out[..e], &a[b..e], swaps, told);
@@ -37,7 +36,6 @@ fn add_all(a: &[f64], m: usize, n: usize, out: &mut [f64], swaps: &mut [usize]) 
         };
         told = next;
         tossed += own;
-        k += 1;
     }
     Factored::Accepted {
         told,
