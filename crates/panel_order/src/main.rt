@@ -7,7 +7,7 @@ fn skip_some() -> bool {
     io::read_full(0, &mut rest) == rest.len()
 }
 
-// A proved loop has to end, and nothing says that the input does: so it has as many turns as no run uses up.
+// A proved loop has to end, and nothing says that the input does: so the loop has more turns than any run uses up.
 fn skip_rest() {
     for _ in 0..u64::MAX {
         if !skip_some() {

@@ -116,7 +116,7 @@ fn read_some(rt: HostRuntime, place: Place, name: &mut [u8]) -> Place {
     }
 }
 
-// Reads the list to its end. A proved loop has to end, and nothing says that the input does: so it has as many turns as no run uses up.
+// Reads the list to its end. A proved loop has to end, and nothing says that the input does: so the loop has more turns than any run uses up.
 fn read_list(rt: HostRuntime, name: &mut [u8]) -> Season {
     let mut place = Place {
         season: Season::new(),

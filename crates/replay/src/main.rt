@@ -51,7 +51,7 @@ fn next_case(text: &mut Text, at: usize, bytes: &mut Bytes) -> Place {
     }
 }
 
-// Runs case after case, and writes out the text. Nothing says that an input ends, so the loop has as many turns as no run uses up.
+// Runs case after case, and writes out the text. Nothing says that an input ends, so the loop has more turns than any run uses up.
 fn all_cases(text: &mut Text, bytes: &mut Bytes) {
     let mut place = Place { at: 0, going: true };
     for _ in 0..u64::MAX {
