@@ -26,13 +26,11 @@ fn hand_over(lengths: &[usize], bytes: &[u8]) -> Handed {
         season: Season::new(),
     };
     let mut at = 0;
-    let mut k = 0;
-    while k < lengths.len() {
-        let end = end_of(bytes, at, lengths[k]);
+    for &length in lengths {
+        let end = end_of(bytes, at, length);
         let season = handed.season;
         handed = season.with_file(&bytes[at..end]);
         at = end;
-        k += 1;
     }
     handed
 }
