@@ -14,7 +14,8 @@ use Rattle.std.proofs.Common.{Result, Err}
 use Rattle.std.specs.Result.{IsErrAnd}
 use Rattle.std.proofs.lemmas.Result.{err_from_is_err_and}
 use Rattle.refusals.specs.declared.Refusal.{Refusal}
-use Rattle.refusals.specs.declared.Refusal.TheVariants.{Size, NotSquare, Length, SwapList, NotFinite, Singular, Overflow, NotAPanelFile, DeadColumns, SeasonFull}
+use Rattle.refusals.specs.declared.Refusal.TheVariants.{Size, NotSquare, Length, SwapList, NotFinite, Singular, Overflow}
+use Rattle.refusals.specs.declared.Refusal.TheVariants.{NotAPanelFile, DeadColumns, SeasonFull}
 use Rattle.refusals.specs.Outcome.{Outcome, done, refused, outcome, number, number_of, first_holding, tested, and_then, Call, leaving}
 use Rattle.refusals.specs.Refusals.{seventh}
 
