@@ -51,19 +51,15 @@ module _ (r : Record) (made : Result Factored Refusal) (tossed : ℕ) (o : Outco
 -- ---- an answer of one value, through a pointer: as it was where it is refused, or zero where it is refused with 7
 module _ {A : Type 0} (made : Result A Refusal) (o : Outcome A) (e : outcome made ≡ o) (zero was : A) where
   pub value_told : (x : A) → made ≡ Ok x → (0 ≡ number_of o) × ((x ≡ value_after o was) × (x ≡ result_after zero o was))
-  unfolding value_after result_after
   value_told x is = rw (sym e ∙ ap outcome is) (refl, (refl, refl))
 
   pub value_kept : (refusal : Refusal) → made ≡ Err refusal → (number refusal ≡ number_of o) × (was ≡ value_after o was)
-  unfolding value_after
   value_kept refusal is = rw (sym e ∙ ap outcome is) (refl, refl)
 
   pub value_seven : (refusal : Refusal) → made ≡ Err refusal → refusal ≡ Overflow → (number refusal ≡ number_of o) × (zero ≡ result_after zero o was)
-  unfolding result_after
   value_seven refusal is h = rw (sym e ∙ ap outcome is, h) (refl, refl)
 
   pub value_left : (refusal : Refusal) → made ≡ Err refusal → (refusal ≡ Overflow → ⊥) → (number refusal ≡ number_of o) × (was ≡ result_after zero o was)
-  unfolding result_after
   value_left refusal is h = rw (sym e ∙ ap outcome is, ne_eqb (number refusal) 7 (λ s. h (only_overflow refusal s))) (refl, refl)
 
 -- ---- the exponent of a scaled determinant, which is copied by its sign and magnitude

@@ -10,11 +10,9 @@ use Rattle.ffi.specs.Exports.{count_in}
 use Rattle.ffi_files.specs.Files.{left_with}
 
 pub count_told : (o : Outcome ℕ) (count : ℕ) → done count ≡ o → (0 ≡ number_of o) × (count ≡ count_in o)
-unfolding count_in
 count_told o count d = (ap number_of d, ap count_in d)
 
 pub no_count : (o : Outcome ℕ) (number : ℕ) → refused number ≡ o → (number ≡ number_of o) × (0 ≡ count_in o)
-unfolding count_in
 no_count o number d = (ap number_of d, ap count_in d)
 
 -- writing says the same of its answer by itself

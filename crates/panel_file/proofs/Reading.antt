@@ -1,11 +1,12 @@
 -- The reader as its tests go: what a file that is not refused is known by, and the two ends of the call. By the tests in their order. Assumes nothing.
 use mathlib.Core.Path.{◌≡◌, refl, sym, ap, ◌∙◌}
-use mathlib.Core.Bool.{Bool, true, false, not, cond, ◌&&◌}
+use mathlib.Core.Bool.{Bool, true, false, not, ◌&&◌}
 use mathlib.Core.List.{List, [], ◌∷◌, ◌++◌}
 use Prim.Native.Nat.{ℕ, ◌+◌, ◌*◌, ◌≤◌, ◌<◌}
 use native.Mathlib.Nat.{mul-le-mul}
 use native.Mathlib.Omega.{arith}
-use borrow.Author.Tests.{eqb-true, eq-eqb, ne_eqb, not-false}
+use borrow.Author.Rules.{rules}
+use borrow.Author.Tests.{eqb-true, eq-eqb, not-false}
 use lib.Dec.{eqb}
 use lib.ListN.{length, take, drop}
 use lib.Seq.{length-take-le}
@@ -14,16 +15,18 @@ use Rattle.numbers.specs.Each.{list_of}
 use Rattle.numbers.specs.Column.{Column}
 use Rattle.finite.specs.Finite.{all_finite}
 use Rattle.numbers.proofs.Choice.{test_cases, and_first, and_second}
-use Rattle.refusals.specs.Outcome.{done, refused, first_holding, tested, Call, leaving, outcome}
+use Rattle.std.proofs.Common.{Result, Ok}
+use Rattle.std.specs.Result.{IsErrAnd}
+use Rattle.refusals.specs.declared.Refusal.{Refusal}
+use Rattle.refusals.specs.Outcome.{done, number, first_holding, tested, Call, leaving}
 use Rattle.refusals.specs.Refusals.{outside}
-use Rattle.refusals.proofs.Outcomes.{Numbered, first_none, tested_none, tested_some}
+use Rattle.refusals.proofs.Outcomes.{Promise, promise_refused, promise_made, Numbered, first_none}
 use Rattle.refusals.proofs.Tests.{Inside, inside, not_outside}
-use Rattle.panel_file.specs.declared.Panel.TheVariants.{Pads, Refused}
 use Rattle.panel_file.specs.File.{headed, pads_of, file_length, number_at, numbers_of, matrix_of, readings_of}
 use Rattle.panel_file.specs.Reading.{file_tests, file_refusal, Stores, stores, stores_fit, reading_refusal, filled, reading}
 use Rattle.panel_file.specs.Reading.{sized_refusal, reading_sized}
 use Rattle.panel_file.specs.Inner.{Holds, reading_beside}
-use Rattle.refusals.proofs.Cases.{first_among}
+use Rattle.refusals.proofs.Cases.{first_among, refused_before, passed_before}
 use Rattle.panel_file.proofs.Numbers.{number_finite}
 
 -- a byte times itself is a small number
@@ -32,37 +35,28 @@ square n m h = mul-le-mul h h
 
 -- ---- the tests, the last of which waits for the others
 
-four : (p q r t : Bool)
-    → first_holding ((8, p) ∷ (1, q) ∷ (3, r) ∷ (5, t) ∷ []) ≡ cond (eqb (cond p 8 (cond q 1 (cond r 3 0))) 0) (cond t 5 0) (cond p 8 (cond q 1 (cond r 3 0)))
-unfolding first_holding
-four true q r t = refl
-four false true r t = refl
-four false false true t = refl
-four false false false t = refl
-
 module _ (fit : Bool) (bytes : List ℕ) where
-  -- the tests that need no number of the file
   abbrev pub whole_test : Bool
   whole_test = fit && eqb (length bytes) (file_length (pads_of bytes))
 
-  abbrev pub head_refusal : ℕ
-  head_refusal = cond (not (headed bytes)) 8 (cond (outside 1 (pads_of bytes)) 1 (cond (not whole_test) 3 0))
+  -- the tests that need no number of the file
+  abbrev pub head_tests : List (ℕ × Bool)
+  head_tests = (8, not (headed bytes)) ∷ (1, outside 1 (pads_of bytes)) ∷ (3, not whole_test) ∷ []
 
-  -- one test within the other, as the code makes them
-  pub head_tested : (n : ℕ) (head size : Bool) (third second first : ℕ) → n ≡ pads_of bytes → head ≡ headed bytes → size ≡ outside 1 n
-      → third ≡ cond (not (fit && eqb (length bytes) (file_length n))) 3 0 → second ≡ cond size 1 third → first ≡ cond (not head) 8 second → first
-      ≡ head_refusal
-  head_tested n head size third second first n-is h s e3 e2 e1 = rw (e1, e2, e3, s, h, n-is)
+  abbrev pub late_tests : List (ℕ × Bool)
+  late_tests = (5, not (all_finite (numbers_of (pads_of bytes) bytes))) ∷ []
 
-  pub refused_early : (early : ℕ) → early ≡ head_refusal → (early ≡ 0 → ⊥) → early ≡ first_holding (file_tests fit bytes)
+  pub refused_early : (r : Refusal) → number r ≡ first_holding head_tests → number r ≡ first_holding (file_tests fit bytes)
   unfolding file_tests
-  refused_early early e n = sym (four _ _ _ _ ∙ rw (← e, ne_eqb early 0 n))
+  refused_early r = refused_before head_tests late_tests r
 
-  pub refused_late : (early late : ℕ) (t : Bool) → early ≡ head_refusal → early ≡ 0 → t ≡ all_finite (numbers_of (pads_of bytes) bytes) → late
-      ≡ cond (not t) 5 0
-      → late ≡ first_holding (file_tests fit bytes)
+  pub refused_late : 0 ≡ first_holding head_tests → first_holding late_tests ≡ first_holding (file_tests fit bytes)
   unfolding file_tests
-  refused_late early late t e z d f = f ∙ ap (λ (u : Bool). cond (not u) 5 0) d ∙ sym (four _ _ _ _ ∙ rw (sym e ∙ z))
+  refused_late = passed_before head_tests late_tests (search rules)
+
+  -- the numbers are tested once their places are known to be there
+  pub places_tested : 0 ≡ first_holding head_tests → length bytes ≡ file_length (pads_of bytes)
+  places_tested e = let none = first_none head_tests (search rules) (sym e) in eqb-true _ _ (and_second fit _ (not-false _ none.1.1.0))
 
   -- what holds where no test does
   pub record Whole : Type 0 where
@@ -88,16 +82,6 @@ module _ (fit : Bool) (bytes : List ℕ) where
         file_length_lem = eqb-true _ _ (and_second fit _ lengths);
         numbers = not-false _ none.1.1.1.0;
       }
-
-  -- the numbers are tested once their places are known to be there
-  pub places_tested : (early : ℕ) → early ≡ head_refusal → early ≡ 0 → length bytes ≡ file_length (pads_of bytes)
-  places_tested early e z = eqb-true _ _ (and_second fit _ (last (not (headed bytes)) (outside 1 (pads_of bytes)) whole_test (sym e ∙ z)))
-    where
-      last : (p q r : Bool) → ◌≡◌ {A = ℕ} (cond p 8 (cond q 1 (cond (not r) 3 0))) 0 → r ≡ true
-      last true q r e = absurd (omega (arith, e))
-      last false true r e = absurd (omega (arith, e))
-      last false false true e = refl
-      last false false false e = absurd (omega (arith, e))
 
 -- ---- a file by its bytes alone
 
@@ -143,10 +127,10 @@ module _ (fit : Bool) (bytes : List ℕ) (matrix readings : Column) where
   abbrev made : Call ℕ Stores
   made = record { answer = done (pads_of bytes); left = filled bytes lent }
 
-  pub read_refused : (number : ℕ) → number ≡ first_holding (file_tests fit bytes) → (number ≡ 0 → ⊥)
-      → (outcome (Refused number) ≡ (reading_beside fit bytes lent).answer) × (lent ≡ (reading_beside fit bytes lent).left)
+  pub read_refused : (r : Refusal) (answer : Result ℕ Refusal) → number r ≡ first_holding (file_tests fit bytes) → IsErrAnd answer (λ e. e ≡ r)
+      → Promise (reading_beside fit bytes lent) answer lent
   unfolding reading_beside
-  read_refused number e n = rw (tested_some (first_holding (file_tests fit bytes)) (leaving lent) made (λ z. n (e ∙ z))) (ap refused e, refl)
+  read_refused r answer e h = promise_refused (first_holding (file_tests fit bytes)) lent made r answer e h
 
   -- a file that is not refused, n being its number of pads: what the code is owed where it fills the stores
   pub record Passed (n : ℕ) : Type 0 where
@@ -193,14 +177,13 @@ module _ (fit : Bool) (bytes : List ℕ) (matrix readings : Column) where
 
     pub read_filled : (m r : Column) → m ≡ list_of (length (take (n * n) matrix)) (λ k. number_at bytes (0 + k))
         → r ≡ list_of (length (take n readings)) (λ k. number_at bytes (n * n + k))
-        → (outcome (Pads n) ≡ (reading_beside fit bytes lent).answer)
-        × (stores (m ++ drop (n * n) matrix) (r ++ drop n readings) ≡ (reading_beside fit bytes lent).left)
+        → Promise (reading_beside fit bytes lent) (Ok n) (stores (m ++ drop (n * n) matrix) (r ++ drop n readings))
     unfolding reading_beside
     read_filled m r p q =
         let pm : m ≡ matrix_of n bytes = p ∙ ap (λ (k : ℕ). list_of k (λ i. number_at bytes (0 + i))) (sym matrix_count) in
         let pr : r ≡ readings_of n bytes = q ∙ ap (λ (k : ℕ). list_of k (λ i. number_at bytes (n * n + i))) (sym readings_count) in
-        rw (tested_none (first_holding (file_tests fit bytes)) (leaving lent) made passed.none, ← passed.pads)
-        (refl, λ i. stores (pm i ++ drop (n * n) matrix) (pr i ++ drop n readings))
+        promise_made (first_holding (file_tests fit bytes)) lent made (Ok n) (stores (m ++ drop (n * n) matrix) (r ++ drop n readings)) (sym passed.none)
+        (ap done passed.pads) (rw (← passed.pads) (λ i. stores (pm i ++ drop (n * n) matrix) (pr i ++ drop n readings)))
 
 -- ---- the calls: stores for the greatest file, and a file of one size
 

@@ -2,7 +2,7 @@
 use Rattle.std.specs.Prelude.{Bool, true, not, ◌&&◌, List, [], ◌∷◌, ◌++◌, ℕ, ◌*◌, eqb, length, drop}
 use Rattle.numbers.specs.Column.{Column}
 use Rattle.finite.specs.Finite.{all_finite}
-use Rattle.refusals.specs.Outcome.{Outcome, done, refused, first_holding, tested, Call, leaving}
+use Rattle.refusals.specs.Outcome.{done, first_holding, tested, Call, leaving}
 use Rattle.refusals.specs.Refusals.{outside}
 use Rattle.panel_file.specs.File.{headed, pads_of, file_length, numbers_of, matrix_of, readings_of}
 

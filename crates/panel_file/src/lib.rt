@@ -116,6 +116,7 @@ fn test_beside(file: &[u8], fit: bool) -> Result<(), Refusal>
 }
 
 // Refuses what is no panel file, by its bytes alone.
+#[tactic(auto, unfolding(crate::specs::Reading::file_refusal))]
 pub fn test_file(file: &[u8]) -> Result<(), Refusal>
     ensures { number_of (outcome result) ≡ file_refusal file.now }
 {
@@ -123,7 +124,12 @@ pub fn test_file(file: &[u8]) -> Result<(), Refusal>
 }
 
 // Reads a file into the front of two stores that fit or not. Answers how many pads it has. What lies past the file's own numbers stays as it was.
-fn read_front(file: &[u8], fit: bool, matrix: &mut [f64], readings: &mut [f64]) -> Result<usize, Refusal>
+fn read_front(
+    file: &[u8],
+    fit: bool,
+    matrix: &mut [f64],
+    readings: &mut [f64],
+) -> Result<usize, Refusal>
     requires { fit ≡ true → pads_of file.now ≤ 64 → Holds (pads_of file.now) (stores matrix.old readings.old) }
     ensures result_value { outcome result ≡ (reading_beside fit file.now (stores matrix.old readings.old)).answer }
     ensures readings_after { stores matrix.new readings.new
@@ -148,7 +154,12 @@ pub fn read(file: &[u8], matrix: &mut [f64], readings: &mut [f64]) -> Result<usi
 }
 
 // Reads a file of n pads, and of no other size, into two stores that are as long as its matrix and its readings.
-pub fn read_sized(file: &[u8], n: usize, matrix: &mut [f64], readings: &mut [f64]) -> Result<usize, Refusal>
+pub fn read_sized(
+    file: &[u8],
+    n: usize,
+    matrix: &mut [f64],
+    readings: &mut [f64],
+) -> Result<usize, Refusal>
     ensures result_value { outcome result ≡ (reading_sized file.now n (stores matrix.old readings.old)).answer }
     ensures readings_after { stores matrix.new readings.new
         ≡ (reading_sized file.now n (stores matrix.old readings.old)).left }

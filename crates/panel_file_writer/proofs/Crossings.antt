@@ -16,15 +16,14 @@ use Rattle.finite.specs.Finite.{all_finite}
 use Rattle.numbers.proofs.Each.{length_list}
 use Rattle.finite.proofs.Finite.{finite_append}
 use Rattle.numbers.proofs.Choice.{and_first, and_second, test_cases}
+use Rattle.std.proofs.Common.{Ok}
 use Rattle.refusals.specs.Outcome.{done, refused, number_of, tested, Call}
 use Rattle.refusals.proofs.Outcomes.{tested_cases}
 use Rattle.panel_file.specs.File.{pads_of, file_length, matrix_of, readings_of, AllBytes, IsFile}
 use Rattle.panel_file.specs.Reading.{Stores, stores_fit, reading_refusal, reading}
 use Rattle.panel_file.proofs.Reading.{reader_whole}
 use Rattle.panel_file.proofs.Files.{Same, one_crossing, only_file, numbers_parts, read_as, reading_is, taken, file_read, read_file}
-use Rattle.panel_file_writer.specs.declared.Written.{Written}
-use Rattle.panel_file_writer.specs.declared.Written.TheVariants.{Bytes, Refused}
-use Rattle.panel_file_writer.specs.Writing.{bytes_written, written, Writing}
+use Rattle.panel_file_writer.specs.Writing.{written, Writing}
 use Rattle.panel_file_writer.proofs.Writing.{Fit, fit, not_refused, write_done}
 
 -- an answer that is none of the tests' refusals has none by them
@@ -36,7 +35,7 @@ module _ (n : ℕ) (m r : Column) (out : List ℕ) (made : Call ℕ (List ℕ)) 
   fitting : Fit n m r (length out)
   fitting = fit n m r (length out) (none_tested _ (file_length n) (ap number_of (sym w.answers) ∙ z))
 
--- the contract admits one outcome only, and an outcome one answer
+-- the contract admits one outcome only, and an outcome one answer (`Cases.one_answer` of refusals)
 pub one_writing : (n : ℕ) (m r : Column) (out : List ℕ) (a b : Call ℕ (List ℕ)) → Writing n m r out a → Writing n m r out b → a ≡ b
 one_writing n m r out a b v w =
     let left : a.left ≡ b.left = test_cases (eqb (number_of a.answer) 0) (λ e. accepts (eqb-true _ _ e)) (λ e. refuses (eqb-false _ _ e)) in
@@ -57,13 +56,6 @@ one_writing n m r out a b v w =
     refuses : (number_of a.answer ≡ 0 → ⊥) → a.left ≡ b.left
     refuses h = v.as_it_was h ∙ sym (w.as_it_was (λ z. h (ap number_of same ∙ z)))
 
-pub one_answer : (a b : Written) → bytes_written a ≡ bytes_written b → a ≡ b
-unfolding bytes_written
-one_answer (Bytes k) (Bytes j) e = cc
-one_answer (Bytes k) (Refused j) e = absurd (let z : ◌≡◌ {A = ℕ} 0 1 = cc in omega arith)
-one_answer (Refused k) (Bytes j) e = absurd (let z : ◌≡◌ {A = ℕ} 0 1 = cc in omega arith)
-one_answer (Refused k) (Refused j) e = cc
-
 -- What is written is read as the same: size, matrix and readings, in any stores that fit.
 pub written_read : (n : ℕ) (m r : Column) (out : List ℕ) (made : Call ℕ (List ℕ)) → Writing n m r out made → number_of made.answer ≡ 0
     → (s : Stores) → stores_fit s ≡ true → reading (take (file_length n) made.left) s ≡ read_as n m r s
@@ -75,7 +67,6 @@ written_read n m r out made w z s fits =
 pub read_written : (bytes : List ℕ) (s : Stores) → AllBytes bytes → (n : ℕ) → (reading bytes s).answer ≡ done n → (out : List ℕ) (made : Call ℕ (List ℕ))
     → length bytes ≤ length out → Writing n (take (n * n) (reading bytes s).left.matrix) (take n (reading bytes s).left.readings) out made
     → made ≡ record { answer = done (length bytes); left = bytes ++ drop (length bytes) out }
-unfolding bytes_written
 read_written bytes s each k told out made room w =
     let n = pads_of bytes in
     let m = matrix_of n bytes in
@@ -101,7 +92,7 @@ read_written bytes s each k told out made room w =
     let next : take n (reading bytes s).left.readings ≡ r =
     ap (λ (o : Call ℕ Stores). take n o.left.readings) same ∙ take_at r (drop n s.readings) n (length_list _ _) in
     let v : Writing n m r out made = rw (is, front, next) at w in
-    one_writing n m r out made (written (Bytes (file_length n)) (bytes ++ drop (file_length n) out)) v
+    one_writing n m r out made (written (Ok (file_length n)) (bytes ++ drop (file_length n) out)) v
     (write_done n m r out bytes (not_refused n m r (length out) f) p)
     ∙ ap (λ (j : ℕ). record { answer = done j; left = bytes ++ drop j out }) (sym whole)
 

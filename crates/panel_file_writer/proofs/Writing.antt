@@ -1,9 +1,9 @@
 -- The writer as its tests go: what a crossing that is not refused is known by, and the outcome. By the tests in their order. Assumes nothing.
 use mathlib.Core.Path.{◌≡◌, refl, sym, ap, ◌∙◌, subst}
-use mathlib.Core.Bool.{Bool, true, false, not, cond, ◌&&◌}
-use mathlib.Core.List.{List, ◌++◌}
+use mathlib.Core.Bool.{Bool, true, not, ◌&&◌}
+use mathlib.Core.List.{List, [], ◌∷◌, ◌++◌}
 use Prim.Native.Nat.{ℕ, ◌*◌, ◌≤◌}
-use native.Mathlib.Omega.{arith}
+use borrow.Author.Rules.{rules}
 use borrow.Author.Tests.{eqb-true, eq-eqb, leb-true, le-leb, not-false}
 use lib.Dec.{eqb, leb}
 use lib.ListN.{length, drop}
@@ -11,14 +11,17 @@ use lib.Seq.{take_at, drop_at}
 use Rattle.numbers.specs.Column.{Column}
 use Rattle.finite.specs.Finite.{all_finite}
 use Rattle.numbers.proofs.Choice.{and_first, and_second}
-use Rattle.refusals.specs.Outcome.{done, refused, number_of, first_holding}
+use Rattle.std.proofs.Common.{Result, Ok}
+use Rattle.std.specs.Result.{IsErrAnd}
+use Rattle.refusals.specs.declared.Refusal.{Refusal}
+use Rattle.refusals.specs.Outcome.{done, refused, number, first_holding}
 use Rattle.refusals.specs.Refusals.{outside}
-use Rattle.refusals.proofs.Outcomes.{first_none, tested_none, tested_some}
+use Rattle.refusals.proofs.Outcomes.{first_none, never_0, handed_on, tested_none, tested_some}
+use Rattle.refusals.proofs.Cases.{refused_before, passed_before}
 use Rattle.refusals.proofs.Tests.{Inside, inside, not_outside}
 use Rattle.panel_file.specs.File.{file_length, IsFile}
 use Rattle.panel_file.proofs.Reading.{square}
-use Rattle.panel_file_writer.specs.declared.Written.TheVariants.{Bytes, Refused}
-use Rattle.panel_file_writer.specs.Writing.{lengths_fit, writing_tests, writing_refusal, bytes_written, written, Writing}
+use Rattle.panel_file_writer.specs.Writing.{lengths_fit, writing_tests, writing_refusal, written, Writing}
 
 -- a size within the limits, and its square
 pub small : (n : ℕ) → Inside 1 n → (n ≤ 64) × (n * n ≤ 4096)
@@ -36,7 +39,7 @@ pub record Fit (n : ℕ) (matrix readings : Column) (room : ℕ) : Type 0 where
 pub fit : (n : ℕ) (m r : Column) (room : ℕ) → writing_refusal n m r room ≡ 0 → Fit n m r room
 unfolding writing_refusal
 fit n m r room e =
-    let none = first_none (writing_tests n m r room) ((λ z. omega (arith, z)), ((λ z. omega (arith, z)), ((λ z. omega (arith, z)), tt))) e in
+    let none = first_none (writing_tests n m r room) (search rules) e in
     let a = eqb (length m) (n * n) in
     let b = eqb (length r) n in
     let c = leb (file_length n) room in
@@ -64,31 +67,44 @@ not_refused n m r room f =
       f.readings_finite,
     )
 
--- the size's test stands first
-pub size_refused : (n : ℕ) (m r : Column) (room : ℕ) → outside 1 n ≡ true → 1 ≡ writing_refusal n m r room
-unfolding writing_refusal first_holding
-size_refused n m r room e = rw e
+-- a crossing that is not refused is small
+pub accepted_small : (n : ℕ) (m r : Column) (room : ℕ) → 0 ≡ writing_refusal n m r room → (n ≤ 64) × (n * n ≤ 4096)
+accepted_small n m r room e = small n (fit n m r room (sym e)).size
 
+-- ---- the size's test stands first, and the others behind it
 module _ (n : ℕ) (m r : Column) (room : ℕ) where
-  pub size_passed : (a b : Bool) (late number : ℕ) → outside 1 n ≡ false → a ≡ all_finite m → b ≡ all_finite r → late ≡ cond (not (a && b)) 5 0
-      → number ≡ cond (not (lengths_fit n m r room)) 3 late → number ≡ writing_refusal n m r room
-  unfolding writing_refusal first_holding
-  size_passed a b late number e p q f g = g ∙ rw (f, p, q, e)
+  abbrev pub size_tests : List (ℕ × Bool)
+  size_tests = (1, outside 1 n) ∷ []
+
+  abbrev pub late_tests : List (ℕ × Bool)
+  late_tests = (3, not (lengths_fit n m r room)) ∷ (5, not (all_finite m && all_finite r)) ∷ []
+
+  pub size_refused : (k : Refusal) → number k ≡ first_holding size_tests → number k ≡ writing_refusal n m r room
+  unfolding writing_refusal
+  size_refused k = refused_before size_tests late_tests k
+
+  pub size_passed : 0 ≡ first_holding size_tests → first_holding late_tests ≡ writing_refusal n m r room
+  unfolding writing_refusal
+  size_passed = passed_before size_tests late_tests (search rules)
+
+-- a size that was tested, and its square
+pub size_small : (n : ℕ) (t : Bool) → t ≡ outside 1 n → 0 ≡ first_holding ((1, t) ∷ []) → (n ≤ 64) × (n * n ≤ 4096)
+size_small n t is e = small n (inside 1 n (sym is ∙ (first_none ((1, t) ∷ []) (search rules) (sym e)).0))
 
 -- ---- the two ends of the call
 module _ (n : ℕ) (m r : Column) (out : List ℕ) where
-  pub write_refused : (number : ℕ) → number ≡ writing_refusal n m r (length out) → (number ≡ 0 → ⊥) → Writing n m r out (written (Refused number) out)
-  unfolding bytes_written
-  write_refused number e ne = record {
-    answers = ap refused e ∙ sym (tested_some (writing_refusal n m r (length out)) refused (done (file_length n)) (λ z. ne (e ∙ z)));
-    as_it_was = λ _. refl;
-    file = λ z. absurd (ne z);
-    rest = λ z. absurd (ne z);
-  }
+  pub write_refused : (k : Refusal) (answer : Result ℕ Refusal) → number k ≡ writing_refusal n m r (length out) → IsErrAnd answer (λ e. e ≡ k)
+      → Writing n m r out (written answer out)
+  write_refused k answer e h =
+      rw (handed_on k answer h) (record {
+        answers = ap refused e ∙ sym (tested_some (writing_refusal n m r (length out)) refused (done (file_length n)) (λ z. never_0 k (e ∙ z)));
+        as_it_was = λ _. refl;
+        file = λ z. absurd (never_0 k z);
+        rest = λ z. absurd (never_0 k z);
+      })
 
   pub write_done : (file : List ℕ) → writing_refusal n m r (length out) ≡ 0 → IsFile file n m r
-      → Writing n m r out (written (Bytes (file_length n)) (file ++ drop (file_length n) out))
-  unfolding bytes_written
+      → Writing n m r out (written (Ok (file_length n)) (file ++ drop (file_length n) out))
   write_done file e p =
       let l : length file ≡ file_length n = p.whole in
       record {

@@ -64,12 +64,8 @@ fn put_file(file: &mut [u8], n: usize, matrix: &[f64], readings: &[f64])
 }
 
 // Refuses a crossing that no file has, and a slice of `room` bytes that is too short.
-fn test_writing(
-    n: usize,
-    matrix: &[f64],
-    readings: &[f64],
-    room: usize,
-) -> Result<(), Refusal>
+#[tactic(auto, using(crate::proofs::Writing::size_small))]
+fn test_writing(n: usize, matrix: &[f64], readings: &[f64], room: usize) -> Result<(), Refusal>
     ensures { number_of (outcome result) ≡ writing_refusal n matrix.now readings.now room }
 {
     refusals::first_of(&[(Refusal::Size, refusals::outside(1, n))])?;
@@ -78,19 +74,12 @@ fn test_writing(
         & (readings.len() == n)
         & (6 + 8 * (entries + n) <= room);
     let finite = finite::all_finite(matrix) & finite::all_finite(readings);
-    refusals::first_of(&[
-        (Refusal::Length, !lengths),
-        (Refusal::NotFinite, !finite),
-    ])
+    refusals::first_of(&[(Refusal::Length, !lengths), (Refusal::NotFinite, !finite)])
 }
 
 // Writes the file of a crossing at the start of a slice. The rest of a longer slice stays as it was. Answers how many bytes it has.
-pub fn write(
-    n: usize,
-    matrix: &[f64],
-    readings: &[f64],
-    out: &mut [u8],
-) -> Result<usize, Refusal>
+#[tactic(auto, using(crate::proofs::Writing::accepted_small))]
+pub fn write(n: usize, matrix: &[f64], readings: &[f64], out: &mut [u8]) -> Result<usize, Refusal>
     ensures { Writing n matrix.now readings.now out.old (written result out.new) }
 {
     test_writing(n, matrix, readings, out.len())?;

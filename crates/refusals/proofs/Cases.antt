@@ -1,15 +1,16 @@
 -- Laws of outcomes read backwards: which numbers a refusal has, tests behind tests, and where an outcome that was tested or handed on comes from. By the
 -- cases of the outcome. Assumes nothing.
-use mathlib.Core.Path.{◌≡◌, refl, sym}
+use mathlib.Core.Path.{◌≡◌, refl, sym, ap}
 use mathlib.Core.Bool.{Bool, true, false}
 use mathlib.Core.List.{List, [], ◌∷◌, ◌++◌}
 use Prim.Native.Nat.{ℕ, ◌≤◌}
 use native.Mathlib.Omega.{arith}
 use Rattle.numbers.proofs.Choice.{cond_cases}
+use Rattle.std.proofs.Common.{Result, Ok, Err}
 use Rattle.refusals.specs.declared.Refusal.{Refusal}
 use Rattle.refusals.specs.declared.Refusal.TheVariants.{Size, NotSquare, Length, SwapList, NotFinite, Singular, Overflow, NotAPanelFile, DeadColumns, SeasonFull}
-use Rattle.refusals.specs.Outcome.{Outcome, done, refused, number, first_holding, tested, and_then}
-use Rattle.refusals.proofs.Outcomes.{Numbered, never_0, tested_none, tested_some, tested_cases}
+use Rattle.refusals.specs.Outcome.{Outcome, done, refused, outcome, number, first_holding, tested, and_then}
+use Rattle.refusals.proofs.Outcomes.{Numbered, never_0, same_kind, tested_none, tested_some, tested_cases}
 
 -- ---- the first of the tests
 
@@ -67,6 +68,13 @@ module _ {A : Type 0} where
 
   pub never_both : {Q : Type 0} (a : A) (k : ℕ) → done a ≡ refused k → Q
   never_both a k e = absurd (let z : ◌≡◌ {A = ℕ} 0 1 = cc in omega arith)
+
+-- ---- an outcome is that of one answer
+pub one_answer : {A : Type 0} (a b : Result A Refusal) → outcome a ≡ outcome b → a ≡ b
+one_answer (Ok x) (Ok y) e = ap Ok (done_same x y e)
+one_answer (Ok x) (Err r) e = never_both x (number r) e
+one_answer (Err r) (Ok y) e = never_both y (number r) (sym e)
+one_answer {A = A} (Err r) (Err s) e = ap Err (same_kind r s (refused_same {A = A} (number r) (number s) e))
 
 -- ---- where a tested outcome comes from
 module _ {A : Type 0} (number : ℕ) (o : Outcome A) where

@@ -85,18 +85,35 @@ never_0 NotAPanelFile e = omega (arith, e)
 never_0 DeadColumns e = omega (arith, e)
 never_0 SeasonFull e = omega (arith, e)
 
--- the kinds that some calls tell apart
+-- the kind of each number
+kind_of : ℕ → Refusal
+kind_of k =
+    cond (eqb k 1) Size
+    (cond (eqb k 2) NotSquare
+    (cond (eqb k 3) Length
+    (cond (eqb k 4) SwapList
+    (cond (eqb k 5) NotFinite
+    (cond (eqb k 6) Singular (cond (eqb k 7) Overflow (cond (eqb k 8) NotAPanelFile (cond (eqb k 9) DeadColumns SeasonFull))))))))
+
+kind_is : (r : Refusal) → kind_of (number r) ≡ r
+unfolding kind_of
+kind_is Size = refl
+kind_is NotSquare = refl
+kind_is Length = refl
+kind_is SwapList = refl
+kind_is NotFinite = refl
+kind_is Singular = refl
+kind_is Overflow = refl
+kind_is NotAPanelFile = refl
+kind_is DeadColumns = refl
+kind_is SeasonFull = refl
+
+pub same_kind : (r s : Refusal) → number r ≡ number s → r ≡ s
+same_kind r s e = sym (kind_is r) ∙ ap kind_of e ∙ kind_is s
+
+-- the kind that some calls tell apart
 pub only_overflow : (refusal : Refusal) → number refusal ≡ 7 → refusal ≡ Overflow
-only_overflow Size e = absurd (omega (arith, e))
-only_overflow NotSquare e = absurd (omega (arith, e))
-only_overflow Length e = absurd (omega (arith, e))
-only_overflow SwapList e = absurd (omega (arith, e))
-only_overflow NotFinite e = absurd (omega (arith, e))
-only_overflow Singular e = absurd (omega (arith, e))
-only_overflow Overflow e = refl
-only_overflow NotAPanelFile e = absurd (omega (arith, e))
-only_overflow DeadColumns e = absurd (omega (arith, e))
-only_overflow SeasonFull e = absurd (omega (arith, e))
+only_overflow refusal e = same_kind refusal Overflow e
 
 -- ---- a call whose promise is the answer and what its slices hold
 abbrev pub Promise : {A S : Type 0} → Call A S → Result A Refusal → S → Type 0

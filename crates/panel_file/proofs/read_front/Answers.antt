@@ -1,7 +1,6 @@
 -- The matrix, then the readings, each over the front of its store. Assumes nothing.
-use mathlib.Core.Path.{sym, ◌∙◌}
-use native.Mathlib.Omega.{arith}
-use Rattle.panel_file.proofs.Reading.{square, Passed, read_refused, read_filled, matrix_fits, readings_fit, matrix_count, readings_count, matrix_asks}
+use mathlib.Core.Path.{sym}
+use Rattle.panel_file.proofs.Reading.{Passed, read_refused, read_filled, matrix_fits, readings_fit, matrix_count, readings_count, matrix_asks}
 use Rattle.panel_file.proofs.Reading.{readings_asks}
 use Rattle.panel_file.proofs.read_front.Goals.{After-pads_of-n}
 use Rattle.panel_file.proofs.read_front.Goals as goal
@@ -9,18 +8,12 @@ use Rattle.panel_file.proofs.read_front.Goals as goal
 -- past the tests
 passed : (c : After-pads_of-n) → let g = c.args in
     Passed g.fit g.file.now g.matrix.now g.readings.now c.pads_of-n.result
-passed c =
-    let none = sym c.refusal_beside-number.ensures ∙ c.if-number-ne0.false in
-    record { none = none; pads = c.pads_of-n.ensures.0; hold = c.requires }
+passed c = record { none = sym c.in_ok-test_beside.ensures; pads = c.pads_of-n.ensures.0; hold = c.requires }
 
-pub returns-then-number-ne0 : goal.returns-then-number-ne0
-returns-then-number-ne0 c =
-    let g = c.args in
-    let whole = read_refused g.fit g.file.now g.matrix.now g.readings.now _ c.refusal_beside-number.ensures c.if-number-ne0.true in
+pub returns-in_err-test_beside : goal.returns-in_err-test_beside
+returns-in_err-test_beside c =
+    let whole = read_refused _ _ _ _ _ _ c.in_err-test_beside.ensures c.from_residual.ensures.1 in
     record { result_value = whole.0; readings_after = whole.1 }
-
-pub overflow_mul-entries : goal.overflow_mul-entries
-overflow_mul-entries c = omega (arith, square c.pads_of-n.result 255 (omega (arith, c.pads_of-n.ensures.1)))
 
 pub slice_bounds-fill-end : goal.slice_bounds-fill-end
 slice_bounds-fill-end c = matrix_fits _ _ _ _ _ (passed c)
