@@ -115,6 +115,18 @@ same_kind r s e = sym (kind_is r) ∙ ap kind_of e ∙ kind_is s
 pub only_overflow : (refusal : Refusal) → number refusal ≡ 7 → refusal ≡ Overflow
 only_overflow refusal e = same_kind refusal Overflow e
 
+pub only_singular : (refusal : Refusal) → number refusal ≡ 6 → refusal ≡ Singular
+only_singular Size e = absurd (omega (arith, e))
+only_singular NotSquare e = absurd (omega (arith, e))
+only_singular Length e = absurd (omega (arith, e))
+only_singular SwapList e = absurd (omega (arith, e))
+only_singular NotFinite e = absurd (omega (arith, e))
+only_singular Singular e = refl
+only_singular Overflow e = absurd (omega (arith, e))
+only_singular NotAPanelFile e = absurd (omega (arith, e))
+only_singular DeadColumns e = absurd (omega (arith, e))
+only_singular SeasonFull e = absurd (omega (arith, e))
+
 -- ---- a call whose promise is the answer and what its slices hold
 abbrev pub Promise : {A S : Type 0} → Call A S → Result A Refusal → S → Type 0
 Promise o r s = (outcome r ≡ o.answer) × (s ≡ o.left)
