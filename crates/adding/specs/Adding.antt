@@ -5,7 +5,7 @@ use Rattle.numbers.specs.Column.{Column, zeros}
 use Rattle.finite.specs.Finite.{all_finite}
 use Rattle.store.specs.Columns.{flat, is_matrix}
 use Rattle.store.specs.Steps.{column}
-use Rattle.refusals.specs.Outcome.{Outcome, done, refused, tested, leaving}
+use Rattle.refusals.specs.Outcome.{Outcome, done, tested, leaving}
 use Rattle.refusals.specs.declared.Refusal.{Refusal}
 use Rattle.factors.specs.declared.Record.{Record}
 use Rattle.factors.specs.declared.Asks.{Asks}

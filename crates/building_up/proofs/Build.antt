@@ -16,21 +16,23 @@ use Rattle.numbers.proofs.Choice.{test_cases, and_first}
 use Rattle.finite.proofs.Finite.{finite_append}
 use Rattle.store.specs.Columns.{columns, flat, HasRows}
 use Rattle.store.specs.Steps.{Matrix}
-use Rattle.store.proofs.Columns.{sized, is_matrix_lem, columns_rows, columns_split}
+use Rattle.store.proofs.Columns.{sized, is_matrix_lem, column_within, columns_rows, columns_split}
 use Rattle.dead_columns.proofs.Dead.{dead_none}
-use Rattle.refusals.specs.Outcome.{done, refused, number_of, and_then}
+use Rattle.std.proofs.Common.{Result, Ok, Err}
+use Rattle.std.specs.Result.{is_err}
+use Rattle.refusals.specs.declared.Refusal.{Refusal}
+use Rattle.refusals.specs.declared.Refusal.TheVariants.{Overflow}
+use Rattle.refusals.specs.Outcome.{done, refused, number, number_of}
+use Rattle.refusals.proofs.Cases.{never_both}
 use Rattle.factors.specs.declared.Record.{Record}
 use Rattle.factors.specs.Factors.{numbers_of, store_of, record_of, record_for, Factoring}
 use Rattle.elimination.specs.Elimination.{unfactored, eliminate}
 use Rattle.elimination.specs.TossUps.{toss_ups, own_toss_up}
 use Rattle.elimination.proofs.Tossing.{toss_most, toss_empty}
 use Rattle.lu.specs.declared.Factored.{Factored}
-use Rattle.lu.specs.declared.Factored.TheVariants.{Accepted as Done, Refused as Seventh}
 use Rattle.lu.specs.Factoring.{factoring_refusal, accepted_as, settled, factoring, factored, with_toss_ups, factoring_answer}
 use Rattle.lu.proofs.Told.{Passed, passed, passes, worked, told_accepted, told_refused, Promise}
 use Rattle.lu.proofs.Shape.{factors_of, size_f, accepted_is, settled_number}
-use Rattle.adding.specs.declared.Added.{Added}
-use Rattle.adding.specs.declared.Added.TheVariants.{Accepted, Refused}
 use Rattle.adding.specs.Adding.{adding, adding_answer}
 use Rattle.adding.proofs.Afresh.{accepted_given, adding_afresh}
 use Rattle.adding.proofs.Front.{finite_front}
@@ -49,11 +51,10 @@ pub record Grown (m k : ℕ) (a : Column) (x : Record) (own : ℕ) (s : Column) 
   pub counted : toss_ups m (columns m (k + 1) (take ((k + 1) * m) a)) ≡ toss_ups m (columns m k (take (k * m) a)) + own
   pub at_most_one : own ≤ 1
 
--- after k columns: the lengths stay, and the outcome of factoring the first k was reached, its toss-ups counted
-pub record Building (m n : ℕ) (a out₀ : Column) (store₀ : List ℕ) (out : Column) (store : List ℕ) (told : Record) (tossed k : ℕ) : Type 0 where
-  pub long : length out ≡ length out₀
-  pub room : length store ≡ length store₀
-  pub within : k ≤ n
+-- after k columns: the slices have their sizes, and the outcome of factoring the first k was reached, its toss-ups counted
+pub record Building (m n : ℕ) (a out : Column) (store : List ℕ) (told : Record) (tossed k : ℕ) : Type 0 where
+  pub whole : length a ≡ n * m
+  pub long : length out ≡ n * m
   pub accepted : (outcome_at m k a).answer ≡ done told
   pub front_is : take (k * m) out ≡ (outcome_at m k a).left.factors
   pub store_is : store ≡ (outcome_at m k a).left.store
@@ -123,19 +124,30 @@ module _ (m n : ℕ) (a out : Column) (store : List ℕ) (none : factoring_refus
         let given = accepted_given m k (take (k * m) a) (zeros (k * m)) (replicate 128 0) x e in
         ap (λ (o : Factoring). length o.left.factors) given.is ∙ size_f m k (take (k * m) a) (zeros (k * m)) (replicate 128 0) front_none
 
+  -- column k ends within the matrix and within a slice as long as that for the factors, where its slot is
+  module _ (k : ℕ) (h : k < n) where
+    pub column_ends : k * m + m ≤ length a
+    column_ends = column_within m n k a h len_a
+
+    module _ (s : Column) (long : length s ≡ length out) where
+      pub slot_ends : k * m + m ≤ length s
+      slot_ends = column_within m n k s h (long ∙ (sized m n out p.slice).size)
+
+      pub slot_long : length (take m (drop (k * m) s)) ≡ m
+      slot_long = length-take-le m (drop (k * m) s) (omega (arith, slot_ends, length-drop (k * m) s))
+
   -- no columns
   pub start_built : outcome_at m 0 a ≡ accepted_as m 0 (unfactored [])
   unfolding settled eliminate columns turns_from flat all_finite
   start_built = worked m 0 (take (0 * m) a) (zeros (0 * m)) (replicate 128 0) (front_none 0 (omega arith)) ∙ rw (min-zero m)
 
-  pub building_none : (swaps : List ℕ) (told : Record) → swaps ≡ store_of [] → told ≡ record_of m 0 0 0 → Building m n a out swaps out swaps told 0 0
+  pub building_none : (swaps : List ℕ) (told : Record) → swaps ≡ store_of [] → told ≡ record_of m 0 0 0 → Building m n a out swaps told 0 0
   unfolding flat
   building_none swaps told empty is =
       let e = start_built in
       record {
-        long = refl;
-        room = refl;
-        within = omega arith;
+        whole = len_a;
+        long = (sized m n out p.slice).size;
         accepted = ap (λ (o : Factoring). o.answer) e ∙ (λ i. done (record_of m 0 0 (dead_none m i))) ∙ ap done (sym is);
         front_is = ap (λ k. take k out) (zero-mul m) ∙ sym (ap (λ (o : Factoring). o.left.factors) e);
         store_is = empty ∙ sym (ap (λ (o : Factoring). o.left.store) e);
@@ -169,7 +181,7 @@ module _ (m n : ℕ) (a out : Column) (store : List ℕ) (none : factoring_refus
         (length-replicate ((k + 1) * m) _) refl)
 
     -- ---- from what the call gives: s is the slice for the factors, lent up to the end of its column k
-    module _ (s : Column) (store' : List ℕ) (t : Column) (store'' : List ℕ) (answer : Added) (room : k * m + m ≤ length s)
+    module _ (s : Column) (store' : List ℕ) (t : Column) (store'' : List ℕ) (answer : Result Factored Refusal) (room : k * m + m ≤ length s)
         (front_is : take (k * m) s ≡ (outcome_at m k a).left.factors) (store_is : store' ≡ (outcome_at m k a).left.store)
         (z-is : z ≡ take m (drop (k * m) s))
         (called : factored answer ≡ adding_answer (take (k * m + m) s) (take (k * m + m - k * m) (drop (k * m) a)) store' x)
@@ -192,10 +204,11 @@ module _ (m n : ℕ) (a out : Column) (store : List ℕ) (none : factoring_refus
       answer_is = called ∙ (λ i. adding_answer (part_is i) (take (add-sub_cancel_left (k * m) m i) (drop (k * m) a)) (store_is i) x)
 
       -- the call answered a record: the outcome for one column more, and its toss-ups
-      pub went_on : (y : Record) (own : ℕ) → answer ≡ Accepted y own → Grown m k a y own (t ++ drop (k * m + m) s) store''
+      pub went_on : (f : Factored) → answer ≡ Ok f → Grown m k a f.told f.toss_ups (t ++ drop (k * m + m) s) store''
       unfolding adding_answer own_toss_up
-      went_on y own e =
-          let took = told_accepted _ _ y own (sym (ap factored e) ∙ answer_is) in
+      went_on f e =
+          let y = f.told in
+          let took = told_accepted _ _ y f.toss_ups (sym (ap factored e) ∙ answer_is) in
           let reached : (outcome_at m (k + 1) a).answer ≡ done y = sym next_built.0 ∙ took.0 in
           let all = same ∙ next_built.1 (ap number_of reached) in
           let long : length t ≡ (k + 1) * m = ap length (t-is ∙ ap (λ (q : Factoring). q.left.factors) all) ∙ outcome_long (k + 1) (omega arith) y reached in
@@ -211,17 +224,23 @@ module _ (m n : ℕ) (a out : Column) (store : List ℕ) (none : factoring_refus
           }
 
       -- it refused: the whole is refused with 7
-      pub gave_up : (number : ℕ) (y : Record) → answer ≡ Refused number y → all_finite (flat (factors_of m n a).columns) ≡ false
+      pub gave_up : (r : Refusal) → answer ≡ Err r → all_finite (flat (factors_of m n a).columns) ≡ false
       unfolding adding_answer
-      gave_up number y e =
-          let told = told_refused _ _ number (sym (ap factored e) ∙ answer_is) in
-          let given : (outcome_at m (k + 1) a).answer ≡ refused number = sym next_built.0 ∙ told in
+      gave_up r e =
+          let told = told_refused _ _ (number r) (sym (ap factored e) ∙ answer_is) in
+          let given : (outcome_at m (k + 1) a).answer ≡ refused (number r) = sym next_built.0 ∙ told in
           front_refused (k + 1) (omega arith) (λ zero.
           let acc = accepted_is m (k + 1) (take ((k + 1) * m) a) (zeros ((k + 1) * m)) (replicate 128 0) (front_none (k + 1) (omega arith)) zero in
-          apart (sym (ap (λ (q : Factoring). q.answer) acc.0) ∙ given))
-        where
-          apart : {r : Record} → done r ≡ refused number → ⊥
-          apart q = let d : ◌≡◌ {A = ℕ} 0 1 = cc in omega arith
+          never_both _ (number r) (sym (ap (λ (q : Factoring). q.answer) acc.0) ∙ given))
+
+-- ---- an answer that is a refusal, or none, is that of no other outcome
+not_refused : (r : Result Factored Refusal) (x : Record × ℕ) → is_err r ≡ true → factored r ≡ done x → ⊥
+not_refused (Ok f) x e d = false≢true e
+not_refused (Err refusal) x e d = never_both x (number refusal) (sym d)
+
+not_made : (r : Result Factored Refusal) (k : ℕ) → is_err r ≡ false → factored r ≡ refused k → ⊥
+not_made (Ok f) k e d = never_both (f.told, f.toss_ups) k d
+not_made (Err refusal) k e d = false≢true (sym e)
 
 -- ---- the two ends
 module _ (m n : ℕ) (a out : Column) (store : List ℕ) (none : factoring_refusal a m n out store ≡ 0) where
@@ -231,7 +250,7 @@ module _ (m n : ℕ) (a out : Column) (store : List ℕ) (none : factoring_refus
   -- all columns were factored
   pub all_added : (s : Column) (store' : List ℕ) (r : Record) (tossed : ℕ) → tossed ≡ toss_ups m (columns m n (take (n * m) a)) → length s ≡ n * m
       → (outcome_at m n a).answer ≡ done r → take (n * m) s ≡ (outcome_at m n a).left.factors → store' ≡ (outcome_at m n a).left.store
-      → AllAdded a m n (Done r tossed) s store'
+      → AllAdded a m n (Ok (record { told = r; toss_ups = tossed })) s store'
   unfolding settled with_toss_ups
   all_added s store' r tossed counted len good s-is store_is =
       let given = accepted_given m n (take (n * m) a) (zeros (n * m)) (replicate 128 0) r good in
@@ -247,7 +266,7 @@ module _ (m n : ℕ) (a out : Column) (store : List ℕ) (none : factoring_refus
       }
 
   -- some column was not
-  pub not_added : (s : Column) (store' : List ℕ) → all_finite (flat (factors_of m n a).columns) ≡ false → AllAdded a m n (Seventh 7) s store'
+  pub not_added : (s : Column) (store' : List ℕ) → all_finite (flat (factors_of m n a).columns) ≡ false → AllAdded a m n (Err Overflow) s store'
   unfolding settled with_toss_ups
   not_added s store' bad = record { answer = rw bad refl; held = λ fin. absurd (false≢true (sym bad ∙ fin)) }
 
@@ -258,28 +277,22 @@ module _ (m n : ℕ) (a out : Column) (store : List ℕ) (none : factoring_refus
   unfolding factoring_refusal
   cleared_refusal store' len = rw len none
 
-  module _ (r : Factored) (s : Column) (store' : List ℕ) (built : AllAdded a m n r s store') where
+  module _ (r : Result Factored Refusal) (s : Column) (store' : List ℕ) (built : AllAdded a m n r s store') where
     -- the answer is a refusal: it is 7, and zeros are left
-    pub built_seven : (number : ℕ) → r ≡ Seventh number → (zeroed : Column) (cleared : List ℕ) → length s ≡ n * m → zeroed ≡ zeros (length s)
+    pub built_seven : is_err r ≡ true → (zeroed : Column) (cleared : List ℕ) → length s ≡ n * m → zeroed ≡ zeros (length s)
         → cleared ≡ replicate (length store') 0 → length store' ≡ 128 → Promise m n a out store r zeroed cleared
     unfolding settled factoring_answer with_toss_ups store_of numbers_of
-    built_seven number e zeroed cleared len z-is c-is room =
+    built_seven e zeroed cleared len z-is c-is room =
         let w = worked m n a out store none in
         test_cases (all_finite (flat (factors_of m n a).columns))
-        (λ t. absurd (apart (sym (ap factored e) ∙ (rw t at built.answer))))
+        (λ t. absurd (not_refused r _ e (rw t at built.answer)))
         (λ t. rw (w, t) (rw t at built.answer, (z-is ∙ ap zeros len, c-is ∙ ap (λ (k : ℕ). replicate {A = ℕ} k 0) room)))
-      where
-        apart : {x : Record × ℕ} → refused number ≡ done x → ⊥
-        apart q = let d : ◌≡◌ {A = ℕ} 0 1 = cc in omega arith
 
     -- it is a record: the outcome is factoring's
-    pub built_all : (x : Record) (tossed : ℕ) → r ≡ Done x tossed → Promise m n a out store r s store'
+    pub built_all : is_err r ≡ false → Promise m n a out store r s store'
     unfolding settled factoring_answer with_toss_ups
-    built_all x tossed e =
+    built_all e =
         let w = worked m n a out store none in
         test_cases (all_finite (flat (factors_of m n a).columns))
         (λ t. let h = built.held t in rw (w, t) (rw t at built.answer, (h.0, h.1)))
-        (λ t. absurd (apart (sym (ap factored e) ∙ (rw t at built.answer))))
-      where
-        apart : {y : Record × ℕ} → done y ≡ refused 7 → ⊥
-        apart q = let d : ◌≡◌ {A = ℕ} 0 1 = cc in omega arith
+        (λ t. absurd (not_made r 7 e (rw t at built.answer)))

@@ -11,7 +11,13 @@ use lu::Factored;
 use refusals::Refusal;
 
 // Adds the columns of the m by n matrix a one by one, from none on. Answers the last record, or refusal 7 where a column is refused.
-fn add_all(a: &[f64], m: usize, n: usize, out: &mut [f64], swaps: &mut [usize]) -> Result<Factored, Refusal>
+fn add_all(
+    a: &[f64],
+    m: usize,
+    n: usize,
+    out: &mut [f64],
+    swaps: &mut [usize],
+) -> Result<Factored, Refusal>
     requires swaps_value { factoring_refusal a.now m n out.old swaps.old ≡ 0 }
     requires swaps_value_2 { swaps.old ≡ store_of [] }
     ensures { AllAdded a.now m n result out.new swaps.new }
@@ -23,8 +29,7 @@ fn add_all(a: &[f64], m: usize, n: usize, out: &mut [f64], swaps: &mut [usize]) 
         dead: 0,
     };
     let mut tossed = 0;
-    let mut k = 0;
-    while k < n {
+    for k in 0..n {
         let b = k * m;
         let e = b + m;
         let Ok(added) = adding::add_column(&mut out[..e], &a[b..e], swaps, told) else {
@@ -32,7 +37,6 @@ fn add_all(a: &[f64], m: usize, n: usize, out: &mut [f64], swaps: &mut [usize]) 
         };
         told = added.told;
         tossed += added.toss_ups;
-        k += 1;
     }
     Ok(Factored {
         told,
@@ -41,7 +45,13 @@ fn add_all(a: &[f64], m: usize, n: usize, out: &mut [f64], swaps: &mut [usize]) 
 }
 
 // Factors the m by n matrix a into out by adding its columns one by one: the same outcome as `factor`, on every input.
-pub fn build_up(a: &[f64], m: usize, n: usize, out: &mut [f64], swaps: &mut [usize]) -> Result<Factored, Refusal>
+pub fn build_up(
+    a: &[f64],
+    m: usize,
+    n: usize,
+    out: &mut [f64],
+    swaps: &mut [usize],
+) -> Result<Factored, Refusal>
     ensures result_value { factored result ≡ factoring_answer a.now m n out.old swaps.old }
     ensures out_after { out.new ≡ (factoring a.now m n out.old swaps.old).left.factors }
     ensures swaps_after { swaps.new ≡ (factoring a.now m n out.old swaps.old).left.store }

@@ -22,6 +22,7 @@ struct Reason {
 }
 
 // The reason of a factoring: its place is step, column, row.
+#[tactic(auto, unfolding(why::specs::Why::told_factor, why::specs::Why::overflowed, crate::specs::Why::place_or))]
 fn of_factoring(reason: Option<WhyFactor>) -> Reason
     ensures number_value { (result.number ≡ (told_factor reason).number) × (result.first ≡ (place_told (told_factor reason)).step) }
     ensures second_value { (result.second ≡ (place_told (told_factor reason)).column) × (result.third ≡ (place_told (told_factor reason)).row) }
@@ -39,6 +40,7 @@ fn of_factoring(reason: Option<WhyFactor>) -> Reason
 }
 
 // The reason of a solve: its place is pass, right-hand column, row; for 6 the column alone.
+#[tactic(auto, unfolding(why::specs::Why::told_solve, why::specs::Why::overflowed, crate::specs::Why::spot_or))]
 fn of_solving(reason: Option<WhySolve>) -> Reason
     ensures number_value { (result.number ≡ (told_solve reason).number) × (result.first ≡ (spot_told (told_solve reason)).pass) }
     ensures second_value { (result.second ≡ (spot_told (told_solve reason)).column) × (result.third ≡ (spot_told (told_solve reason)).row) }

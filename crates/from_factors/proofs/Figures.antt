@@ -17,7 +17,7 @@ use Rattle.store.specs.Columns.{columns, flat, is_matrix, on_columns}
 use Rattle.store.specs.Steps.{swap_in_all}
 use Rattle.one_step.specs.OneStep.{step_column, step_columns, eliminated}
 use Rattle.dead_columns.specs.Dead.{zero_count, dead_from, dead_in, dead_of}
-use Rattle.refusals.specs.Outcome.{done, first_holding, tested, and_then, Call}
+use Rattle.refusals.specs.Outcome.{done, first_holding, tested, Call}
 use Rattle.refusals.specs.Refusals.{outside, seventh}
 use Rattle.swap_list.specs.SwapList.{pairs_of, holds, good_pair, good_pairs, good_list}
 use Rattle.exchanges.specs.Permute.{permuted_by}
@@ -38,7 +38,7 @@ use Rattle.from_factors.specs.Determinant.{times_diagonal, diagonal_product, num
 unfoldable pub Computes : Type 0
 unfolding add sub mul div neg eq lt of_bits each_from turns_from list_of is_zero magnitude search_from pivot_row exchanged scale_from axpy_from all_finite
     columns flat
-    is_matrix on_columns swap_in_all step_column step_columns eliminated first_holding outside seventh tested and_then record_after pairs_of holds good_pair
+    is_matrix on_columns swap_in_all step_column step_columns eliminated first_holding outside seventh tested record_after pairs_of holds good_pair
     good_pairs good_list
     permuted_by sign_of upper_row kept_row solved_row turn solved_column zero_count dead_from dead_in dead_of record_swap multipliers scaled pivot_step step
     eliminate numbers_of

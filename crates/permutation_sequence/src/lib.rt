@@ -29,13 +29,11 @@ pub fn test_permuting(
 {
     let sizes = refusals::outside(1, m) | refusals::outside(0, n);
     let lengths = store::is_matrix(s, m, n) & (swaps.len() == 128);
+    let good = swap_list::is_good_list(swaps, pairs, bound, 64);
     refusals::first_of(&[
         (Refusal::Size, sizes),
         (Refusal::Length, !lengths),
-        (
-            Refusal::SwapList,
-            !swap_list::is_good_list(swaps, pairs, bound, 64),
-        ),
+        (Refusal::SwapList, !good),
         (Refusal::NotFinite, !finite::all_finite(s)),
     ])
 }

@@ -14,7 +14,8 @@ use Rattle.std.proofs.Common.{Result, Err}
 use Rattle.std.specs.Result.{IsErrAnd}
 use Rattle.std.proofs.lemmas.Result.{err_from_is_err_and}
 use Rattle.refusals.specs.declared.Refusal.{Refusal}
-use Rattle.refusals.specs.declared.Refusal.TheVariants.{Size, NotSquare, Length, SwapList, NotFinite, Singular, Overflow, NotAPanelFile, DeadColumns, SeasonFull}
+use Rattle.refusals.specs.declared.Refusal.TheVariants.{Size, NotSquare, Length, SwapList, NotFinite, Singular, Overflow}
+use Rattle.refusals.specs.declared.Refusal.TheVariants.{NotAPanelFile, DeadColumns, SeasonFull}
 use Rattle.refusals.specs.Outcome.{Outcome, done, refused, outcome, number, number_of, first_holding, tested, and_then, Call, leaving}
 use Rattle.refusals.specs.Refusals.{seventh}
 
@@ -113,6 +114,18 @@ same_kind r s e = sym (kind_is r) ∙ ap kind_of e ∙ kind_is s
 -- the kind that some calls tell apart
 pub only_overflow : (refusal : Refusal) → number refusal ≡ 7 → refusal ≡ Overflow
 only_overflow refusal e = same_kind refusal Overflow e
+
+pub only_singular : (refusal : Refusal) → number refusal ≡ 6 → refusal ≡ Singular
+only_singular Size e = absurd (omega (arith, e))
+only_singular NotSquare e = absurd (omega (arith, e))
+only_singular Length e = absurd (omega (arith, e))
+only_singular SwapList e = absurd (omega (arith, e))
+only_singular NotFinite e = absurd (omega (arith, e))
+only_singular Singular e = refl
+only_singular Overflow e = absurd (omega (arith, e))
+only_singular NotAPanelFile e = absurd (omega (arith, e))
+only_singular DeadColumns e = absurd (omega (arith, e))
+only_singular SeasonFull e = absurd (omega (arith, e))
 
 -- ---- a call whose promise is the answer and what its slices hold
 abbrev pub Promise : {A S : Type 0} → Call A S → Result A Refusal → S → Type 0

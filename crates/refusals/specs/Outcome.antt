@@ -1,7 +1,8 @@
 -- Document 01, "Refusal numbers": what a call comes to. One type for all calls.
 use Rattle.std.specs.Prelude.{Bool, cond, List, [], ◌∷◌, ℕ, eqb, Result, Ok, Err}
 use Rattle.refusals.specs.declared.Refusal.{Refusal}
-use Rattle.refusals.specs.declared.Refusal.TheVariants.{Size, NotSquare, Length, SwapList, NotFinite, Singular, Overflow, NotAPanelFile, DeadColumns, SeasonFull}
+use Rattle.refusals.specs.declared.Refusal.TheVariants.{Size, NotSquare, Length, SwapList, NotFinite, Singular, Overflow}
+use Rattle.refusals.specs.declared.Refusal.TheVariants.{NotAPanelFile, DeadColumns, SeasonFull}
 
 -- done with what the call answers, or refused with a number
 pub data Outcome (A : Type 0) : Type 0 where

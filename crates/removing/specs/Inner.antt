@@ -1,5 +1,5 @@
 -- What the promises of the inner functions of removing speak of.
-use Rattle.std.specs.Prelude.{◌≡◌, Bool, true, List, ℕ, ◌+◌, ◌-◌, ◌*◌, ◌≤◌, min, length, Result, Ok, Err}
+use Rattle.std.specs.Prelude.{◌≡◌, Bool, true, List, ℕ, ◌+◌, ◌-◌, ◌*◌, ◌≤◌, min, length, Result}
 use Rattle.numbers.specs.Column.{Column}
 use Rattle.store.specs.Columns.{columns, is_matrix}
 use Rattle.dead_columns.specs.Dead.{dead_in}

@@ -2,7 +2,7 @@
 use Rattle.std.specs.Prelude.{Bool, true, false, not, cond, ◌&&◌, List, ◌++◌, ℕ, ◌-◌, min, ltb, leb, length}
 use Rattle.numbers.specs.Column.{Column, zeros}
 use Rattle.store.specs.Columns.{flat}
-use Rattle.refusals.specs.Outcome.{Outcome, done, refused, tested, leaving}
+use Rattle.refusals.specs.Outcome.{done, tested, leaving}
 use Rattle.swap_list.specs.SwapList.{Swaps, pairs_of, with_pair}
 use Rattle.factors.specs.declared.Record.{Record}
 use Rattle.factors.specs.declared.Asks.{Asks}

@@ -17,8 +17,11 @@ use Rattle.store.proofs.Columns.{sized, flat_columns, length_columns}
 use Rattle.store.proofs.First.{FirstIn}
 use Rattle.blas.specs.Blas.{copied}
 use Rattle.blas.proofs.Rows.{copied_whole}
-use Rattle.refusals.specs.Outcome.{Outcome, done, refused, number_of, leaving}
-use Rattle.refusals.proofs.Outcomes.{tested_none, tested_some}
+use Rattle.std.proofs.Common.{Option as Maybe, Some, None, Result, Ok, Err}
+use Rattle.refusals.specs.declared.Refusal.{Refusal}
+use Rattle.refusals.specs.declared.Refusal.TheVariants.{Overflow}
+use Rattle.refusals.specs.Outcome.{Outcome, done, refused, number, number_of, leaving}
+use Rattle.refusals.proofs.Outcomes.{tested_none, tested_some, only_overflow}
 use Rattle.refusals.proofs.Cases.{first_among, never_both}
 use Rattle.factors.specs.declared.Record.{Record}
 use Rattle.factors.specs.Factors.{slices, Factoring}
@@ -26,13 +29,12 @@ use Rattle.elimination.specs.Elimination.{step, unfactored, eliminate}
 use Rattle.elimination.specs.Reason.{Place, first_reason}
 use Rattle.elimination.proofs.Step.{steps, steps_next, length_steps, rows_steps}
 use Rattle.lu.specs.declared.Factored.{Factored}
-use Rattle.lu.specs.declared.Factored.TheVariants.{Accepted as Factors, Refused as NotFactored}
 use Rattle.lu.specs.Factoring.{factoring_tests, factoring_refusal, settled, factoring, factored, factoring_answer}
 use Rattle.lu.proofs.Told.{Passed, passed, told_accepted, told_refused}
 use Rattle.lu.proofs.Shape.{factors_of, no_refusal, ok, size, shape, accepted_is, settled_number}
 use Rattle.lu.proofs.Reason.{reason_some, factoring_cases}
 use Rattle.why.specs.declared.WhyFactor.{WhyFactor}
-use Rattle.why.specs.declared.WhyFactor.TheVariants.{NoReason, Refused}
+use Rattle.why.specs.declared.WhyFactor.TheVariants.{Refused}
 use Rattle.why.specs.Results.{first_overflow}
 use Rattle.why.specs.Factoring.{factoring_results}
 use Rattle.why.specs.Why.{Told, told_number, overflowed, told_factor, explain_factoring}
@@ -123,17 +125,12 @@ module _ (m n : ℕ) (a out : Column) (store : List ℕ) where
       (rw (length_columns m n a) at x.in_time, omega (arith, wide, first.wide), omega (arith, long, first.long))
 
   -- ---- from what the call gives
-  abbrev pub Promise : WhyFactor → Column → List ℕ → Type 0
-  Promise r f s =
-      (told_factor r ≡ explain_factoring a m n out store)
-      × ((f ≡ (factoring a m n out store).left.factors) × (s ≡ (factoring a m n out store).left.store))
-
-  module _ (made : Factored) (e : factored made ≡ factoring_answer a m n out store) where
+  module _ (made : Result Factored Refusal) (e : factored made ≡ factoring_answer a m n out store) where
     -- accepted
-    pub no_reason : (told : Record) (own : ℕ) → made ≡ Factors told own → told_factor NoReason ≡ explain_factoring a m n out store
+    pub no_reason : (f : Factored) → made ≡ Ok f → told_factor None ≡ explain_factoring a m n out store
     unfolding factoring_answer told_factor
-    no_reason told own is =
-        let accepted : answer ≡ done told = (told_accepted _ answer told own (sym (ap factored is) ∙ e)).0 in
+    no_reason f is =
+        let accepted : answer ≡ done f.told = (told_accepted _ answer f.told f.toss_ups (sym (ap factored is) ∙ e)).0 in
         let none_before = no_refusal m n a out store (ap number_of accepted) in
         let zero : (explain_factoring a m n out store).number ≡ 0 = same_number ∙ ap number_of accepted in
         sym (told_none none_before zero)
@@ -143,73 +140,72 @@ module _ (m n : ℕ) (a out : Column) (store : List ℕ) where
             let by = explained_by h in
             by ∙ overflowed_none _ (sym (ap (λ (x : Told Place). x.number) by) ∙ z)
 
-    -- refused, with another number than 7: by the tests
-    module _ (number : ℕ) (is : made ≡ NotFactored number) where
-      refused_answer : answer ≡ refused number
+    -- refused, for something else than an overflow: by the tests
+    module _ (r : Refusal) (is : made ≡ Err r) where
+      refused_answer : answer ≡ refused (number r)
       unfolding factoring_answer
-      refused_answer = told_refused _ answer number (sym (ap factored is) ∙ e)
+      refused_answer = told_refused _ answer (number r) (sym (ap factored is) ∙ e)
 
-      number_is : number_of answer ≡ number
+      number_is : number_of answer ≡ number r
       number_is = ap number_of refused_answer
 
       -- past the tests there is no other refusal than 7
-      only_seven : refusal ≡ 0 → number ≡ 7
+      only_seven : refusal ≡ 0 → number r ≡ 7
       only_seven none_before =
           let settles = settled_number m n a out store none_before in
           test_cases (all_finite (flat (factors_of m n a).columns))
           (λ t.
           let accepted = accepted_is m n a out store none_before (settles ∙ (rw t)) in
-          never_both _ number (sym (ap (λ (o : Factoring). o.answer) accepted.0) ∙ refused_answer))
+          never_both _ (number r) (sym (ap (λ (o : Factoring). o.answer) accepted.0) ∙ refused_answer))
           (λ t. sym number_is ∙ settles ∙ (rw t))
 
-      pub bad_input : (number ≡ 7 → ⊥) → told_factor (Refused number) ≡ explain_factoring a m n out store
+      pub bad_input : (r ≡ Overflow → ⊥) → told_factor (Some (Refused r)) ≡ explain_factoring a m n out store
       unfolding told_factor
       bad_input ne =
           test_cases (eqb refusal 0)
-          (λ t. absurd (ne (only_seven (eqb-true refusal 0 t))))
+          (λ t. absurd (ne (only_overflow r (only_seven (eqb-true refusal 0 t)))))
           (λ t.
           let some-before = eqb-false refusal 0 t in
-          let same : number ≡ refusal = sym number_is ∙ ap (λ (o : Factoring). number_of o.answer) (refused_is some-before) in
+          let same : number r ≡ refusal = sym number_is ∙ ap (λ (o : Factoring). number_of o.answer) (refused_is some-before) in
           ap told_number same ∙ sym (explained_refused some-before))
 
-      -- no test has the number 7, so with it the tests are past, and the work was not finite
-      pub past_tests : number ≡ 7 → refusal ≡ 0
+    -- no test has the number 7, so an overflow is one of the work, past the tests
+    module _ (is : made ≡ Err Overflow) where
+      pub past_tests : refusal ≡ 0
       unfolding factoring_refusal
-      past_tests seven =
+      past_tests =
           test_cases (eqb refusal 0) (λ t. eqb-true refusal 0 t)
           (λ t.
           let some-before = eqb-false refusal 0 t in
-          let is-seven : refusal ≡ 7 = sym (ap (λ (o : Factoring). number_of o.answer) (refused_is some-before)) ∙ number_is ∙ seven in
+          let is-seven : refusal ≡ 7 = sym (ap (λ (o : Factoring). number_of o.answer) (refused_is some-before)) ∙ number_is Overflow is in
           absurd (first_among (λ k. k ≡ 7 → ⊥) (factoring_tests a m n out store) (λ z. omega (arith, z))
           (λ z. omega (arith, z), (λ z. omega (arith, z), (λ z. omega (arith, z), tt))) is-seven))
 
       -- then `factor` left zeros; the matrix is copied over them, its overflow is looked for, and the slice is zeroed again
-      module _ (seven : number ≡ 7) where
-        its : Passed m n a out store
-        its = passed m n a out store (past_tests seven)
+      its : Passed m n a out store
+      its = passed m n a out store past_tests
 
-        left_zeros : (factoring a m n out store).left.factors ≡ zeros (n * m)
-        unfolding factoring settled
-        left_zeros =
-            let none_before = past_tests seven in
-            let settles = settled_number m n a out store none_before in
-            rw (tested_none refusal (leaving (slices out store)) (settled m n (eliminate m (columns m n a))) none_before)
-            (test_cases (all_finite (flat (factors_of m n a).columns))
-            (λ t. absurd (let zero : number ≡ 0 = sym number_is ∙ settles ∙ (rw t) in omega arith)) (λ t. rw t))
+      left_zeros : (factoring a m n out store).left.factors ≡ zeros (n * m)
+      unfolding factoring settled
+      left_zeros =
+          let settles = settled_number m n a out store past_tests in
+          rw (tested_none refusal (leaving (slices out store)) (settled m n (eliminate m (columns m n a))) past_tests)
+          (test_cases (all_finite (flat (factors_of m n a).columns))
+          (λ t. absurd (let zero : 7 ≡ 0 = sym (number_is Overflow is) ∙ settles ∙ (rw t) in omega arith)) (λ t. rw t))
 
-        -- t is the slice after the copy over what was left, and u at the end
-        module _ (out' t : Column) (kept : length out' ≡ length out) (copy : t ≡ copied a out') where
-          copy_is : t ≡ a
-          copy_is = copy ∙ copied_whole a out' ((sized m n a its.matrix).size ∙ sym (kept ∙ (sized m n out its.slice).size))
+      -- t is the slice after the copy over what was left, and u at the end
+      module _ (out' t : Column) (kept : length out' ≡ length out) (copy : t ≡ copied a out') where
+        copy_is : t ≡ a
+        copy_is = copy ∙ copied_whole a out' ((sized m n a its.matrix).size ∙ sym (kept ∙ (sized m n out its.slice).size))
 
-          pub copy_ready : (is_matrix t m n ≡ true) × (all_finite t ≡ true)
-          copy_ready = (ap (λ (s : Column). is_matrix s m n) copy_is ∙ its.matrix, ap all_finite copy_is ∙ its.numbers)
+        pub copy_ready : (is_matrix t m n ≡ true) × (all_finite t ≡ true)
+        copy_ready = (ap (λ (s : Column). is_matrix s m n) copy_is ∙ its.matrix, ap all_finite copy_is ∙ its.numbers)
 
-          pub overflow_told : (r : WhyFactor) → told_factor r ≡ overflowed (first_overflow (factoring_results m (columns m n t)))
-              → told_factor r ≡ explain_factoring a m n out store
-          overflow_told r told =
-              told ∙ ap (λ (x : Column). overflowed (first_overflow (factoring_results m (columns m n x)))) copy_is ∙ sym (explained_by (past_tests seven))
+        pub overflow_told : (r : Maybe WhyFactor) → told_factor r ≡ overflowed (first_overflow (factoring_results m (columns m n t)))
+            → told_factor r ≡ explain_factoring a m n out store
+        overflow_told r told =
+            told ∙ ap (λ (x : Column). overflowed (first_overflow (factoring_results m (columns m n x)))) copy_is ∙ sym (explained_by past_tests)
 
-          pub zeroed_again : (k : ℕ) (v : Column) → k ≡ length t → v ≡ zeros k → v ≡ (factoring a m n out store).left.factors
-          zeroed_again k v long made =
-              made ∙ ap zeros (long ∙ ap length copy_is ∙ (sized m n a its.matrix).size) ∙ sym left_zeros
+        pub zeroed_again : (k : ℕ) (v : Column) → k ≡ length t → v ≡ zeros k → v ≡ (factoring a m n out store).left.factors
+        zeroed_again k v long made =
+            made ∙ ap zeros (long ∙ ap length copy_is ∙ (sized m n a its.matrix).size) ∙ sym left_zeros

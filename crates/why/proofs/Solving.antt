@@ -8,6 +8,7 @@ use mathlib.Core.Option.{none, some, or_else, map}
 use Prim.Native.Nat.{ℕ, ◌<◌}
 use native.Mathlib.Omega.{arith}
 use lib.ListN.{length}
+use Rattle.std.proofs.Common.{Some, None}
 use Rattle.numbers.specs.Numbers.{one64}
 use Rattle.finite.specs.Finite.{all_finite}
 use Rattle.numbers.proofs.Each.{each_at}
@@ -23,7 +24,7 @@ use Rattle.solve.specs.Reason.{Stored, first_in_pass}
 use Rattle.triangular_passes.proofs.Lengths.{solved_rows}
 use Rattle.from_factors.specs.Reason.{swapped_sides, lower_sides, solve_reason}
 use Rattle.from_factors.proofs.Reason.{passes_are, lower_finite, start_rows, solve_cases}
-use Rattle.why.specs.declared.WhySolve.TheVariants.{NoReason, Overflow}
+use Rattle.why.specs.declared.WhySolve.TheVariants.{Overflow}
 use Rattle.why.specs.Results.{first_overflow}
 use Rattle.why.specs.Solving.{Spot, spot_at, lower_results, upper_results, pass_results, solving_results}
 use Rattle.why.specs.Inner.{stored_at}
@@ -91,18 +92,18 @@ module _ (n : ℕ) (cs : Matrix) (swaps : Swaps) (bs : Matrix) (rows : HasRows n
   Told p = overflowed (some p) ≡ overflowed (first_overflow (solving_results n cs swaps bs))
 
   pub found_lower : (turn j r : ℕ) → first_in_pass (GivenDiagonal one64) n cs start ≡ some (stored_at (GivenDiagonal one64) j turn r)
-      → told_solve (Overflow 1 j r) ≡ overflowed (first_overflow (solving_results n cs swaps bs))
+      → told_solve (Some (Overflow 1 j r)) ≡ overflowed (first_overflow (solving_results n cs swaps bs))
   unfolding solve_reason or_else told_solve
   found_lower turn j r e = ap overflowed (sym (results_solving ∙ ap (λ o. map spot_of (or_else o (first_in_pass Upper n cs lower))) e))
 
   module _ (e : first_in_pass (GivenDiagonal one64) n cs start ≡ none) where
     pub found_upper : (turn j r : ℕ) → first_in_pass Upper n cs lower ≡ some (stored_at Upper j turn r)
-        → told_solve (Overflow 2 j r) ≡ overflowed (first_overflow (solving_results n cs swaps bs))
+        → told_solve (Some (Overflow 2 j r)) ≡ overflowed (first_overflow (solving_results n cs swaps bs))
     unfolding solve_reason or_else told_solve
     found_upper turn j r d =
         ap overflowed (sym (results_solving ∙ ap (λ o. map spot_of (or_else o (first_in_pass Upper n cs lower))) e ∙ ap (map spot_of) d))
 
-    pub found_none : first_in_pass Upper n cs lower ≡ none → told_solve NoReason ≡ overflowed (first_overflow (solving_results n cs swaps bs))
+    pub found_none : first_in_pass Upper n cs lower ≡ none → told_solve None ≡ overflowed (first_overflow (solving_results n cs swaps bs))
     unfolding solve_reason or_else told_solve overflowed
     found_none d =
         ap overflowed (sym (results_solving ∙ ap (λ o. map spot_of (or_else o (first_in_pass Upper n cs lower))) e ∙ ap (map spot_of) d))

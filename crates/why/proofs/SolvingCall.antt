@@ -23,9 +23,12 @@ use Rattle.blas.specs.Blas.{copied}
 use Rattle.blas.proofs.Rows.{copied_whole}
 use Rattle.dead_columns.specs.Dead.{dead_from, dead_in, dead_of}
 use Rattle.dead_columns.proofs.Dead.{held_dead}
-use Rattle.refusals.specs.Outcome.{number_of, Call, leaving}
+use Rattle.std.proofs.Common.{Option as Maybe, Some, None, Result, Ok, Err}
+use Rattle.refusals.specs.declared.Refusal.{Refusal}
+use Rattle.refusals.specs.declared.Refusal.TheVariants.{Singular, Overflow}
+use Rattle.refusals.specs.Outcome.{outcome, number, number_of, Call, leaving}
 use Rattle.refusals.specs.Refusals.{seventh}
-use Rattle.refusals.proofs.Outcomes.{tested_none, tested_some}
+use Rattle.refusals.proofs.Outcomes.{tested_none, tested_some, never_0, only_singular, only_overflow}
 use Rattle.refusals.proofs.Cases.{first_among}
 use Rattle.swap_list.specs.SwapList.{pairs_of, good_list}
 use Rattle.solve.specs.Calls.{zero_on_diagonal}
@@ -40,7 +43,7 @@ use Rattle.from_factors.specs.Reason.{swapped_sides, lower_sides, solve_reason}
 use Rattle.from_factors.proofs.Dead.{before, six_passed, six_zero}
 use Rattle.from_factors.proofs.Reason.{sides_size, sides_finite, seven, solve_none, solve_cases}
 use Rattle.why.specs.declared.WhySolve.{WhySolve}
-use Rattle.why.specs.declared.WhySolve.TheVariants.{NoReason, Refused, Singular}
+use Rattle.why.specs.declared.WhySolve.TheVariants.{Refused, Singular as SingularAt}
 use Rattle.why.specs.Results.{first_overflow}
 use Rattle.why.specs.Solving.{Spot}
 use Rattle.why.specs.Inner.{column_or}
@@ -174,52 +177,57 @@ module _ (r : Record) (factors : Column) (store : List ℕ) (k : ℕ) (b x : Col
       never_column none d = let z : ◌≡◌ {A = ℕ} 0 1 = cc in omega arith
       never_column (some p) d = let z : ◌≡◌ {A = ℕ} 0 1 = cc in omega arith
 
-  -- ---- from the number that `solve` gave
-  module _ (number : ℕ) (is : number ≡ number_of call.answer) where
-    -- past the tests it is 0 or 7
-    past_number : refusal ≡ 0 → (number ≡ 0 → ⊥) → number ≡ 7
-    past_number h nonzero =
-        let settles = is ∙ seven r factors store k b x h in
-        test_cases (all_finite (flat (solved_all solved n (columns n n factors) (pairs_of r.pairs store) (columns n k b))))
-        (λ t. absurd (nonzero (settles ∙ (rw t)))) (λ t. settles ∙ (rw t))
-
-    -- a number of the tests
-    test_number : (refusal ≡ 0 → ⊥) → number ≡ refusal
-    test_number ne = is ∙ ap (λ (o : Call (Unit {0}) Column). number_of o.answer) (refused_is ne)
-
-    by_tests : (number ≡ 0 → ⊥) → (number ≡ 7 → ⊥) → (number ≡ refusal) × (refusal ≡ 0 → ⊥)
-    by_tests nonzero other =
-        test_cases (eqb refusal 0) (λ t. absurd (other (past_number (eqb-true refusal 0 t) nonzero)))
-        (λ t. let ne = eqb-false refusal 0 t in (test_number ne, ne))
-
-    pub no_reason : number ≡ 0 → told_solve NoReason ≡ explain_solving factors store r b k x
+  -- ---- from what `solve` answered
+  module _ (answer : Result (Unit {0}) Refusal) (e : outcome answer ≡ call.answer) where
+    pub no_reason : (done : Unit {0}) → answer ≡ Ok done → told_solve None ≡ explain_solving factors store r b k x
     unfolding told_solve overflowed
-    no_reason zero =
+    no_reason done is =
+        let zero : number_of call.answer ≡ 0 = ap number_of (sym e ∙ ap outcome is) in
         test_cases (eqb refusal 0)
         (λ t.
         let by = explained_by (eqb-true refusal 0 t) in
-        sym (by ∙ none_told results (sym (ap (λ (e : Told Spot). e.number) by) ∙ same_number ∙ sym is ∙ zero)))
-        (λ t. let ne = eqb-false refusal 0 t in absurd (ne (sym (test_number ne) ∙ zero)))
+        sym (by ∙ none_told results (sym (ap (λ (e : Told Spot). e.number) by) ∙ same_number ∙ zero)))
+        (λ t. let ne = eqb-false refusal 0 t in absurd (ne (sym (ap (λ (o : Call (Unit {0}) Column). number_of o.answer) (refused_is ne)) ∙ zero)))
       where
         none_told : (o : Option Spot) → (overflowed o).number ≡ 0 → overflowed o ≡ told_number 0
         none_told none e = refl
         none_told (some p) e = absurd (omega (arith, e))
 
-    -- a bad input, of another number than 6
-    pub bad_input : (number ≡ 0 → ⊥) → (number ≡ 6 → ⊥) → (number ≡ 7 → ⊥) → told_solve (Refused number) ≡ explain_solving factors store r b k x
-    unfolding told_solve refused_solving
-    bad_input nonzero other last =
-        let by = by_tests nonzero last in
-        let plain : refused_solving factors n number ≡ told_number number = rw (ne_eqb number 6 other) in
-        sym (explained_refused by.1 ∙ ap (refused_solving factors n) (sym by.0) ∙ plain)
+    module _ (kind : Refusal) (is : answer ≡ Err kind) where
+      number_is : number kind ≡ number_of call.answer
+      number_is = ap number_of (sym (ap outcome is) ∙ e)
+
+      -- past the tests it is an overflow
+      past_kind : refusal ≡ 0 → kind ≡ Overflow
+      past_kind h =
+          let settles = number_is ∙ seven r factors store k b x h in
+          test_cases (all_finite (flat (solved_all solved n (columns n n factors) (pairs_of r.pairs store) (columns n k b))))
+          (λ t. absurd (never_0 kind (settles ∙ (rw t)))) (λ t. only_overflow kind (settles ∙ (rw t)))
+
+      -- a refusal of the tests
+      test_number : (refusal ≡ 0 → ⊥) → number kind ≡ refusal
+      test_number ne = number_is ∙ ap (λ (o : Call (Unit {0}) Column). number_of o.answer) (refused_is ne)
+
+      by_tests : (kind ≡ Overflow → ⊥) → (number kind ≡ refusal) × (refusal ≡ 0 → ⊥)
+      by_tests other =
+          test_cases (eqb refusal 0) (λ t. absurd (other (past_kind (eqb-true refusal 0 t)))) (λ t. let ne = eqb-false refusal 0 t in (test_number ne, ne))
+
+      -- a bad input, and not a singular matrix
+      pub bad_input : (kind ≡ Singular → ⊥) → (kind ≡ Overflow → ⊥) → told_solve (Some (Refused kind)) ≡ explain_solving factors store r b k x
+      unfolding told_solve refused_solving
+      bad_input other last =
+          let by = by_tests last in
+          let plain : refused_solving factors n (number kind) ≡ told_number (number kind) =
+          rw (ne_eqb (number kind) 6 (λ six. other (only_singular kind six))) in
+          sym (explained_refused by.1 ∙ ap (refused_solving factors n) (sym by.0) ∙ plain)
 
     -- ---- singular
-    module _ (six : number ≡ 6) where
-      by : (number ≡ refusal) × (refusal ≡ 0 → ⊥)
-      by = by_tests (λ z. omega arith) (λ z. omega arith)
+    module _ (is : answer ≡ Err Singular) where
+      by : (6 ≡ refusal) × (refusal ≡ 0 → ⊥)
+      by = by_tests Singular is (λ z. let e : 6 ≡ 7 = ap number z in omega arith)
 
       refused_six : refusal ≡ 6
-      refused_six = sym by.0 ∙ six
+      refused_six = sym by.0
 
       its : Passed factors store r (before factors store r (solve_asks b n k x) refl refl)
       its = six_passed factors store r (solve_asks b n k x) refl refl refused_six
@@ -238,7 +246,7 @@ module _ (r : Record) (factors : Column) (store : List ℕ) (k : ℕ) (b x : Col
           let e : ◌≡◌ {A = ℕ} 0 1 = cc in
           omega arith
 
-      pub singular : (j : ℕ) → j ≡ column_or n (lowest_zero 0 (columns n n factors)) → told_solve (Singular j) ≡ explain_solving factors store r b k x
+      pub singular : (j : ℕ) → j ≡ column_or n (lowest_zero 0 (columns n n factors)) → told_solve (Some (SingularAt j)) ≡ explain_solving factors store r b k x
       unfolding told_solve refused_solving
       singular j found =
           let told : refused_solving factors n 6 ≡ record { number = 6; column = some j; place = none } =
@@ -251,14 +259,13 @@ module _ (r : Record) (factors : Column) (store : List ℕ) (k : ℕ) (b x : Col
               (λ i h some-here zero first e. ap (λ (q : ℕ). some q) (sym e))) found
 
     -- ---- overflow: the tests are past, and `solve` left zeros
-    module _ (last : number ≡ 7) where
+    module _ (is : answer ≡ Err Overflow) where
       pub past_tests : refusal ≡ 0
       unfolding held_refusal
       past_tests =
           test_cases (eqb refusal 0) (λ t. eqb-true refusal 0 t)
           (λ t.
-          let is-seven : refusal ≡ 7 = sym (test_number (eqb-false refusal 0 t)) ∙ last in
-          let no : (j : ℕ) → (j ≡ 7 → ⊥) → j ≡ 7 → ⊥ = λ j h e. h e in
+          let is-seven : refusal ≡ 7 = sym (test_number Overflow is (eqb-false refusal 0 t)) in
           absurd (first_among (λ j. j ≡ 7 → ⊥) (held_tests factors store r (solve_asks b n k x)) (λ z. omega (arith, z)) (
             λ z. omega (arith, z),
             (
@@ -288,7 +295,7 @@ module _ (r : Record) (factors : Column) (store : List ℕ) (k : ℕ) (b x : Col
       left_zeros : call.left ≡ zeros (length (solved_by solved factors store r (columns n k b)))
       unfolding solving seventh
       left_zeros =
-          let settles = sym last ∙ is ∙ seven r factors store k b x past_tests in
+          let settles = number_is Overflow is ∙ seven r factors store k b x past_tests in
           rw (tested_none refusal (leaving x) (seventh (solved_by solved factors store r (columns n k b))) past_tests)
           (test_cases (all_finite (solved_by solved factors store r (columns n k b)))
           (λ t. absurd (let zero : 7 ≡ 0 = settles ∙ (rw t) in omega arith)) (λ t. rw t))
@@ -304,7 +311,7 @@ module _ (r : Record) (factors : Column) (store : List ℕ) (k : ℕ) (b x : Col
           (square_list factors store r _ refl own, ap all_finite copy_is ∙ own.numbers),
         )
 
-        pub overflow_told : (a : WhySolve) → told_solve a ≡ overflowed (first_overflow (results_of factors store r (columns n k t)))
+        pub overflow_told : (a : Maybe WhySolve) → told_solve a ≡ overflowed (first_overflow (results_of factors store r (columns n k t)))
             → told_solve a ≡ explain_solving factors store r b k x
         overflow_told a told =
             told ∙ ap (λ (c : Column). overflowed (first_overflow (results_of factors store r (columns n k c)))) copy_is ∙ sym (explained_by past_tests)

@@ -13,6 +13,7 @@ use lib.ListN.{length, get_or, drop, length-drop}
 use lib.Seq.{get_or-drop}
 use lib.Ieee.{nan}
 use lib.Ieee.Scale.{finite}
+use Rattle.std.proofs.Common.{Some}
 use Rattle.numbers.specs.Each.{turns_from}
 use Rattle.numbers.specs.First.{first_failing, first_turn}
 use Rattle.numbers.specs.Column.{Column, entry}
@@ -233,7 +234,7 @@ module _ (m n : ℕ) (s₀ : Column) (fits : is_matrix s₀ m n ≡ true) where
         }
 
     pub stepping_found : (at : ℕ) → all_finite s' ≡ false → at ≡ first_failing finite s'
-        → told_factor (Overflow i (at / m) (at % m)) ≡ overflowed (first_overflow (factoring_results m a))
+        → told_factor (Some (Overflow i (at / m) (at % m))) ≡ overflowed (first_overflow (factoring_results m a))
     unfolding told_factor
     stepping_found at t found =
         let rows : HasRows m (columns m n s') = columns_rows m n s' size' in

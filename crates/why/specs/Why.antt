@@ -1,5 +1,5 @@
 -- Document 02, request 8: what the two explaining calls answer, on every input. "Bad input is answered by the same number as there"; "no reason" is 0.
-use Rattle.std.specs.Prelude.{cond, List, ℕ, eqb, Some, None}
+use Rattle.std.specs.Prelude.{cond, List, ℕ, eqb, Option as Maybe, Some, None}
 use Rattle.std.proofs.Math.Option.{Option, none, some}
 use Rattle.numbers.specs.Column.{Column}
 use Rattle.store.specs.Columns.{columns}
@@ -37,7 +37,7 @@ overflowed (some p) = record { number = 7; column = none; place = some p }
 -- ---- factoring
 
 -- what each case of the answer stands for
-unfoldable pub told_factor : Option WhyFactor → Told Place
+unfoldable pub told_factor : Maybe WhyFactor → Told Place
 told_factor None = told_number 0
 told_factor (Some (Refused refusal)) = told_number (number refusal)
 told_factor (Some (Overflow i j r)) = overflowed (some (place_at i j r))
@@ -48,7 +48,7 @@ explain_factoring a m n out store =
 
 -- ---- solving
 
-unfoldable pub told_solve : Option WhySolve → Told Spot
+unfoldable pub told_solve : Maybe WhySolve → Told Spot
 told_solve None = told_number 0
 told_solve (Some (RefusedSolve refusal)) = told_number (number refusal)
 told_solve (Some (Singular j)) = record { number = 6; column = some j; place = none }

@@ -1,5 +1,5 @@
 -- Document 02, request 8, for a panel file: why its answer is refused. By the reader or by factoring, where those refuse it; else by the solve.
-use Rattle.std.specs.Prelude.{List, ℕ, ◌*◌, replicate, Some, None}
+use Rattle.std.specs.Prelude.{List, ℕ, ◌*◌, replicate, Option as Maybe, Some, None}
 use Rattle.std.proofs.Math.Option.{Option, map, some, none}
 use Rattle.numbers.specs.Column.{Column, zeros}
 use Rattle.refusals.specs.Outcome.{Outcome, done, refused, number, tested}
@@ -41,7 +41,7 @@ unfoldable pub explain_file : List ℕ → Told Stage
 explain_file bytes = explained_by (factors_in bytes) (explain_factors bytes) (λ f. explain_loads f (readings_of (pads_of bytes) bytes))
 
 -- what each case of the answer stands for
-unfoldable pub told_file : Option WhyFile → Told Stage
+unfoldable pub told_file : Maybe WhyFile → Told Stage
 told_file None = told_number 0
 told_file (Some (Refused refusal)) = told_number (number refusal)
 told_file (Some (Factoring i j r)) = record { number = 7; column = none; place = some (in_factoring (place_at i j r)) }

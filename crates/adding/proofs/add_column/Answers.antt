@@ -10,12 +10,3 @@ returns-in_err-test_adding c =
 
 pub add_tested-requires : goal.add_tested-requires
 add_tested-requires c = ready _ _ _ _ (sym c.in_ok-test_adding.ensures)
-
-pub returns : goal.returns
-returns c =
-    record {
-      result_value = c.add_tested.ensures.answer;
-      record_value = c.add_tested.ensures.told;
-      s_after = c.add_tested.ensures.factors;
-      swaps_after = c.add_tested.ensures.pairs;
-    }

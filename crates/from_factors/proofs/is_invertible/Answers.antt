@@ -1,13 +1,13 @@
 -- Refused by the tests, or the test of the number. Assumes nothing.
-use borrow.Author.Tests.{eq-eqb, ne_eqb}
-use Rattle.refusals.specs.Outcome.{tested, outcome}
+use mathlib.Core.Path.{refl}
 use Rattle.from_factors.specs.Determinant.{inverse_test}
+use Rattle.from_factors.proofs.Promises.{outcome_refused, outcome_made}
 use Rattle.from_factors.proofs.is_invertible.Goals as goal
 
-pub returns-then-number-ne0 : goal.returns-then-number-ne0
-unfolding inverse_test tested
-returns-then-number-ne0 c = rw (← c.held_refusal-number.ensures, ne_eqb _ _ c.if-number-ne0.true)
+pub returns-in_err-test_held : goal.returns-in_err-test_held
+unfolding inverse_test
+returns-in_err-test_held c = outcome_refused _ _ _ _ c.in_err-test_held.ensures c.from_residual.ensures.1
 
 pub returns : goal.returns
-unfolding inverse_test tested
-returns c = rw (← c.held_refusal-number.ensures, eq-eqb _ _ c.if-number-ne0.false)
+unfolding inverse_test
+returns c = outcome_made _ _ _ c.in_ok-test_held.ensures refl

@@ -1,6 +1,5 @@
 -- By the finite test. Assumes nothing.
 use mathlib.Core.Path.{sym, ◌∙◌}
-use Rattle.refusals.specs.Outcome.{outcome}
 use Rattle.from_factors.specs.Determinant.{number_or7}
 use Rattle.from_factors.proofs.number_or_7.Goals as goal
 

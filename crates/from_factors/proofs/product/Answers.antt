@@ -1,18 +1,18 @@
 -- Refused by the tests, or the product. Assumes nothing.
-use mathlib.Core.Path.{refl, sym, ◌∙◌}
-use borrow.Author.Tests.{eq-eqb, ne_eqb}
-use Rattle.refusals.specs.Outcome.{tested, outcome}
+use mathlib.Core.Path.{refl, sym, ap}
+use Rattle.refusals.specs.Outcome.{done}
 use Rattle.from_factors.specs.Determinant.{producing}
 use Rattle.factors.proofs.Held.{passed, square_matrix}
+use Rattle.from_factors.proofs.Promises.{outcome_refused, outcome_made}
 use Rattle.from_factors.proofs.product.Goals as goal
 
-pub returns-then-number-ne0 : goal.returns-then-number-ne0
-unfolding producing tested
-returns-then-number-ne0 c = rw (← c.held_refusal-number.ensures, ne_eqb _ _ c.if-number-ne0.true)
+pub returns-in_err-test_held : goal.returns-in_err-test_held
+unfolding producing
+returns-in_err-test_held c = outcome_refused _ _ _ _ c.in_err-test_held.ensures c.from_residual.ensures.1
 
 pub diagonal_product-requires : goal.diagonal_product-requires
-diagonal_product-requires c = square_matrix _ _ _ _ refl (passed _ _ _ _ (sym c.held_refusal-number.ensures ∙ c.if-number-ne0.false))
+diagonal_product-requires c = square_matrix _ _ _ _ refl (passed _ _ _ _ (sym c.in_ok-test_held.ensures))
 
 pub returns : goal.returns
-unfolding producing tested
-returns c = rw (← c.held_refusal-number.ensures, eq-eqb _ _ c.if-number-ne0.false, c.diagonal_product.ensures)
+unfolding producing
+returns c = outcome_made _ _ _ c.in_ok-test_held.ensures (ap done c.diagonal_product.ensures)

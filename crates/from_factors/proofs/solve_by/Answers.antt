@@ -10,20 +10,20 @@ use Rattle.from_factors.specs.Solving.{way_of, solve_asks}
 use Rattle.refusals.proofs.Outcomes.{promise_refused}
 use Rattle.factors.proofs.Held.{Passed, passed, square_matrix, square_list}
 use Rattle.from_factors.proofs.Promises.{promise_solved}
-use Rattle.from_factors.proofs.solve_by.Goals.{After-copy-arg-1}
+use Rattle.from_factors.proofs.solve_by.Goals.{In_ok-test_held}
 use Rattle.from_factors.proofs.solve_by.Goals as goal
 
 -- past the tests
-past : (c : After-copy-arg-1) → let g = c.args in
+none : (c : In_ok-test_held) → let g = c.args in
+    0 ≡ held_refusal g.factors.now g.swaps.now g.told (solve_asks g.b.now g.told.rows g.k g.x.now)
+none c = rw (c.outside-sizes.ensures, c.is_matrix.ensures, c.is_matrix-2.ensures, c.all_finite-numbers.ensures) at c.in_ok-test_held.ensures
+
+past : (c : In_ok-test_held) → let g = c.args in
     Passed g.factors.now g.swaps.now g.told (solve_asks g.b.now g.told.rows g.k g.x.now)
-past c =
-    let number_is : let g = c.args in c.held_refusal-number.result
-    ≡ held_refusal g.factors.now g.swaps.now g.told (solve_asks g.b.now g.told.rows g.k g.x.now) =
-    rw (c.outside-sizes.ensures, c.is_matrix.ensures, c.is_matrix-2.ensures, c.all_finite-numbers.ensures) at c.held_refusal-number.ensures in
-    passed _ _ _ _ (sym number_is ∙ c.if-number-ne0.false)
+past c = passed _ _ _ _ (sym (none c))
 
 -- the right-hand sides and the slice for the solution are matrices
-sides : (c : After-copy-arg-1) → let g = c.args in
+sides : (c : In_ok-test_held) → let g = c.args in
     (is_matrix g.b.now g.told.rows g.k ≡ true) × (is_matrix g.x.now g.told.rows g.k ≡ true)
 sides c =
     let g = c.args in
@@ -31,35 +31,31 @@ sides c =
     let x = is_matrix g.x.now g.told.rows g.k in
     (and_first b x (past c).lengths, and_second b x (past c).lengths)
 
-pub returns-then-number-ne0 : goal.returns-then-number-ne0
-returns-then-number-ne0 c =
-    let number_is : let g = c.args in c.held_refusal-number.result
-    ≡ held_refusal g.factors.now g.swaps.now g.told (solve_asks g.b.now g.told.rows g.k g.x.now) =
-    rw (c.outside-sizes.ensures, c.is_matrix.ensures, c.is_matrix-2.ensures, c.all_finite-numbers.ensures) at c.held_refusal-number.ensures in
-    let whole = promise_refused _ _ _ _ _ number_is c.if-number-ne0.true c.answer_for.ensures in record { result_value = whole.0; x_after = whole.1 }
+pub returns-in_err-test_held : goal.returns-in_err-test_held
+returns-in_err-test_held c =
+    let number_is = rw (c.outside-sizes.ensures, c.is_matrix.ensures, c.is_matrix-2.ensures, c.all_finite-numbers.ensures) at c.in_err-test_held.ensures in
+    let whole = promise_refused _ _ _ _ _ number_is c.from_residual.ensures.1 in record { result_value = whole.0; x_after = whole.1 }
 
 pub solve_mut_by-requires : goal.solve_mut_by-requires
 solve_mut_by-requires c =
-    let p = past (goal.at.solve_mut_by-requires c).After-copy-arg-1 in
+    let past-tests = (goal.at.solve_mut_by-requires c).In_ok-test_held in
+    let p = past past-tests in
     record {
       rows_value = (
         square_matrix _ _ _ _ refl p,
         same_matrix c.args.told.rows c.args.k c.args.x.now _
-            c.copy.auto.dst ∙ (sides (goal.at.solve_mut_by-requires c).After-copy-arg-1).1,
+            c.copy.auto.dst ∙ (sides past-tests).1,
       );
       rows_value_2 = square_list _ _ _ _ refl p;
     }
 
 pub returns : goal.returns
 returns c =
-    let number_is : let g = c.args in c.held_refusal-number.result
-    ≡ held_refusal g.factors.now g.swaps.now g.told (solve_asks g.b.now g.told.rows g.k g.x.now) =
-    rw (c.outside-sizes.ensures, c.is_matrix.ensures, c.is_matrix-2.ensures, c.all_finite-numbers.ensures) at c.held_refusal-number.ensures in
     let g = c.args in
     let n = g.told.rows in
-    let fit = sides (goal.at.returns c).After-copy-arg-1 in
+    let past-tests = (goal.at.returns c).In_ok-test_held in
+    let fit = sides past-tests in
     let long = (sized n g.k g.b.now fit.0).size ∙ sym (sized n g.k g.x.now fit.1).size in
     let is = c.copy.ensures ∙ copied_whole g.b.now g.x.now long in
-    let whole = promise_solved (way_of g.transposed) g.told _ _ _ _ _ _ _ _ _ _ _ number_is c.if-number-ne0.false
-    c.solve_mut_by.ensures (ap (columns n g.k) is) c.settle.ensures.value c.answer_for-2.ensures
-    c.settle.ensures.res_after in record { result_value = whole.0; x_after = whole.1 }
+    let whole = promise_solved (way_of g.transposed) g.told _ _ _ _ _ _ _ _ _ (none past-tests) c.solve_mut_by.ensures (ap (columns n g.k) is)
+    c.settle.ensures.value c.settle.ensures.res_after in record { result_value = whole.0; x_after = whole.1 }

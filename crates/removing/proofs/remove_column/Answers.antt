@@ -10,12 +10,3 @@ returns-in_err-test_removing c =
 
 pub remove_tested-requires : goal.remove_tested-requires
 remove_tested-requires c = ready _ _ _ (sym c.in_ok-test_removing.ensures)
-
-pub returns : goal.returns
-returns c =
-    record {
-      result_value = c.remove_tested.ensures.answer;
-      record_value = c.remove_tested.ensures.told;
-      s_after = c.remove_tested.ensures.factors;
-      swaps_after = c.remove_tested.ensures.pairs;
-    }
