@@ -1,23 +1,21 @@
 -- After k columns the slices hold the outcome of factoring the first k (`Build`). Assumes nothing.
-use Prim.Native.Nat.{ℕ, ◌*◌, ◌+◌, ◌≤◌}
+use Prim.Native.Nat.{ℕ, ◌*◌, ◌+◌, ◌<◌}
 use mathlib.Core.Path.{◌≡◌, refl, sym, ap, ◌∙◌}
 use mathlib.Core.List.{◌++◌}
 use native.Mathlib.Omega.{arith}
-use lib.ListN.{length, drop}
+use lib.ListN.{length, take, drop, length-drop}
 use lib.Seq.{length-take-le, length_front}
-use Rattle.store.proofs.Columns.{sized}
+use Rattle.numbers.specs.Column.{Column}
+use Rattle.store.proofs.Columns.{column_within}
 use Rattle.lu.proofs.Shape.{ok}
-use Rattle.building_up.proofs.Build.{column_ends, slot_ends, slot_long, building_none, Grown, went_on, gave_up, all_added, not_added}
-use Rattle.building_up.proofs.add_all.Goals.{In-Ok, In-loop-k}
+use Rattle.building_up.proofs.Build.{building_none, Grown, went_on, gave_up, all_added, not_added}
+use Rattle.building_up.proofs.add_all.Goals.{In-Ok}
 use Rattle.building_up.proofs.add_all.Goals as goal
 
--- in a turn, column k ends within the matrix and within the slice
-within : (c : In-loop-k) → let g = c.args in
-    (c.loop-k.k * g.m + g.m ≤ length g.a.now) × (c.loop-k.k * g.m + g.m ≤ length c.loop-k.out)
-within c = (
-  column_ends _ _ _ _ _ c.requires.swaps_value _ c.loop-k-test.true,
-  slot_ends _ _ _ _ _ c.requires.swaps_value _ c.loop-k-test.true _ c.loop-k.invariant.long,
-)
+-- the slot behind the k columns
+slot_long : (m n k : ℕ) (out : Column) → k < n → length out ≡ n * m → length (take m (drop (k * m) out)) ≡ m
+slot_long m n k out h long =
+    length-take-le m (drop (k * m) out) (omega (arith, column_within m n k out h long, length-drop (k * m) out))
 
 -- a record was answered: one column more
 grown : (c : In-Ok) → let g = c.args in
@@ -25,10 +23,10 @@ grown : (c : In-Ok) → let g = c.args in
     (c.add_column.new.s ++ drop (c.loop-k.k * g.m + g.m) c.loop-k.out)
     c.add_column.new.swaps
 grown c =
-    let none = c.requires.swaps_value in
-    let more = c.loop-k-test.true in
-    went_on _ _ _ _ _ none _ more _ (slot_long _ _ _ _ _ none _ more _ c.loop-k.invariant.long) _ c.loop-k.invariant.accepted _ _ _ _ _
-    (slot_ends _ _ _ _ _ none _ more _ c.loop-k.invariant.long)
+    let t = c.loop-k-test.true in
+    let long = c.loop-k.invariant.long in
+    went_on _ _ _ _ _ c.requires.swaps_value _ t _ (slot_long _ _ _ c.loop-k.out t long) _ c.loop-k.invariant.accepted _ _ _ _ _
+    (column_within _ _ _ c.loop-k.out t long)
     c.loop-k.invariant.front_is c.loop-k.invariant.store_is refl c.add_column.ensures.result_value c.add_column.ensures.s_after
     c.add_column.ensures.swaps_after _ c.in-Ok.is
 
@@ -37,26 +35,23 @@ loop-k-init c = building_none _ _ _ _ _ c.requires.swaps_value _ _ c.requires.sw
 
 pub returns-in_default : goal.returns-in_default
 returns-in_default c =
-    let none = c.requires.swaps_value in
-    let more = c.loop-k-test.true in
-    not_added _ _ _ _ _ none _ _
-    (gave_up _ _ _ _ _ none _ more _ (slot_long _ _ _ _ _ none _ more _ c.loop-k.invariant.long) _ c.loop-k.invariant.accepted _ _ _ _ _
-    (slot_ends _ _ _ _ _ none _ more _ c.loop-k.invariant.long)
+    let t = c.loop-k-test.true in
+    let long = c.loop-k.invariant.long in
+    not_added _ _ _ _ _ c.requires.swaps_value _ _
+    (gave_up _ _ _ _ _ c.requires.swaps_value _ t _ (slot_long _ _ _ c.loop-k.out t long) _ c.loop-k.invariant.accepted _ _
+    _ _ _ (column_within _ _ _ c.loop-k.out t long)
     c.loop-k.invariant.front_is c.loop-k.invariant.store_is refl c.add_column.ensures.result_value c.add_column.ensures.s_after
     c.add_column.ensures.swaps_after _ c.in_default.is)
 
 pub overflow_add-tossed : goal.overflow_add-tossed
-overflow_add-tossed c =
-    let next = grown (goal.at.overflow_add-tossed c).In-Ok in
-    omega (arith, c.loop-k.invariant.within, c.loop-k.invariant.few, next.at_most_one, (ok _ _ _ _ _ c.requires.swaps_value).cols.at_most)
+overflow_add-tossed c = omega (arith, c.loop-k.invariant.few, (grown (goal.at.overflow_add-tossed c).In-Ok).at_most_one, (ok _ _ _ _ _ c.requires.swaps_value).cols.at_most)
 
 pub loop-k-preserved : goal.loop-k-preserved
 loop-k-preserved c =
     let next = grown (goal.at.loop-k-preserved c).In-Ok in
     record {
-      long = length_front c.loop-k.out c.add_column.new.s _ c.add_column.auto.s ∙ c.loop-k.invariant.long;
-      room = c.add_column.auto.swaps ∙ c.loop-k.invariant.room;
-      within = omega arith;
+      whole = c.loop-k.invariant.whole;
+      long = length_front c.loop-k.out c.add_column.new.s (c.loop-k.k * c.args.m + c.args.m) c.add_column.auto.s ∙ c.loop-k.invariant.long;
       accepted = next.accepted;
       front_is = next.front_is;
       store_is = next.store_is;
@@ -67,26 +62,6 @@ loop-k-preserved c =
 pub returns : goal.returns
 returns c =
     let g = c.args in
-    let p = ok _ _ _ _ _ c.requires.swaps_value in
-    let e : c.loop-k.k ≡ g.n = omega (arith, c.loop-k.invariant.within, c.loop-k-test.false) in
+    let e : c.loop-k.k ≡ g.n = omega arith in
     all_added g.m g.n g.a.now _ _ c.requires.swaps_value c.loop-k.out c.loop-k.swaps c.loop-k.told c.loop-k.tossed (rw e at c.loop-k.invariant.counted)
-    (c.loop-k.invariant.long ∙ (sized _ _ _ p.slice).size) (rw e at c.loop-k.invariant.accepted) (rw e at c.loop-k.invariant.front_is)
-    (rw e at c.loop-k.invariant.store_is)
-
-pub overflow_mul-b : goal.overflow_mul-b
-overflow_mul-b c = omega (arith, within c)
-
-pub overflow_add-e : goal.overflow_add-e
-overflow_add-e c = omega (arith, within c)
-
-pub slice_bounds-add_column-end : goal.slice_bounds-add_column-end
-slice_bounds-add_column-end c = omega (arith, within c)
-
-pub slice_bounds-add_column-end-in-loop-k : goal.slice_bounds-add_column-end-in-loop-k
-slice_bounds-add_column-end-in-loop-k c = sym (length-take-le _ _ (within (goal.at.slice_bounds-add_column-end-in-loop-k c).In-loop-k).1)
-
-pub offset_bounds-a-b : goal.offset_bounds-a-b
-offset_bounds-a-b c = omega (arith, within (goal.at.offset_bounds-a-b c).In-loop-k)
-
-pub slice_bounds-add_column-end-in-loop-k-2 : goal.slice_bounds-add_column-end-in-loop-k-2
-slice_bounds-add_column-end-in-loop-k-2 c = (within (goal.at.slice_bounds-add_column-end-in-loop-k-2 c).In-loop-k).0
+    c.loop-k.invariant.long (rw e at c.loop-k.invariant.accepted) (rw e at c.loop-k.invariant.front_is) (rw e at c.loop-k.invariant.store_is)
