@@ -1,23 +1,15 @@
 -- After k columns the slices hold the outcome of factoring the first k (`Build`). Assumes nothing.
-use Prim.Native.Nat.{ℕ, ◌*◌, ◌+◌, ◌≤◌}
+use Prim.Native.Nat.{ℕ, ◌*◌, ◌+◌}
 use mathlib.Core.Path.{◌≡◌, refl, sym, ap, ◌∙◌}
 use mathlib.Core.List.{◌++◌}
 use native.Mathlib.Omega.{arith}
-use lib.ListN.{length, drop}
+use lib.ListN.{drop}
 use lib.Seq.{length-take-le, length_front}
 use Rattle.store.proofs.Columns.{sized}
 use Rattle.lu.proofs.Shape.{ok}
-use Rattle.building_up.proofs.Build.{column_ends, slot_ends, slot_long, building_none, Grown, went_on, gave_up, all_added, not_added}
+use Rattle.building_up.proofs.Build.{slot_ends, slot_long, building_none, Grown, went_on, gave_up, all_added, not_added}
 use Rattle.building_up.proofs.add_all.Goals.{In-Ok, In-loop-k}
 use Rattle.building_up.proofs.add_all.Goals as goal
-
--- in a turn, column k ends within the matrix and within the slice
-within : (c : In-loop-k) → let g = c.args in
-    (c.loop-k.k * g.m + g.m ≤ length g.a.now) × (c.loop-k.k * g.m + g.m ≤ length c.loop-k.out)
-within c = (
-  column_ends _ _ _ _ _ c.requires.swaps_value _ c.loop-k-test.true,
-  slot_ends _ _ _ _ _ c.requires.swaps_value _ c.loop-k-test.true _ c.loop-k.invariant.long,
-)
 
 -- a record was answered: one column more
 grown : (c : In-Ok) → let g = c.args in
@@ -73,20 +65,6 @@ returns c =
     (c.loop-k.invariant.long ∙ (sized _ _ _ p.slice).size) (rw e at c.loop-k.invariant.accepted) (rw e at c.loop-k.invariant.front_is)
     (rw e at c.loop-k.invariant.store_is)
 
-pub overflow_mul-b : goal.overflow_mul-b
-overflow_mul-b c = omega (arith, within c)
-
-pub overflow_add-e : goal.overflow_add-e
-overflow_add-e c = omega (arith, within c)
-
-pub slice_bounds-add_column-end : goal.slice_bounds-add_column-end
-slice_bounds-add_column-end c = omega (arith, within c)
-
 pub slice_bounds-add_column-end-in-loop-k : goal.slice_bounds-add_column-end-in-loop-k
-slice_bounds-add_column-end-in-loop-k c = sym (length-take-le _ _ (within (goal.at.slice_bounds-add_column-end-in-loop-k c).In-loop-k).1)
-
-pub offset_bounds-a-b : goal.offset_bounds-a-b
-offset_bounds-a-b c = omega (arith, within (goal.at.offset_bounds-a-b c).In-loop-k)
-
-pub slice_bounds-add_column-end-in-loop-k-2 : goal.slice_bounds-add_column-end-in-loop-k-2
-slice_bounds-add_column-end-in-loop-k-2 c = (within (goal.at.slice_bounds-add_column-end-in-loop-k-2 c).In-loop-k).0
+slice_bounds-add_column-end-in-loop-k c =
+    sym (length-take-le _ _ (slot_ends _ _ _ _ _ c.requires.swaps_value _ c.loop-k-test.true _ c.loop-k.invariant.long))
