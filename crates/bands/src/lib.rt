@@ -7,13 +7,13 @@ ghost use Rattle.store.specs.Columns.{columns, is_matrix};
 ghost use Rattle.bands.specs.Bands.{least_on_diagonal, biased, band_of, band_on};
 
 // The least magnitude on the diagonal of n by n factors; an infinity where they have no number.
+#[tactic(auto, using(store::proofs::Columns::sized, store::proofs::Columns::column_within))]
 fn least_on_diagonal(t: &[f64], n: usize) -> f64
     requires { is_matrix t.now n n ≡ true }
     ensures { result ≡ least_on_diagonal n (columns n n t.now) }
 {
     let mut least = f64::from_bits(0x7ff0_0000_0000_0000);
-    let mut i = 0;
-    while i < n {
+    for i in 0..n {
         let a = i * n;
         let p = a + i;
         let x = numbers::magnitude(t[p]);
@@ -21,7 +21,6 @@ fn least_on_diagonal(t: &[f64], n: usize) -> f64
         if lower {
             least = x;
         }
-        i += 1;
     }
     least
 }

@@ -27,10 +27,8 @@ pub fn swap(col: &mut [f64], i: usize, j: usize)
 pub fn scale(col: &mut [f64], from: usize, r: f64)
     ensures { col.new ≡ scale_from from r col.old }
 {
-    let mut k = from;
-    while k < col.len() {
+    for k in from..col.len() {
         col[k] = col[k] * r;
-        k += 1;
     }
 }
 
@@ -41,36 +39,27 @@ pub fn axpy(y: &mut [f64], a: f64, x: &[f64], from: usize)
     if x.len() != y.len() {
         return;
     }
-    let mut k = from;
-    while k < y.len() {
+    for k in from..y.len() {
         y[k] = a * x[k] + y[k];
-        k += 1;
     }
 }
 
 // Writes src over dst, which is as long.
+#[tactic(auto, unfolding(crate::specs::Blas::copied))]
 pub fn copy(dst: &mut [f64], src: &[f64])
     ensures { dst.new ≡ copied src.now dst.old }
 {
     if src.len() != dst.len() {
         return;
     }
-    let mut k = 0;
-    while k < dst.len() {
-        dst[k] = src[k];
-        k += 1;
-    }
+    dst.copy_from_slice(src);
 }
 
 // Every entry becomes +0.0.
 pub fn fill_zero(s: &mut [f64])
     ensures { s.new ≡ zeros (length s.old) }
 {
-    let mut k = 0;
-    while k < s.len() {
-        s[k] = 0.0;
-        k += 1;
-    }
+    s.fill(0.0);
 }
 
 // Adds to each running sum the product at its own place of a block.
@@ -78,10 +67,8 @@ fn add_block(sums: &mut [f64], x: &[f64], y: &[f64])
     requires { (length sums.old ≤ length x.now) × (length sums.old ≤ length y.now) }
     ensures { sums.new ≡ each_from (add_product x.now y.now) 0 sums.old }
 {
-    let mut k = 0;
-    while k < sums.len() {
+    for k in 0..sums.len() {
         sums[k] = sums[k] + x[k] * y[k];
-        k += 1;
     }
 }
 
@@ -91,10 +78,8 @@ fn add_rest(t: f64, x: &[f64], y: &[f64], from: usize) -> f64
     ensures { result ≡ turns_from (add_product x.now y.now) from (length x.now - from) t }
 {
     let mut res = t;
-    let mut k = from;
-    while k < x.len() {
+    for k in from..x.len() {
         res = res + x[k] * y[k];
-        k += 1;
     }
     res
 }
@@ -109,12 +94,10 @@ pub fn dot(x: &[f64], y: &[f64]) -> f64
     }
     let blocks = x.len() / 8;
     let mut acc = [0.0f64; 8];
-    let mut j = 0;
-    while j < blocks {
+    for j in 0..blocks {
         let i = j * 8;
         let e = i + 8;
         add_block(&mut acc, &x[i..e], &y[i..e]);
-        j += 1;
     }
     let res = 0.0 + (acc[0] + acc[4]) + (acc[1] + acc[5]) + (acc[2] + acc[6]) + (acc[3] + acc[7]);
     add_rest(res, x, y, blocks * 8)

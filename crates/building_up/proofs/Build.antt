@@ -51,11 +51,10 @@ pub record Grown (m k : ℕ) (a : Column) (x : Record) (own : ℕ) (s : Column) 
   pub counted : toss_ups m (columns m (k + 1) (take ((k + 1) * m) a)) ≡ toss_ups m (columns m k (take (k * m) a)) + own
   pub at_most_one : own ≤ 1
 
--- after k columns: the lengths stay, and the outcome of factoring the first k was reached, its toss-ups counted
-pub record Building (m n : ℕ) (a out₀ : Column) (store₀ : List ℕ) (out : Column) (store : List ℕ) (told : Record) (tossed k : ℕ) : Type 0 where
-  pub long : length out ≡ length out₀
-  pub room : length store ≡ length store₀
-  pub within : k ≤ n
+-- after k columns: the slices have their sizes, and the outcome of factoring the first k was reached, its toss-ups counted
+pub record Building (m n : ℕ) (a out : Column) (store : List ℕ) (told : Record) (tossed k : ℕ) : Type 0 where
+  pub whole : length a ≡ n * m
+  pub long : length out ≡ n * m
   pub accepted : (outcome_at m k a).answer ≡ done told
   pub front_is : take (k * m) out ≡ (outcome_at m k a).left.factors
   pub store_is : store ≡ (outcome_at m k a).left.store
@@ -142,14 +141,13 @@ module _ (m n : ℕ) (a out : Column) (store : List ℕ) (none : factoring_refus
   unfolding settled eliminate columns turns_from flat all_finite
   start_built = worked m 0 (take (0 * m) a) (zeros (0 * m)) (replicate 128 0) (front_none 0 (omega arith)) ∙ rw (min-zero m)
 
-  pub building_none : (swaps : List ℕ) (told : Record) → swaps ≡ store_of [] → told ≡ record_of m 0 0 0 → Building m n a out swaps out swaps told 0 0
+  pub building_none : (swaps : List ℕ) (told : Record) → swaps ≡ store_of [] → told ≡ record_of m 0 0 0 → Building m n a out swaps told 0 0
   unfolding flat
   building_none swaps told empty is =
       let e = start_built in
       record {
-        long = refl;
-        room = refl;
-        within = omega arith;
+        whole = len_a;
+        long = (sized m n out p.slice).size;
         accepted = ap (λ (o : Factoring). o.answer) e ∙ (λ i. done (record_of m 0 0 (dead_none m i))) ∙ ap done (sym is);
         front_is = ap (λ k. take k out) (zero-mul m) ∙ sym (ap (λ (o : Factoring). o.left.factors) e);
         store_is = empty ∙ sym (ap (λ (o : Factoring). o.left.store) e);

@@ -30,8 +30,7 @@ fn add_all(
         dead: 0,
     };
     let mut tossed = 0;
-    let mut k = 0;
-    while k < n {
+    for k in 0..n {
         let b = k * m;
         let e = b + m;
         let Ok(added) = adding::add_column(&mut out[..e], &a[b..e], swaps, told) else {
@@ -39,7 +38,6 @@ fn add_all(
         };
         told = added.told;
         tossed += added.toss_ups;
-        k += 1;
     }
     Ok(Factored {
         told,

@@ -91,19 +91,15 @@ pub fn read_items(at: usize, bytes: &mut [u8]) -> Items
 
 // The floats that the bytes hold.
 fn floats_of(bytes: &[u8], dst: &mut [f64]) {
-    let mut k = 0;
-    while k < dst.len() {
-        dst[k] = float_of(bits_of(bytes, k));
-        k += 1;
+    for (k, number) in dst.iter_mut().enumerate() {
+        *number = float_of(bits_of(bytes, k));
     }
 }
 
 // The whole numbers that the bytes hold.
 fn wholes_of(bytes: &[u8], dst: &mut [usize]) {
-    let mut k = 0;
-    while k < dst.len() {
-        dst[k] = bits_of(bytes, k) as usize;
-        k += 1;
+    for (k, number) in dst.iter_mut().enumerate() {
+        *number = bits_of(bytes, k) as usize;
     }
 }
 
@@ -142,14 +138,12 @@ pub fn wholes(bytes: &[u8], room: usize, count: usize, dst: &mut [usize]) -> usi
 // Whether the first `count` whole numbers that the bytes hold add to no more than `most`.
 fn add_within(bytes: &[u8], count: usize, most: usize) -> bool {
     let mut left = most;
-    let mut k = 0;
-    while k < count {
+    for k in 0..count {
         let length = bits_of(bytes, k) as usize;
         if left < length {
             return false;
         }
         left -= length;
-        k += 1;
     }
     true
 }

@@ -22,6 +22,7 @@ pub fn dead_at(col: &[f64], j: usize) -> usize
 }
 
 // The dead columns among the first min(m, n) of the m by n matrix s; 0 where s is no such matrix.
+#[tactic(auto, using(store::proofs::Columns::sized, store::proofs::Columns::column_within))]
 pub fn dead_of(s: &[f64], m: usize, n: usize) -> usize
     ensures { result ≡ dead_of s.now m n }
 {
@@ -30,12 +31,10 @@ pub fn dead_of(s: &[f64], m: usize, n: usize) -> usize
     }
     let end = store::min(m, n);
     let mut dead = 0;
-    let mut j = 0;
-    while j < end {
+    for j in 0..end {
         let a = j * m;
         let q = a + j;
         dead += zero_count(s[q]);
-        j += 1;
     }
     dead
 }

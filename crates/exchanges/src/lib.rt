@@ -41,13 +41,11 @@ pub fn apply(
     if swaps.len() / 2 < pairs {
         return;
     }
-    let mut k = 0;
-    while k < pairs {
+    for k in 0..pairs {
         let p = pair_of_turn(k, pairs, reverse);
         let i = swaps[2 * p];
         let j = swaps[2 * p + 1];
         exchange(s, m, n, i, j, columns);
-        k += 1;
     }
 }
 
@@ -56,12 +54,10 @@ fn apply_to_column(col: &mut [f64], swaps: &[usize], pairs: usize)
     requires { 2 * pairs ≤ length swaps.now }
     ensures { col.new ≡ permute (pairs_of pairs swaps.now) col.old }
 {
-    let mut k = 0;
-    while k < pairs {
+    for k in 0..pairs {
         let i = swaps[2 * k];
         let j = swaps[2 * k + 1];
         blas::swap(col, i, j);
-        k += 1;
     }
 }
 
@@ -86,6 +82,7 @@ fn swap_four(
 }
 
 // Exchanges the rows of four pairs, all four in a column before the next: so their numbers are read once, and a column's entries are near each other.
+#[tactic(auto, using(store::proofs::Columns::sized, store::proofs::Columns::column_within))]
 fn exchange_four(s: &mut [f64], m: usize, n: usize, four: &[usize])
     requires { (is_matrix s.old m n ≡ true) × (length four.now ≡ 8) }
     ensures { s.new ≡ on_columns m n (rows_permuted (pairs_of 4 four.now)) s.old }
@@ -98,12 +95,10 @@ fn exchange_four(s: &mut [f64], m: usize, n: usize, four: &[usize])
     let j2 = four[5];
     let i3 = four[6];
     let j3 = four[7];
-    let mut j = 0;
-    while j < n {
+    for j in 0..n {
         let a = j * m;
         let e = a + m;
         swap_four(&mut s[a..e], i0, j0, i1, j1, i2, j2, i3, j3);
-        j += 1;
     }
 }
 
@@ -112,12 +107,10 @@ fn exchange_in_fours(s: &mut [f64], m: usize, n: usize, swaps: &[usize], fours: 
     requires { (is_matrix s.old m n ≡ true) × (8 * fours ≤ length swaps.now) }
     ensures { s.new ≡ on_columns m n (rows_permuted (pairs_of (4 * fours) swaps.now)) s.old }
 {
-    let mut k = 0;
-    while k < fours {
+    for k in 0..fours {
         let a = 8 * k;
         let e = a + 8;
         exchange_four(s, m, n, &swaps[a..e]);
-        k += 1;
     }
 }
 

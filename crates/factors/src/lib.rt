@@ -81,9 +81,5 @@ pub fn record_swap(swaps: &mut [usize], pairs: usize, i: usize, piv: usize) -> u
 pub fn clear(swaps: &mut [usize])
     ensures { swaps.new ≡ replicate (length swaps.old) 0 }
 {
-    let mut k = 0;
-    while k < swaps.len() {
-        swaps[k] = 0;
-        k += 1;
-    }
+    swaps.fill(0);
 }

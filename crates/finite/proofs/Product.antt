@@ -5,14 +5,15 @@ use mathlib.Core.Bool.{Bool, true, false, cond, ◌&&◌, and_assoc}
 use mathlib.Core.List.{List, [], ◌∷◌, ◌++◌}
 use Prim.Native.Nat.compare
 use Prim.Native.Nat.{ℕ, zero, suc, ◌+◌, ◌-◌, ◌*◌, ◌/◌, ◌%◌, ◌^◌, ◌≤◌, ◌<◌, compare}
-use native.Mathlib.Nat.{zero-mod, zero-div, zero-mul, add-sub_cancel_left}
+use native.Mathlib.Nat.{not-suc-le-zero, le_of_suc-le-suc, zero-mod, zero-div, zero-mul, add-sub_cancel_left}
 use native.Mathlib.Omega.{arith}
 use lib.Dec.{T, ltb}
 use lib.IntN.{ℤ}
-use lib.ListN.{length, take, drop, take-append-drop}
+use lib.ListN.{length, get_or, take, drop, take-append-drop, length-take, length-drop}
 use lib.Seq.{drop-cons, drop-drop}
 use lib.Ieee.{Float, nan, inf, fin, binary64, mul, eq, round, units, odd, is_nan, low, emax, prec, up, down, unlike, nearest, size}
 use lib.Ieee.Scale.{finite}
+use Rattle.std.specs.Simd.{first_chunks}
 use Rattle.numbers.specs.Each.{each_from}
 use Rattle.numbers.specs.Column.{Column, entry}
 use Rattle.finite.specs.Finite.{all_finite}
@@ -172,6 +173,25 @@ block_more ts xs rest whole e c split =
           ∙ and_assoc (every naught ts) (all_finite xs) (all_finite rest)
           ∙ ap (λ (b : Bool). every naught ts && b) (sym (finite_append xs rest) ∙ ap all_finite (sym split)),
     )
+
+-- block i of n entries, and what comes behind it
+chunk_at : (n c i : ℕ) (s d : Column) → i < c → get_or (first_chunks n c s) i d ≡ take n (drop (i * n) s)
+chunk_at n zero i s d h = absurd (not-suc-le-zero h)
+chunk_at n (suc c) zero s d h = ap (λ (k : ℕ). take n (drop k s)) (sym (zero-mul n))
+chunk_at n (suc c) (suc i) s d h =
+    let on : n + i * n ≡ suc i * n = omega arith in
+    chunk_at n c i (drop n s) d (le_of_suc-le-suc h) ∙ ap (take n) (drop-drop (i * n) n s ∙ ap (λ (k : ℕ). drop k s) on)
+
+pub chunk_more : (n c i : ℕ) (s : Column) (bs : List Column) (d ts new : Column) → bs ≡ first_chunks n c s → i < c → i * n + n ≤ length s → length ts ≡ n
+    → every calm ts ≡ true → new ≡ paired ts (get_or bs i d)
+    → (every calm new ≡ true) × ((every naught new && all_finite (drop ((i + 1) * n) s)) ≡ (every naught ts && all_finite (drop (i * n) s)))
+chunk_more n c i s bs d ts new front h fits e calm is =
+    let block : get_or bs i d ≡ take n (drop (i * n) s) = ap (λ (l : List Column). get_or l i d) front ∙ chunk_at n c i s d h in
+    let size : length ts ≡ length (take n (drop (i * n) s)) = simp (length-take, length-drop) (omega arith) in
+    let on : i * n + n ≡ (i + 1) * n = omega arith in
+    let split : drop (i * n) s ≡ take n (drop (i * n) s) ++ drop ((i + 1) * n) s =
+    sym (take-append-drop n (drop (i * n) s)) ∙ ap (λ (r : Column). take n (drop (i * n) s) ++ r) (drop-drop n (i * n) s ∙ ap (λ (k : ℕ). drop k s) on) in
+    rw (is, block) (block_more ts (take n (drop (i * n) s)) (drop ((i + 1) * n) s) (drop (i * n) s) size calm split)
 
 -- the block lent as the part from k to k + c
 pub part_first : (s : Column) (k c : ℕ) → drop k s ≡ take (k + c - k) (drop k s) ++ drop (k + c) s

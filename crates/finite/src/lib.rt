@@ -12,11 +12,8 @@ ghost use Rattle.finite.specs.Finite.{all_finite};
 fn rest_finite(s: &[f64], from: usize) -> bool
     ensures { result ≡ all_finite (drop from s.now) }
 {
-    let mut k = from;
-    while k < s.len() {
-        if numbers::is_finite(s[k]) {
-            k += 1;
-        } else {
+    for k in from..s.len() {
+        if !numbers::is_finite(s[k]) {
             return false;
         }
     }
@@ -40,20 +37,19 @@ fn finite_by_eight(s: &[f64], from: usize) -> bool
     let mut t5 = 0.0f64;
     let mut t6 = 0.0f64;
     let mut t7 = 0.0f64;
-    let mut k = from;
-    while s.len() - k >= 8 {
-        t0 = t0 * s[k];
-        t1 = t1 * s[k + 1];
-        t2 = t2 * s[k + 2];
-        t3 = t3 * s[k + 3];
-        t4 = t4 * s[k + 4];
-        t5 = t5 * s[k + 5];
-        t6 = t6 * s[k + 6];
-        t7 = t7 * s[k + 7];
-        k += 8;
+    let (blocks, rest) = s[from..].as_chunks::<8>();
+    for block in blocks {
+        t0 = t0 * block[0];
+        t1 = t1 * block[1];
+        t2 = t2 * block[2];
+        t3 = t3 * block[3];
+        t4 = t4 * block[4];
+        t5 = t5 * block[5];
+        t6 = t6 * block[6];
+        t7 = t7 * block[7];
     }
     let t = (t0 * t4) * (t2 * t6) * ((t1 * t5) * (t3 * t7));
-    (t == t) & rest_finite(s, k)
+    (t == t) & rest_finite(rest, 0)
 }
 
 // Multiplies each product by the entry at its own place of a block.
@@ -61,10 +57,8 @@ fn times_block(products: &mut [f64], x: &[f64])
     requires { length products.old ≤ length x.now }
     ensures { products.new ≡ each_from (λ k t. mul binary64 t (entry x.now k)) 0 products.old }
 {
-    let mut k = 0;
-    while k < products.len() {
+    for k in 0..products.len() {
         products[k] = products[k] * x[k];
-        k += 1;
     }
 }
 
@@ -84,11 +78,9 @@ pub fn all_finite_long(s: &[f64]) -> bool
         return finite_by_eight(s, 0);
     }
     let mut products = [0.0f64; 24];
-    let mut k = 0;
-    while s.len() - k >= 24 {
-        let e = k + 24;
-        times_block(&mut products, &s[k..e]);
-        k = e;
+    let (blocks, rest) = s.as_chunks::<24>();
+    for block in blocks {
+        times_block(&mut products, block);
     }
-    finite_by_eight(&products, 0) & finite_by_eight(s, k)
+    finite_by_eight(&products, 0) & finite_by_eight(rest, 0)
 }

@@ -125,10 +125,8 @@ fn tail(s: &mut [f64], m: usize, n: usize, i: usize, j: usize)
     ensures { columns m n s.new ≡ tail_left i j (i + 4) (columns m n s.old) }
 {
     let f = minus(s, m, n, i, j);
-    let mut k = i + 4;
-    while k < m {
+    for k in i + 4..m {
         row(s, m, n, i, f, j, k);
-        k += 1;
     }
 }
 
@@ -142,6 +140,7 @@ fn two_by_four(s: &mut [f64], m: usize, n: usize, i: usize, j: usize) -> usize
     let f = minus(s, m, n, i, j);
     let g = minus(s, m, n, i, j1);
     let mut k = i + 4;
+    // No `for`: the row behind the last four is the answer, and turns that are counted beforehand would have both it and each row worked out from their number.
     while k + 4 <= m {
         let x = numbers(s, m, n, i, f, j, k);
         let y = numbers(s, m, n, i, g, j1, k);
@@ -254,6 +253,7 @@ pub fn four_steps(s: &mut [f64], m: usize, n: usize, i: usize, from: usize)
         return;
     }
     let mut j = from;
+    // No `for`: a turn takes one column or two and answers the next, so a range would be no plainer.
     while j < n {
         j = steps_from(s, m, n, i, j);
     }

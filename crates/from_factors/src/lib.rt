@@ -29,12 +29,10 @@ fn lower_columns(out: &mut [f64], m: usize, n: usize, k: usize, factors: &[f64])
     requires { (is_matrix factors.now m n ≡ true) × (is_matrix out.old m k ≡ true) × (k ≤ m) × (k ≤ n) }
     ensures { out.new ≡ flat (lower_factor k (columns m n factors.now)) }
 {
-    let mut j = 0;
-    while j < k {
+    for j in 0..k {
         let a = j * m;
         let e = a + m;
         lower_column(&mut out[a..e], &factors[a..e], j);
-        j += 1;
     }
 }
 
@@ -79,14 +77,12 @@ fn upper_columns(out: &mut [f64], m: usize, n: usize, k: usize, factors: &[f64])
     requires { (is_matrix factors.now m n ≡ true) × (is_matrix out.old k n ≡ true) × (k ≤ m) }
     ensures { out.new ≡ flat (upper_factor k n (columns m n factors.now)) }
 {
-    let mut j = 0;
-    while j < n {
+    for j in 0..n {
         let a = j * k;
         let e = a + k;
         let b = j * m;
         let f = b + m;
         upper_column(&mut out[a..e], &factors[b..f], j);
-        j += 1;
     }
 }
 
@@ -237,12 +233,10 @@ fn fill_with_identity(x: &mut [f64], n: usize)
     requires { is_matrix x.old n n ≡ true }
     ensures { columns n n x.new ≡ identity n }
 {
-    let mut j = 0;
-    while j < n {
+    for j in 0..n {
         let a = j * n;
         let e = a + n;
         unit_column(&mut x[a..e], j);
-        j += 1;
     }
 }
 
@@ -274,12 +268,10 @@ fn diagonal_product(factors: &[f64], n: usize) -> f64
     ensures { result ≡ diagonal_product n (columns n n factors.now) }
 {
     let mut res = 1.0;
-    let mut i = 0;
-    while i < n {
+    for i in 0..n {
         let a = i * n;
         let q = a + i;
         res = res * factors[q];
-        i += 1;
     }
     res
 }

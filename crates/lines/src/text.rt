@@ -24,10 +24,8 @@ pub fn flush(text: &[u8], at: usize) {
 // Puts every byte of a word.
 pub fn put_word(text: &mut [u8], from: usize, word: &[u8]) -> usize {
     let mut at = from;
-    let mut k = 0;
-    while k < word.len() {
-        at = put(text, at, word[k]);
-        k += 1;
+    for &byte in word {
+        at = put(text, at, byte);
     }
     at
 }
@@ -89,11 +87,9 @@ fn put_gap(text: &mut [u8], at: usize, item: usize) -> usize {
 // Puts the floats of a part.
 pub fn put_floats(text: &mut [u8], from: usize, part: &[f64]) -> usize {
     let mut at = from;
-    let mut k = 0;
-    while k < part.len() {
+    for (k, &number) in part.iter().enumerate() {
         at = put_gap(text, at, k);
-        at = put_float(text, at, part[k]);
-        k += 1;
+        at = put_float(text, at, number);
     }
     at
 }
@@ -109,11 +105,9 @@ pub fn put_front(text: &mut [u8], at: usize, n: usize, floats: &[f64]) -> usize 
 // Puts the whole numbers of a part.
 pub fn put_wholes(text: &mut [u8], from: usize, part: &[usize]) -> usize {
     let mut at = from;
-    let mut k = 0;
-    while k < part.len() {
+    for (k, &number) in part.iter().enumerate() {
         at = put_gap(text, at, k);
-        at = put_whole(text, at, part[k]);
-        k += 1;
+        at = put_whole(text, at, number);
     }
     at
 }
@@ -129,10 +123,8 @@ fn put_shown_byte(text: &mut [u8], at: usize, byte: u8) -> usize {
 // Puts what a program prints, on one line.
 pub fn put_shown(text: &mut [u8], from: usize, word: &[u8]) -> usize {
     let mut at = from;
-    let mut k = 0;
-    while k < word.len() {
-        at = put_shown_byte(text, at, word[k]);
-        k += 1;
+    for &byte in word {
+        at = put_shown_byte(text, at, byte);
     }
     at
 }
@@ -152,10 +144,8 @@ fn put_byte(text: &mut [u8], at: usize, byte: u8) -> usize {
 // Puts the bytes of a part, with nothing between.
 pub fn put_bytes(text: &mut [u8], from: usize, part: &[u8]) -> usize {
     let mut at = from;
-    let mut k = 0;
-    while k < part.len() {
-        at = put_byte(text, at, part[k]);
-        k += 1;
+    for &byte in part {
+        at = put_byte(text, at, byte);
     }
     at
 }

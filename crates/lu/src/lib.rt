@@ -138,10 +138,8 @@ fn factor_steps(
     ensures { Stepped s.old m n from to swaps.old counts result s.new swaps.new }
 {
     let mut now = counts;
-    let mut i = from;
-    while i < to {
+    for i in from..to {
         now = factor_step(s, m, n, i, swaps, now);
-        i += 1;
     }
     now
 }
@@ -183,6 +181,7 @@ fn factor_in_place(s: &mut [f64], m: usize, n: usize, swaps: &mut [usize]) -> Co
         tossed: 0,
     };
     let mut i = 0;
+    // A while, since a for is no plainer: the steps that are left begin where the panels end.
     while 8 < min_nrows_ncols - i {
         counts = factor_panel(s, m, n, i, swaps, counts);
         i += 4;

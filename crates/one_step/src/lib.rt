@@ -27,11 +27,9 @@ fn step_inner(s: &mut [f64], m: usize, n: usize, i: usize, j: usize)
     let b = j * m;
     let e = b + m;
     let u = -s[b + i];
-    let mut k = i + 1;
-    while k < m {
+    for k in i + 1..m {
         let p = u * s[a + k];
         step_entry(&mut s[b..e], k, p);
-        k += 1;
     }
 }
 
@@ -61,9 +59,7 @@ pub fn eliminate(s: &mut [f64], m: usize, n: usize, i: usize)
     if store::min(m, n) <= i {
         return;
     }
-    let mut j = i + 1;
-    while j < n {
+    for j in i + 1..n {
         step_inner(s, m, n, i, j);
-        j += 1;
     }
 }

@@ -56,11 +56,8 @@ fn numbers_finite(file: &[u8], count: usize) -> bool
     requires { 6 + 8 * count ≤ length file.now }
     ensures { result ≡ all_finite (list_of count (number_at file.now)) }
 {
-    let mut k = 0;
-    while k < count {
-        if is_finite_bits(bits_at(file, 6 + 8 * k)) {
-            k += 1;
-        } else {
+    for k in 0..count {
+        if !is_finite_bits(bits_at(file, 6 + 8 * k)) {
             return false;
         }
     }
@@ -73,10 +70,8 @@ fn fill(file: &[u8], from: usize, dst: &mut [f64])
     requires by_index { (k : ℕ) → k < length dst.old → finite (number_at file.now (from + k)) ≡ true }
     ensures { dst.new ≡ list_of (length dst.old) (λ k. number_at file.now (from + k)) }
 {
-    let mut k = 0;
-    while k < dst.len() {
-        dst[k] = f64::from_bits(bits_at(file, 6 + 8 * (from + k)));
-        k += 1;
+    for (k, x) in dst.iter_mut().enumerate() {
+        *x = f64::from_bits(bits_at(file, 6 + 8 * (from + k)));
     }
 }
 

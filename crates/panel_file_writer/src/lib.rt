@@ -18,11 +18,9 @@ fn put_bits(file: &mut [u8], at: usize, bits: u64)
     ensures { KeepsBefore at file.old file.new × (bits_at file.new at ≡ bits) }
 {
     let mut rest = bits;
-    let mut k = 0;
-    while k < 8 {
-        file[at + k] = (rest % 256) as u8;
+    for byte in &mut file[at..at + 8] {
+        *byte = (rest % 256) as u8;
         rest = rest / 256;
-        k += 1;
     }
 }
 
@@ -32,10 +30,8 @@ fn put_numbers(file: &mut [u8], from: usize, numbers: &[f64])
     ensures keeps_before { KeepsBefore (6 + 8 * from) file.old file.new }
     ensures k_after { list_of (length numbers.now) (λ k. number_at file.new (from + k)) ≡ numbers.now }
 {
-    let mut k = 0;
-    while k < numbers.len() {
-        put_bits(file, 6 + 8 * (from + k), f64::to_bits(numbers[k]));
-        k += 1;
+    for (k, x) in numbers.iter().enumerate() {
+        put_bits(file, 6 + 8 * (from + k), f64::to_bits(*x));
     }
 }
 

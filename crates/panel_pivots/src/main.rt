@@ -27,14 +27,12 @@ fn greatest(numbers: &[f64]) -> f64
     ensures { Greatest numbers.now (length numbers.now) result }
 {
     let mut found = 0.0;
-    let mut k = 0;
-    while k < numbers.len() {
-        let x = numbers::magnitude(numbers[k]);
+    for &number in numbers {
+        let x = numbers::magnitude(number);
         let higher = found < x;
         if higher {
             found = x;
         }
-        k += 1;
     }
     found
 }
@@ -44,13 +42,11 @@ fn least(numbers: &[f64]) -> f64
     ensures { Least numbers.now (length numbers.now) result }
 {
     let mut found = f64::from_bits(0x7ff0_0000_0000_0000);
-    let mut k = 0;
-    while k < numbers.len() {
-        let x = numbers::magnitude(numbers[k]);
+    for &number in numbers {
+        let x = numbers::magnitude(number);
         if x < found {
             found = x;
         }
-        k += 1;
     }
     found
 }
@@ -60,11 +56,8 @@ fn fill_diagonal(t: &[f64], n: usize, pivots: &mut [f64])
     requires { (n ≤ 64) × (length t.now ≡ n * n) × (length pivots.old ≡ n) }
     ensures { pivots.new ≡ diagonal_of t.now n }
 {
-    let mut i = 0;
-    while i < n {
-        let a = i * n;
-        pivots[i] = t[a + i];
-        i += 1;
+    for (i, pivot) in pivots.iter_mut().enumerate() {
+        *pivot = t[i * n + i];
     }
 }
 

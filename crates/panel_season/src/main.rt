@@ -85,10 +85,11 @@ fn with_byte(rt: HostRuntime, place: Place, byte: u8, name: &mut [u8]) -> Place 
 // The bytes that were read, one after the other.
 fn with_bytes(rt: HostRuntime, from: Place, bytes: &[u8], name: &mut [u8]) -> Place {
     let mut place = from;
-    let mut k = 0;
-    while k < bytes.len() && place.going {
-        place = with_byte(rt, place, bytes[k], name);
-        k += 1;
+    for &byte in bytes {
+        if !place.going {
+            break;
+        }
+        place = with_byte(rt, place, byte, name);
     }
     place
 }
@@ -112,28 +113,27 @@ fn read_some(rt: HostRuntime, place: Place, name: &mut [u8]) -> Place {
     }
 }
 
-// Reads the list to its end. A proved loop has to end, and nothing says that the input does: so the turns are counted down from a number that no run uses up.
+// Reads the list to its end. A proved loop has to end, and nothing says that the input does: so the loop has more turns than any run uses up.
 fn read_list(rt: HostRuntime, name: &mut [u8]) -> Season {
     let mut place = Place {
         season: Season::new(),
         length: 0,
         going: true,
     };
-    let mut turns = u64::MAX;
-    while turns > 0 && place.going {
+    for _ in 0..u64::MAX {
         place = read_some(rt, place, name);
-        turns -= 1;
+        if !place.going {
+            break;
+        }
     }
     place.season
 }
 
 // Prints the counts but the last, which is the number of files.
 fn print_counts(counts: [usize; 17]) {
-    let mut k = 0;
-    while k < 16 {
-        io::print_decimal(1, counts[k] as u64);
+    for &count in &counts[..16] {
+        io::print_decimal(1, count as u64);
         io::write_all(1, b"\n");
-        k += 1;
     }
 }
 

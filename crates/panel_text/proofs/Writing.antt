@@ -1,17 +1,16 @@
 -- A text written over bytes: piece by piece, and by its last byte first. By what stands before and behind the place. Assumes nothing.
 use mathlib.Core.Path.{◌≡◌, refl, sym, ap, ap₂, ◌∙◌}
 use mathlib.Core.List.{List, [], ◌∷◌, ◌++◌, append-nil, append_assoc}
-use Prim.Native.Nat.{ℕ, zero, suc, ◌+◌, ◌-◌, ◌/◌, ◌%◌, ◌≤◌, ◌<◌}
+use Prim.Native.Nat.{ℕ, zero, suc, ◌+◌, ◌/◌, ◌%◌, ◌≤◌, ◌<◌}
 use native.Mathlib.Numerals.{add-one}
 use native.Mathlib.Nat.{add-zero}
 use native.Mathlib.Omega.{arith}
-use lib.ListN.{length, get_or, set, take, drop, length-append, length-drop, length-set, take-append-drop, drop_of_length-le}
+use lib.ListN.{length, set, take, drop, length-append, length-drop, length-set, take-append-drop}
 use lib.Seq.{length-take-le, set_split, append_snoc, drop-cons, take-set-le, get_or-set_same, drop-set-lt, take_at, drop_at, drop-drop}
 use borrow.Author.Tests.{lt-ltb, le-ltb}
 use lib.Dec.{ltb}
 use lib.Ieee.{Float, binary64, to_bits}
 use Rattle.numbers.proofs.Choice.{cond_cases}
-use Rattle.numbers.proofs.Walk.{drop_next}
 use Rattle.io.specs.Counts.{IsPrefixLen}
 use Rattle.io.specs.Digits.{last_digits, hex_digit_ascii}
 use Rattle.panel_text.specs.Text.{written, decimal, line_of}
@@ -44,21 +43,6 @@ written_append at a b s h =
     ∙ ap (λ (k : ℕ). drop k s) place in
     ap₂ (λ (x y : List ℕ). x ++ b ++ y) (take_at (take at s ++ a) (drop (at + length a) s) (at + length a) l) back
     ∙ ap (λ (t : List ℕ). t ++ drop (at + length (a ++ b)) s) (append_assoc (take at s) a b)
-
--- a loop that writes a text's bytes one after the other: its place k
-pub written_next : (at k : ℕ) (text s : List ℕ) → k < length text → at + length text ≤ length s
-    → written (at + (k + 1)) (drop (k + 1) text) (set s (at + k) (get_or text k 0)) ≡ written (at + k) (drop k text) s
-written_next at k text s h l =
-    let b = get_or text k 0 in
-    let rest = drop (k + 1) text in
-    let d : drop k text ≡ b ∷ rest = drop_next text k 0 h in
-    let ld : length rest ≡ length text - (k + 1) = length-drop (k + 1) text in
-    let at_next : at + (k + 1) ≡ at + k + 1 = omega arith in
-    let fits : at + k + length (b ∷ [] ++ rest) ≤ length s = omega arith in
-    rw (at_next, written_byte (at + k) b s (omega arith), d) (written_append (at + k) (b ∷ []) rest s fits)
-
-pub written_end : (at k : ℕ) (text s : List ℕ) → length text ≤ k → written (at + k) (drop k text) s ≡ s
-written_end at k text s h = ap (λ (t : List ℕ). written (at + k) t s) (drop_of_length-le text h) ∙ written_nil (at + k) s
 
 -- what was written so far, and one piece more
 pub written_more : (at p : ℕ) (a b s now next : List ℕ) → now ≡ written at a s → p ≡ at + length a → next ≡ written p b now → at + length (a ++ b) ≤ length s

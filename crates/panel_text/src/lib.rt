@@ -36,12 +36,9 @@ fn put_word(out: &mut [u8], at: usize, word: &[u8]) -> usize
     ensures value { result ≡ at + length word.now }
     ensures out_after { out.new ≡ written at word.now out.old }
 {
-    let mut k = 0;
-    while k < word.len() {
-        out[at + k] = word[k];
-        k += 1;
-    }
-    at + k
+    let end = at + word.len();
+    out[at..end].copy_from_slice(word);
+    end
 }
 
 // Writes a number below 100 in decimal. Answers the place behind it.
@@ -65,9 +62,7 @@ fn put_hex(out: &mut [u8], at: usize, bits: u64)
     ensures { out.new ≡ written at (last_digits 16 16 bits) out.old }
 {
     let mut rest = bits;
-    let mut k = 16;
-    while 0 < k {
-        k -= 1;
+    for k in (0..16).rev() {
         out[at + k] = glyph(rest % 16);
         rest = rest / 16;
     }
@@ -96,11 +91,8 @@ fn put_lines(out: &mut [u8], from: usize, ranks: &[usize], loads: &[f64]) -> usi
     ensures out_after { out.new ≡ written from (lines_of loads.now ranks.now) out.old }
 {
     let mut at = from;
-    let mut i = 0;
-    while i < ranks.len() {
-        let pad = ranks[i];
+    for &pad in ranks {
         at = put_line(out, at, pad, loads[pad - 1]);
-        i += 1;
     }
     at
 }
@@ -155,10 +147,8 @@ fn put_moves(out: &mut [u8], moves: &[f64]) -> usize
     ensures out_after { out.new ≡ written 0 (moves_text moves.now) out.old }
 {
     let mut at = 0;
-    let mut i = 0;
-    while i < moves.len() {
-        at = put_line(out, at, i + 1, moves[i]);
-        i += 1;
+    for (i, &load) in moves.iter().enumerate() {
+        at = put_line(out, at, i + 1, load);
     }
     at
 }

@@ -1,5 +1,4 @@
 pub mod Digits
 pub mod FirstLine
 pub mod Floats
-pub mod Lines
 pub mod Written

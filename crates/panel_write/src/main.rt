@@ -76,11 +76,8 @@ fn is_line(text: &[u8], at: usize) -> bool
     requires { at + 17 ≤ length text.now }
     ensures { (result ≡ true → LineAt text.now at) × (LineAt text.now at → result ≡ true) }
 {
-    let mut k = 0;
-    while k < 16 && digit(text[at + k]) < 16 {
-        k += 1;
-    }
-    (k == 16) & (text[at + 16] == b'\n')
+    let digits = text[at..at + 16].iter().all(|&byte| digit(byte) < 16);
+    digits & (text[at + 16] == b'\n')
 }
 
 // The number of the four digits at a place.
@@ -123,12 +120,10 @@ fn fill(lines: &[u8], from: usize, numbers: &mut [f64]) -> bool
     ensures value { AreLines lines.now from (length numbers.old) → result ≡ true }
     ensures numbers_len_unchanged { length numbers.new ≡ length numbers.old }
 {
-    let mut k = 0;
-    while k < numbers.len() {
+    for (k, number) in numbers.iter_mut().enumerate() {
         let at = 17 * (from + k);
         if is_line(lines, at) {
-            numbers[k] = float_of(bits_at(lines, at));
-            k += 1;
+            *number = float_of(bits_at(lines, at));
         } else {
             return false;
         }

@@ -2,15 +2,15 @@
 -- that is not chosen, and one that is put among the others. By the parts of the list. Assumes nothing.
 use mathlib.Core.Path.{◌≡◌, refl, sym, ap, ap₂, ◌∙◌}
 use mathlib.Core.Bool.{true, false}
-use mathlib.Core.List.{List, [], ◌∷◌, ◌++◌, append_assoc, append-nil}
+use mathlib.Core.List.{List, [], ◌∷◌, ◌++◌, append_assoc}
 use Prim.Native.Nat.{ℕ, zero, suc, ◌+◌, ◌-◌, ◌≤◌, ◌<◌}
 use native.Mathlib.Numerals.{add-one}
 use native.Mathlib.Omega.{arith}
-use lib.ListN.{length, get_or, set, take, drop, replicate, length-append, length-replicate, length-set, length-take, length-drop, drop_of_length-le}
+use lib.ListN.{length, get_or, set, take, drop, replicate, length-append, length-replicate, length-set, length-take, length-drop}
 use lib.Seq.{drop-cons, set_at, take_at, drop_at, drop-drop}
 use Rattle.numbers.specs.Column.{Column}
 use Rattle.numbers.proofs.Choice.{cond_cases}
-use Rattle.ranking.specs.Ranking.{IsPad, Choice, insert_pad, ranked, pads_to, chosen, listing, padded}
+use Rattle.ranking.specs.Ranking.{IsPad, Choice, insert_pad, ranked, pads_to, chosen, listing}
 use Rattle.ranking.proofs.Inserting.{Every, every_in_front, length_insert, ranked_every}
 
 -- ---- the chosen pads
@@ -116,19 +116,7 @@ module _ (choice : Choice) (loads : Column) where
         slots = d ∙ ap₂ (λ (a b : List ℕ). a ++ b) (ap (insert_pad loads (k + 1)) front ∙ sym more) back;
       }
 
-  -- before the first pad, and after the last
+  -- before the first pad
   pub filling_begins : (was : List ℕ) → Filling was was 0 0
   unfolding listing ranked pads_to chosen
   filling_begins was = record { size = refl; few = omega arith; counted = refl; slots = refl }
-
-  pub filling_ends : (n : ℕ) (was s : List ℕ) (count k : ℕ) → Filling was s count k → n ≤ k → k ≤ n → length was ≡ n
-      → (count ≡ length (listing choice loads n)) × (s ≡ padded n (listing choice loads n))
-  filling_ends n was s count k f l m e =
-      let same : k ≡ n = omega arith in
-      let none : drop k was ≡ [] = drop_of_length-le was {i = k} (omega arith) in
-      let counted : count ≡ length (listing choice loads n) = f.counted ∙ ap (λ (j : ℕ). length (listing choice loads j)) same in (
-        counted,
-        f.slots
-            ∙ ap (λ (t : List ℕ). listing choice loads k ++ t) (ap (λ (t : List ℕ). replicate (k - count) 0 ++ t) none ∙ append-nil _)
-            ∙ ap₂ (λ (j c : ℕ). listing choice loads j ++ replicate (j - c) 0) same counted,
-      )

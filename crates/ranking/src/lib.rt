@@ -44,14 +44,12 @@ fn insert(loads: &[f64], ranks: &mut [usize], count: usize, pad: usize)
     ensures { ranks.new ≡ insert_pad loads.now pad (take count ranks.old) ++ drop (count + 1) ranks.old }
 {
     let mut carried = pad;
-    let mut j = 0;
-    while j < count {
+    for j in 0..count {
         let held = ranks[j];
         if is_ahead(loads, carried, held) {
             ranks[j] = carried;
             carried = held;
         }
-        j += 1;
     }
     ranks[count] = carried;
 }
@@ -78,14 +76,12 @@ fn list(loads: &[f64], all: bool, ranks: &mut [usize]) -> usize
         ≡ padded (length loads.now) (listing (choice_by all loads.now) loads.now (length loads.now)) }
 {
     let mut count = 0;
-    let mut k = 0;
-    while k < loads.len() {
+    for k in 0..loads.len() {
         ranks[k] = 0;
         if is_listed(loads, all, k + 1) {
             insert(loads, ranks, count, k + 1);
             count += 1;
         }
-        k += 1;
     }
     count
 }

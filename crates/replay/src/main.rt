@@ -51,14 +51,14 @@ fn next_case(text: &mut Text, at: usize, bytes: &mut Bytes) -> Place {
     }
 }
 
-// Runs case after case, and writes out the text. Nothing says that an input ends, so the loop counts its turns down from a
-// number that no run uses up.
+// Runs case after case, and writes out the text. Nothing says that an input ends, so the loop has more turns than any run uses up.
 fn all_cases(text: &mut Text, bytes: &mut Bytes) {
     let mut place = Place { at: 0, going: true };
-    let mut turns = u64::MAX;
-    while turns > 0 && place.going {
+    for _ in 0..u64::MAX {
         place = next_case(text, place.at, bytes);
-        turns -= 1;
+        if !place.going {
+            break;
+        }
     }
     lines::flush(text, place.at);
 }

@@ -92,12 +92,10 @@ fn scaled_product(factors: &[f64], n: usize) -> Scaled
         significand: 1.0,
         exponent: 0,
     };
-    let mut i = 0;
-    while i < n {
+    for i in 0..n {
         let a = i * n;
         let q = a + i;
         r = times(r, factors[q]);
-        i += 1;
     }
     r
 }

@@ -24,9 +24,8 @@ fn hand_over(lengths: &[usize], bytes: &[u8]) -> (Season, Result<(), Refusal>) {
     let mut season = Season::new();
     let mut last = Ok(());
     let mut at = 0;
-    let mut k = 0;
-    while k < lengths.len() {
-        let end = end_of(bytes, at, lengths[k]);
+    for &length in lengths {
+        let end = end_of(bytes, at, length);
         last = match season.with_file(&bytes[at..end]) {
             Ok(after) => {
                 season = after;
@@ -35,7 +34,6 @@ fn hand_over(lengths: &[usize], bytes: &[u8]) -> (Season, Result<(), Refusal>) {
             Err(refusal) => Err(refusal),
         };
         at = end;
-        k += 1;
     }
     (season, last)
 }

@@ -23,49 +23,44 @@ fn row_sums(upward: bool, t: &[f64], n: usize, b: &[f64], r: usize, turns: usize
 {
     let e = r + v.len();
     blas::copy(v, &b[r..e]);
-    let mut k = 0;
-    while k < turns {
+    for k in 0..turns {
         let c = row_of(upward, n, k);
         let a = c * n;
         let from = a + r;
         let to = a + e;
         blas::axpy(v, -b[c], &t[from..to], 0);
-        k += 1;
     }
 }
 
 // The rows r on, which v holds with the products of the turns before them, solved by each other downward.
+#[tactic(auto, using(store::proofs::Columns::sized, store::proofs::Columns::column_within))]
 fn within_down(t: &[f64], n: usize, r: usize, v: &mut [f64])
     requires { (is_matrix t.now n n ≡ true) × (r + length v.old ≤ n) }
     ensures { v.new ≡ solved_within false (columns n n t.now) r v.old }
 {
     let e = r + v.len();
-    let mut p = 0;
-    while p < v.len() {
+    for p in 0..v.len() {
         let a = (r + p) * n;
         let from = a + r;
         let to = a + e;
         let x = v[p];
         blas::axpy(v, -x, &t[from..to], p + 1);
-        p += 1;
     }
 }
 
 // The same upward.
+#[tactic(auto, using(store::proofs::Columns::sized, store::proofs::Columns::column_within))]
 fn within_up(t: &[f64], n: usize, r: usize, v: &mut [f64])
     requires { (is_matrix t.now n n ≡ true) × (r + length v.old ≤ n) }
     ensures { v.new ≡ solved_within true (columns n n t.now) r v.old }
 {
     let w = v.len();
-    let mut k = 0;
-    while k < w {
-        let p = w - 1 - k;
+    for p in (0..w).rev() {
         let a = (r + p) * n + r;
         let to = a + p;
         let x = v[p] / t[to];
         v[p] = x;
         blas::axpy(&mut v[..p], -x, &t[a..to], 0);
-        k += 1;
     }
 }
 
@@ -138,26 +133,24 @@ fn single_rows(upward: bool, t: &[f64], n: usize, b: &mut [f64]) -> usize
     ensures upper_bound { (result ≤ n) × ((n - result) % 4 ≡ 0) }
     ensures b_after { rows_from upward n t.now result b.new ≡ all_rows upward n t.now b.old }
 {
-    let mut k = 0;
-    while (n - k) % 4 != 0 {
+    let singles = n % 4;
+    for k in 0..singles {
         one_row(upward, t, n, b, k);
-        k += 1;
     }
-    k
+    singles
 }
 
-// The turns from `from` on, four at a time, until what is left is whole eights. Answers the next turn in the same way.
+// The four turns from `from` on, where what is left is not whole eights. Answers the next turn in the same way.
 fn rows_by_four(upward: bool, t: &[f64], n: usize, b: &mut [f64], from: usize) -> usize
     requires { (is_matrix t.now n n ≡ true) × (length b.old ≡ n) × (from ≤ n) × ((n - from) % 4 ≡ 0) }
     ensures upper_bound { (result ≤ n) × ((n - result) % 8 ≡ 0) }
     ensures b_after { rows_from upward n t.now result b.new ≡ rows_from upward n t.now from b.old }
 {
-    let mut k = from;
-    while (n - k) % 8 >= 4 {
-        four_rows(upward, t, n, b, k);
-        k += 4;
+    if (n - from) % 8 == 0 {
+        return from;
     }
-    k
+    four_rows(upward, t, n, b, from);
+    from + 4
 }
 
 // The turns from `from` on, eight at a time.
@@ -165,10 +158,8 @@ fn rows_by_eight(upward: bool, t: &[f64], n: usize, b: &mut [f64], from: usize)
     requires { (is_matrix t.now n n ≡ true) × (length b.old ≡ n) × (from ≤ n) × ((n - from) % 8 ≡ 0) }
     ensures { b.new ≡ rows_from upward n t.now from b.old }
 {
-    let mut k = from;
-    while n - k >= 8 {
+    for k in (from..n).step_by(8) {
         eight_rows(upward, t, n, b, k);
-        k += 8;
     }
 }
 
@@ -184,6 +175,7 @@ fn solve_column(upward: bool, t: &[f64], n: usize, b: &mut [f64])
 
 // Solves the k right-hand columns in b in place by the n by n matrix t: by its upper triangle, or by its lower one with ones on the diagonal. Where a slice
 // holds no such matrix, b stays as it was.
+#[tactic(auto, using(triangular_passes::proofs::InPlace::column_loop))]
 pub fn solve_in_place(upward: bool, t: &[f64], n: usize, b: &mut [f64], k: usize)
     ensures { b.new ≡ solved_in_place (pass_of upward) t.now n b.old k }
 {
@@ -193,12 +185,10 @@ pub fn solve_in_place(upward: bool, t: &[f64], n: usize, b: &mut [f64], k: usize
     if !store::is_matrix(b, n, k) {
         return;
     }
-    let mut j = 0;
-    while j < k {
+    for j in 0..k {
         let a = j * n;
         let e = a + n;
         solve_column(upward, t, n, &mut b[a..e]);
-        j += 1;
     }
 }
 

@@ -37,12 +37,10 @@ pub fn swap_rows(s: &mut [f64], m: usize, n: usize, i: usize, p: usize, from: us
         return;
     }
     let end = min(to, n);
-    let mut j = from;
-    while j < end {
+    for j in from..end {
         let a = j * m;
         let e = a + m;
         blas::swap(&mut s[a..e], i, p);
-        j += 1;
     }
 }
 

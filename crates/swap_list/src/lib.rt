@@ -28,12 +28,10 @@ pub fn is_good_list(swaps: &[usize], pairs: usize, bound: usize, most: usize) ->
         return false;
     }
     let mut good = true;
-    let mut k = 0;
-    while k < pairs {
+    for k in 0..pairs {
         let i = swaps[2 * k];
         let j = swaps[2 * k + 1];
         good = good & is_good_pair(i, j, bound);
-        k += 1;
     }
     good
 }

@@ -177,15 +177,14 @@ fn solve_column(pass: Pass, t: &[f64], n: usize, b: &mut [f64])
     ensures { b.new ≡ solved_column pass n (columns n n t.now) b.old }
 {
     let turns = turns_of(pass, n);
-    let mut k = 0;
-    while k < turns {
+    for k in 0..turns {
         take_turn(pass, t, n, b, k);
-        k += 1;
     }
 }
 
 // A pass without the tests: solves the k right-hand columns in b in place by the n by n matrix t. Where a slice holds no such matrix,
 // b stays as it was.
+#[tactic(auto, using(crate::proofs::InPlace::column_loop))]
 pub fn solve_in_place(pass: Pass, t: &[f64], n: usize, b: &mut [f64], k: usize)
     ensures { b.new ≡ solved_in_place pass t.now n b.old k }
 {
@@ -195,11 +194,9 @@ pub fn solve_in_place(pass: Pass, t: &[f64], n: usize, b: &mut [f64], k: usize)
     if !store::is_matrix(b, n, k) {
         return;
     }
-    let mut j = 0;
-    while j < k {
+    for j in 0..k {
         let a = j * n;
         let e = a + n;
         solve_column(pass, t, n, &mut b[a..e]);
-        j += 1;
     }
 }

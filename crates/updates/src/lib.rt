@@ -23,10 +23,8 @@ fn update_each(s: &mut [f64], m: usize, n: usize, from: usize, to: usize, j: usi
     requires { (is_matrix s.old m n ≡ true) × (from ≤ to) × (to ≤ j) × (j < n) × (to ≤ m) }
     ensures { columns m n s.new ≡ turns_from (updated_at j) from (to - from) (columns m n s.old) }
 {
-    let mut i = from;
-    while i < to {
+    for i in from..to {
         update_by(s, m, n, i, j);
-        i += 1;
     }
 }
 
@@ -48,10 +46,8 @@ fn update_columns_each(s: &mut [f64], m: usize, n: usize, i: usize, to: usize, f
     requires { (is_matrix s.old m n ≡ true) × (i ≤ to) × (to ≤ m) × (to ≤ from) × (from ≤ n) }
     ensures { columns m n s.new ≡ after_panel i (to - i) from (columns m n s.old) }
 {
-    let mut j = from;
-    while j < n {
+    for j in from..n {
         update_each(s, m, n, i, to, j);
-        j += 1;
     }
 }
 
@@ -93,11 +89,9 @@ fn update_all(s: &mut [f64], m: usize, n: usize)
     ensures { columns m (n + 1) s.new ≡ turns_from (updated_at n) 0 (min m n) (columns m (n + 1) s.old) }
 {
     let all = store::min(m, n);
-    let mut i = 0;
-    while i < all {
+    for i in (0..all).step_by(4) {
         let to = store::min(i + 4, all);
         update_new(s, m, n, i, to);
-        i = to;
     }
 }
 

@@ -7,12 +7,11 @@ use mathlib.Core.Option.{none, some, or_else}
 use Prim.Native.Nat.{ℕ, zero, suc, ◌+◌, ◌≤◌, ◌<◌}
 use native.Mathlib.Nat.{le_of_suc-le-suc, not-suc-le-zero, add-zero}
 use native.Mathlib.Omega.{arith}
-use lib.ListN.{length, get_or, drop, drop_of_length-le}
+use lib.ListN.{length, get_or}
 use lib.Ieee.{nan}
 use lib.Ieee.Scale.{finite}
 use Rattle.numbers.specs.First.{first_failing}
 use Rattle.numbers.specs.Column.{Column, entry}
-use Rattle.numbers.proofs.Walk.{drop_next}
 use Rattle.numbers.proofs.Choice.{test_cases}
 use Rattle.numbers.proofs.First.{failing_before, failing_fails}
 use Rattle.finite.specs.Finite.{all_finite}
@@ -92,21 +91,7 @@ module _ {Place : Type 0} where
         ∙ rw (rw (add-zero k) at (fine 0 (omega arith)))
         (turn_first (suc k) l j p (le_of_suc-le-suc h) (λ q u. rw (shift q) (fine (suc q) (omega arith))) (rw (shift j) bad))
 
--- ---- the walk for the first number of a column that is not finite: what is left from place k on
-module _ (s : Column) (k : ℕ) where
-  pub failing_next : k < length s → finite (entry s k) ≡ true → k + 1 + first_failing finite (drop (k + 1) s) ≡ k + first_failing finite (drop k s)
-  unfolding first_failing
-  failing_next h t = rw (drop_next s k nan h, t) (omega arith)
-
-  pub failing_here : k < length s → finite (entry s k) ≡ false → k ≡ k + first_failing finite (drop k s)
-  unfolding first_failing
-  failing_here h t = rw (drop_next s k nan h, t) (omega arith)
-
-  pub failing_end : length s ≤ k → k ≡ k + first_failing finite (drop k s)
-  unfolding first_failing
-  failing_end h = rw (drop_of_length-le s h) (omega arith)
-
--- a column is finite exactly where that place is its length
+-- a column is finite exactly where the place of the first number that is not is its length
 pub failing_all : (s : Column) → length s ≤ first_failing finite s → all_finite s ≡ true
 failing_all s h = entries_finite s (λ k q. failing_before finite nan s k (omega arith))
 

@@ -50,15 +50,9 @@ pub enum WhySolve {
 fn first_not_finite(s: &[f64]) -> usize
     ensures { result ≡ first_failing finite s.now }
 {
-    let mut k = 0;
-    while k < s.len() {
-        if numbers::is_finite(s[k]) {
-            k += 1;
-        } else {
-            return k;
-        }
-    }
-    k
+    s.iter()
+        .position(|x| !numbers::is_finite(*x))
+        .unwrap_or(s.len())
 }
 
 // The reason of an overflow in the elimination of the m by n matrix in s, by plain steps.
@@ -67,8 +61,7 @@ fn overflow_in_steps(s: &mut [f64], m: usize, n: usize) -> Option<WhyFactor>
     ensures { told_factor result ≡ overflowed (first_overflow (factoring_results m (columns m n s.old))) }
 {
     let end = store::min(m, n);
-    let mut i = 0;
-    while i < end {
+    for i in 0..end {
         lu::plain_step(s, m, n, i);
         let at = first_not_finite(s);
         if at < s.len() {
@@ -78,7 +71,6 @@ fn overflow_in_steps(s: &mut [f64], m: usize, n: usize) -> Option<WhyFactor>
                 row: at % m,
             });
         }
-        i += 1;
     }
     None
 }
@@ -150,14 +142,12 @@ fn overflow_in_column(upper: bool, t: &[f64], n: usize, b: &mut [f64]) -> usize
     ensures { Turned upper n (columns n n t.now) b.old result b.new }
 {
     let turns = turns_of(upper, n);
-    let mut k = 0;
-    while k < turns {
+    for k in 0..turns {
         triangular_passes::solve_turn(pass_of(upper), t, n, b, k);
         let row = stored_row(b, row_of(upper, n, k));
         if row < n {
             return row;
         }
-        k += 1;
     }
     n
 }
@@ -174,15 +164,13 @@ fn overflow_in_pass(upper: bool, t: &[f64], n: usize, x: &mut [f64], k: usize) -
     requires { (is_matrix t.now n n ≡ true) × (is_matrix x.old n k ≡ true) × (1 ≤ n) }
     ensures { Passed upper n k (columns n n t.now) (columns n k x.old) result (columns n k x.new) }
 {
-    let mut j = 0;
-    while j < k {
+    for j in 0..k {
         let a = j * n;
         let e = a + n;
         let row = overflow_in_column(upper, t, n, &mut x[a..e]);
         if row < n {
             return Found { column: j, row };
         }
-        j += 1;
     }
     Found { column: k, row: 0 }
 }
@@ -226,14 +214,12 @@ fn lowest_dead(t: &[f64], n: usize) -> usize
     requires { is_matrix t.now n n ≡ true }
     ensures { result ≡ column_or n (lowest_zero 0 (columns n n t.now)) }
 {
-    let mut j = 0;
-    while j < n {
+    for j in 0..n {
         let a = j * n;
         let q = a + j;
         if numbers::is_zero(t[q]) {
             return j;
         }
-        j += 1;
     }
     n
 }

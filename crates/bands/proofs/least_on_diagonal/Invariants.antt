@@ -8,6 +8,3 @@ use Rattle.bands.proofs.least_on_diagonal.Given as goal
 
 abbrev pub invariant-loop-i : goal.invariant-loop-i
 invariant-loop-i l = turns_from (less_at (columns l.n l.n l.t)) l.i (l.n - l.i) l.least ≡ least_on_diagonal l.n (columns l.n l.n l.t)
-
-abbrev pub decreases-loop-i : goal.decreases-loop-i
-decreases-loop-i l = l.n - l.i

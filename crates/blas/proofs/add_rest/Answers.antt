@@ -5,9 +5,6 @@ use Rattle.blas.specs.Dot.{add_product}
 use Rattle.numbers.proofs.Each.{turns_next, turns_done}
 use Rattle.blas.proofs.add_rest.Goals as goal
 
-pub loop-k-init : goal.loop-k-init
-loop-k-init c = refl
-
 pub loop-k-preserved : goal.loop-k-preserved
 unfolding add_product
 loop-k-preserved c = turns_next (add_product c.args.x.now c.args.y.now) _ _ _ _ (search rules) refl ∙ c.loop-k.invariant

@@ -8,6 +8,3 @@ use Rattle.blas.proofs.add_rest.Given as goal
 
 abbrev pub invariant-loop-k : goal.invariant-loop-k
 invariant-loop-k l = turns_from (add_product l.x l.y) l.k (length l.x - l.k) l.res ≡ turns_from (add_product l.x l.y) l.from (length l.x - l.from) l.t
-
-abbrev pub decreases-loop-k : goal.decreases-loop-k
-decreases-loop-k l = length l.x - l.k

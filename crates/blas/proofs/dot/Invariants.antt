@@ -7,7 +7,4 @@ use Rattle.blas.specs.Dot.{add_block, eight_sums}
 use Rattle.blas.proofs.dot.Given as goal
 
 abbrev pub invariant-loop-j : goal.invariant-loop-j
-invariant-loop-j l = (length l.acc ≡ 8) × (turns_from (add_block l.x l.y) l.j (length l.x / 8 - l.j) l.acc ≡ eight_sums l.x l.y)
-
-abbrev pub decreases-loop-j : goal.decreases-loop-j
-decreases-loop-j l = l.blocks - l.j
+invariant-loop-j l = turns_from (add_block l.x l.y) l.j (length l.x / 8 - l.j) l.acc ≡ eight_sums l.x l.y

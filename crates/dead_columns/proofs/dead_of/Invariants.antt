@@ -1,5 +1,5 @@
 -- The dead columns so far, and those from column j on, are all of them. Assumes nothing.
-use Prim.Native.Nat.{◌+◌, ◌-◌, ◌≤◌, min}
+use Prim.Native.Nat.{◌+◌, ◌≤◌}
 use mathlib.Core.Path.{◌≡◌}
 use lib.ListN.{drop}
 use Rattle.store.specs.Columns.{columns}
@@ -9,6 +9,3 @@ use Rattle.dead_columns.proofs.dead_of.Given as goal
 
 abbrev pub invariant-loop-j : goal.invariant-loop-j
 invariant-loop-j l = (l.dead ≤ l.j) × (l.dead + dead_from l.j (drop l.j (diagonals l.m l.n l.s)) ≡ dead_in l.m (columns l.m l.n l.s))
-
-abbrev pub decreases-loop-j : goal.decreases-loop-j
-decreases-loop-j l = min l.m l.n - l.j

@@ -1,9 +1,9 @@
 -- The pairs that are left from turn k on give the whole. Assumes nothing.
-use Prim.Native.Nat.{ℕ, ◌-◌}
+use Prim.Native.Nat.{ℕ}
 use mathlib.Core.Path.{◌≡◌}
 use mathlib.Core.Bool.{Bool}
 use mathlib.Core.List.{List}
-use lib.ListN.{length, drop}
+use lib.ListN.{drop}
 use Rattle.numbers.specs.Column.{Column}
 use Rattle.swap_list.specs.SwapList.{pairs_of}
 use Rattle.exchanges.specs.Permute.{permuted_by, exchange_of, in_order}
@@ -16,8 +16,4 @@ turns_left k columns reverse m n pairs swaps s = permuted_by (on_slice (exchange
 
 abbrev pub invariant-loop-k : goal.invariant-loop-k
 invariant-loop-k l =
-    (length l.s ≡ length l.initial.s) × (turns_left l.k l.columns l.reverse l.m l.n l.pairs l.swaps l.s
-    ≡ turns_left 0 l.columns l.reverse l.m l.n l.pairs l.swaps l.initial.s)
-
-abbrev pub decreases-loop-k : goal.decreases-loop-k
-decreases-loop-k l = l.pairs - l.k
+    turns_left l.k l.columns l.reverse l.m l.n l.pairs l.swaps l.s ≡ turns_left 0 l.columns l.reverse l.m l.n l.pairs l.swaps l.initial.s

@@ -1,7 +1,6 @@
 -- The columns that are left from column j on give the whole. Assumes nothing.
-use Prim.Native.Nat.{ℕ, ◌-◌}
+use Prim.Native.Nat.{ℕ}
 use mathlib.Core.Path.{◌≡◌}
-use lib.ListN.{length}
 use Rattle.numbers.specs.Each.{each_from}
 use Rattle.numbers.specs.Column.{Column}
 use Rattle.store.specs.Columns.{columns}
@@ -15,8 +14,4 @@ in_column swaps j c = permute swaps c
 
 abbrev pub invariant-loop-j : goal.invariant-loop-j
 invariant-loop-j l =
-    (length l.s ≡ length l.initial.s) × (each_from (in_column (pairs_of 4 l.four)) l.j (columns l.m l.n l.s)
-    ≡ each_from (in_column (pairs_of 4 l.four)) 0 (columns l.m l.n l.initial.s))
-
-abbrev pub decreases-loop-j : goal.decreases-loop-j
-decreases-loop-j l = l.n - l.j
+    each_from (in_column (pairs_of 4 l.four)) l.j (columns l.m l.n l.s) ≡ each_from (in_column (pairs_of 4 l.four)) 0 (columns l.m l.n l.initial.s)

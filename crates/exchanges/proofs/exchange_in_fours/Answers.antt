@@ -1,6 +1,6 @@
 -- Before turn k the first k times four pairs are exchanged. Assumes nothing.
 use Prim.Native.Nat.{ℕ, ◌+◌, ◌*◌}
-use mathlib.Core.Path.{◌≡◌, refl, ap, ◌∙◌}
+use mathlib.Core.Path.{◌≡◌, ap, ◌∙◌}
 use mathlib.Core.Bool.{false}
 use native.Mathlib.Omega.{arith}
 use lib.ListN.{length-take, length-drop}
@@ -14,24 +14,15 @@ use Rattle.exchanges.proofs.OnColumns.{exchange_keeps, pairs_none, pairs_more}
 use Rattle.exchanges.proofs.exchange_in_fours.Goals as goal
 
 pub loop-k-init : goal.loop-k-init
-loop-k-init c = (refl, omega arith, pairs_none _ _ swap_in_all (exchange_keeps false _ _) _ _)
+loop-k-init c = pairs_none _ _ swap_in_all (exchange_keeps false _ _) _ _
 
 pub exchange_four-requires : goal.exchange_four-requires
-exchange_four-requires c = (same_matrix _ _ _ c.loop-k.s c.loop-k.invariant.0 ∙ c.requires.0, simp (length-take, length-drop) (omega arith))
+exchange_four-requires c = (same_matrix _ _ _ c.loop-k.s c.loop-k.auto.s ∙ c.requires.0, simp (length-take, length-drop) (omega arith))
 
 pub loop-k-preserved : goal.loop-k-preserved
 loop-k-preserved c =
     let a = c.args in
-    let four-more : 4 * c.loop-k.k + 4 ≡ 4 * (c.loop-k.k + 1) = omega arith in (
-      c.exchange_four.auto.s ∙ c.loop-k.invariant.0,
-      omega arith,
-      pairs_more a.m a.n swap_in_all (exchange_keeps false a.m a.n) (4 * c.loop-k.k) 4 a.swaps.now a.s.now c.loop-k.s _ c.loop-k.invariant.2
-          (c.exchange_four.ensures ∙ ap (λ (swaps : Swaps). on_columns a.m a.n (rows_permuted swaps) c.loop-k.s) (part_pairs c.loop-k.k a.swaps.now))
-          ∙ ap (λ (i : ℕ). on_columns a.m a.n (rows_permuted (pairs_of i a.swaps.now)) a.s.now) four-more,
-    )
-
-pub returns : goal.returns
-returns c =
-    let a = c.args in
-    let all : c.loop-k.k ≡ a.fours = omega arith in
-    c.loop-k.invariant.2 ∙ ap (λ (i : ℕ). on_columns a.m a.n (rows_permuted (pairs_of (4 * i) a.swaps.now)) a.s.now) all
+    let four-more : 4 * c.loop-k.k + 4 ≡ 4 * (c.loop-k.k + 1) = omega arith in
+    pairs_more a.m a.n swap_in_all (exchange_keeps false a.m a.n) (4 * c.loop-k.k) 4 a.swaps.now a.s.now c.loop-k.s _ c.loop-k.invariant
+    (c.exchange_four.ensures ∙ ap (λ (swaps : Swaps). on_columns a.m a.n (rows_permuted swaps) c.loop-k.s) (part_pairs c.loop-k.k a.swaps.now))
+    ∙ ap (λ (i : ℕ). on_columns a.m a.n (rows_permuted (pairs_of i a.swaps.now)) a.s.now) four-more

@@ -1,32 +1,26 @@
--- Fewer than 128 entries go by eight. Else the products take a block a turn: what they tell, being finite themselves or not, and what is left from row k on
+-- Fewer than 128 entries go by eight. Else the products take a block a turn: what they tell, being finite themselves or not, and what is left behind the block
 -- give the answer. Assumes nothing.
-use Prim.Native.Nat.{◌+◌, ◌-◌}
-use mathlib.Core.Path.{◌≡◌, refl, ap₂, ◌∙◌}
+use Rattle.std.proofs.Common.{ap, sym, ℕ, ◌≡◌, ◌*◌, ◌/◌, refl, length, drop, arith, ap₂, ◌∙◌}
 use mathlib.Core.Bool.{◌&&◌}
-use native.Mathlib.Omega.{arith}
-use lib.ListN.{length, take, drop, length-take, length-drop}
 use lib.Ieee.{of_bits}
-use Rattle.finite.proofs.Product.{naught, calm, every, calm_all, block_more, part_first}
+use Rattle.finite.specs.Finite.{all_finite}
+use Rattle.finite.proofs.Product.{naught, calm, every, calm_all, chunk_more}
 use Rattle.finite.proofs.all_finite_long.Goals as goal
 
-pub returns-then-s-lt128 : goal.returns-then-s-lt128
-returns-then-s-lt128 c = c.finite_by_eight.ensures
-
-pub loop-k-init : goal.loop-k-init
+pub loop-block-init : goal.loop-block-init
 unfolding every calm naught of_bits
-loop-k-init c = (omega arith, refl, refl, refl)
+loop-block-init c = (refl, refl)
 
-pub times_block-requires : goal.times_block-requires
-times_block-requires c = simp (length-take, length-drop) (omega arith)
-
-pub loop-k-preserved : goal.loop-k-preserved
-loop-k-preserved c =
-    let s = c.args.s.now in
-    let fits : length c.loop-k.products ≡ length (take (c.loop-k.k + 24 - c.loop-k.k) (drop c.loop-k.k s)) = simp (length-take, length-drop) (omega arith) in
-    let more = block_more c.loop-k.products (take (c.loop-k.k + 24 - c.loop-k.k) (drop c.loop-k.k s)) _ _ fits c.loop-k.invariant.2
-    (part_first s c.loop-k.k 24) in
-    (omega arith, c.times_block.auto.products ∙ c.loop-k.invariant.1, rw c.times_block.ensures more.0, rw c.times_block.ensures (more.1 ∙ c.loop-k.invariant.3))
+pub loop-block-preserved : goal.loop-block-preserved
+loop-block-preserved c =
+    let more = chunk_more 24 _ c.loop-block.block-index c.args.s.now _ _ _ _ c.as_chunks.ensures.front
+    (omega (arith, c.as_chunks.ensures.front_len)) (omega (arith, c.as_chunks.ensures.front_len)) c.loop-block-test.array_long
+    c.loop-block.invariant.0 c.times_block.ensures in
+    (more.0, more.1 ∙ c.loop-block.invariant.1)
 
 pub returns : goal.returns
 returns c =
-    ap₂ ◌&&◌ (c.finite_by_eight-2.ensures ∙ calm_all c.loop-k.products c.loop-k.invariant.2) c.finite_by_eight-3.ensures ∙ c.loop-k.invariant.3
+    let end : c.loop-block.block-index ≡ length c.args.s.now / 24 = omega (arith, c.as_chunks.ensures.front_len) in
+    ap₂ ◌&&◌ (c.finite_by_eight-2.ensures ∙ calm_all c.loop-block.products c.loop-block.invariant.0)
+    (c.finite_by_eight-3.ensures ∙ ap all_finite c.as_chunks.ensures.back ∙ ap (λ (k : ℕ). all_finite (drop (k * 24) c.args.s.now)) (sym end))
+    ∙ c.loop-block.invariant.1

@@ -6,20 +6,17 @@ use Rattle.four_steps.proofs.Left.{none_left}
 use Rattle.four_steps.proofs.tail.Goals as goal
 
 pub loop-k-init : goal.loop-k-init
-loop-k-init c = (refl, omega arith, c.minus-f.ensures, refl)
+loop-k-init c = (c.minus-f.ensures, refl)
 
 pub row-requires : goal.row-requires
 row-requires c =
     let h = c.requires in
-    (same_matrix _ _ _ _ c.loop-k.invariant.0 ∙ h.0, h.2, h.3, c.loop-k.invariant.1, c.loop-k-test.true, c.loop-k.invariant.2)
+    (same_matrix _ _ _ _ c.loop-k.auto.s ∙ h.0, h.2, h.3, omega arith, c.loop-k-test.true, c.loop-k.invariant.0)
 
 pub loop-k-preserved : goal.loop-k-preserved
-loop-k-preserved c = (c.row.auto.s ∙ c.loop-k.invariant.0, omega arith, c.row.ensures.f_value, c.row.ensures.s_after ∙ c.loop-k.invariant.3)
+loop-k-preserved c = (c.row.ensures.f_value, c.row.ensures.s_after ∙ c.loop-k.invariant.1)
 
 pub returns : goal.returns
 returns c =
     let h = c.requires in
-    none_left _ _ _ _ _ _ (c.loop-k.invariant.0 ∙ (sized _ _ _ h.0).size) h.3 c.loop-k-test.false ∙ c.loop-k.invariant.3
-
-pub minus-f-requires : goal.minus-f-requires
-minus-f-requires c = let h = c.requires in (h.0, h.1, h.3)
+    none_left _ _ _ _ _ _ (c.loop-k.auto.s ∙ (sized _ _ _ h.0).size) h.3 c.loop-k-test.false ∙ c.loop-k.invariant.1

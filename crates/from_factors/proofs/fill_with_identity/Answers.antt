@@ -1,29 +1,13 @@
 -- The columns that are left to write from column j on give the identity. Assumes nothing.
-use Prim.Native.Nat.{ℕ, ◌*◌, ◌+◌, ◌≤◌}
-use mathlib.Core.Path.{◌≡◌, sym, ap, ◌∙◌}
-use native.Mathlib.Omega.{arith}
-use lib.ListN.{length}
-use Rattle.store.proofs.Columns.{sized, column_end, column_length}
+use Prim.Native.Nat.{ℕ}
+use mathlib.Core.Path.{ap, ◌∙◌}
+use Rattle.store.proofs.Columns.{column_length}
 use Rattle.from_factors.specs.Solving.{unit_column}
 use Rattle.from_factors.proofs.Written.{written_start, written_turn, written_end}
-use Rattle.from_factors.proofs.fill_with_identity.Goals.{After-slice_known-1, In-loop-j}
 use Rattle.from_factors.proofs.fill_with_identity.Goals as goal
-
--- the slice has its size, and in a turn column j ends within it
-whole : (c : After-slice_known-1) → length c.args.x.now ≡ c.args.n * c.args.n
-whole c = (sized _ _ _ c.requires).size
-
-within : (c : In-loop-j) → c.loop-j.j * c.args.n + c.args.n ≤ c.args.n *
-    c.args.n
-within c = column_end _ _ _ c.loop-j-test.true
 
 pub loop-j-init : goal.loop-j-init
 loop-j-init c = written_start _ _ _ _ c.requires
-
-pub unit_column-requires : goal.unit_column-requires
-unit_column-requires c =
-    let t = c.loop-j-test.true in
-    rw (column_length c.args.n c.args.n c.loop-j.j c.loop-j.x t c.loop-j.invariant.size) t
 
 pub loop-j-preserved : goal.loop-j-preserved
 loop-j-preserved c =
@@ -32,29 +16,5 @@ loop-j-preserved c =
     written_turn (unit_column n) _ _ _ _ _ t c.loop-j.invariant c.unit_column.auto.dst (c.unit_column.ensures ∙ ap (λ (i : ℕ). unit_column i c.loop-j.j)
     (column_length n n c.loop-j.j c.loop-j.x t c.loop-j.invariant.size))
 
-pub shape_of-x : goal.shape_of-x
-shape_of-x c = c.loop-j.invariant.size ∙ sym (whole (goal.at.shape_of-x c).After-slice_known-1)
-
 pub returns : goal.returns
 returns c = written_end _ _ _ _ _ c.loop-j-test.false c.loop-j.invariant
-
-pub overflow_mul-a : goal.overflow_mul-a
-overflow_mul-a c = omega (arith, within c, whole (goal.at.overflow_mul-a c).After-slice_known-1)
-
-pub overflow_add-e : goal.overflow_add-e
-overflow_add-e c = omega (arith, within c, whole (goal.at.overflow_add-e c).After-slice_known-1)
-
-pub offset_bounds-x-a : goal.offset_bounds-x-a
-offset_bounds-x-a c = omega (arith, within c, whole (goal.at.offset_bounds-x-a c).After-slice_known-1)
-
-pub slice_bounds-unit_column-count : goal.slice_bounds-unit_column-count
-slice_bounds-unit_column-count c = omega (arith, within c, whole (goal.at.slice_bounds-unit_column-count c).After-slice_known-1)
-
-pub slice_bounds-unit_column-start : goal.slice_bounds-unit_column-start
-slice_bounds-unit_column-start c = omega (arith, within c, whole (goal.at.slice_bounds-unit_column-start c).After-slice_known-1)
-
-pub slice_bounds-unit_column-end : goal.slice_bounds-unit_column-end
-slice_bounds-unit_column-end c = omega (arith, within c, whole (goal.at.slice_bounds-unit_column-end c).After-slice_known-1)
-
-pub overflow_add-j : goal.overflow_add-j
-overflow_add-j c = omega (arith, within (goal.at.overflow_add-j c).In-loop-j, whole (goal.at.overflow_add-j c).After-slice_known-1)

@@ -1,5 +1,7 @@
 -- The columns of L that are left to write from column j on give all of them. Assumes nothing.
-use Prim.Native.Nat.{ℕ, ◌-◌}
+use Prim.Native.Nat.{ℕ, ◌*◌}
+use mathlib.Core.Path.{◌≡◌}
+use lib.ListN.{length}
 use Rattle.numbers.specs.Column.{Column}
 use Rattle.store.specs.Columns.{columns}
 use Rattle.store.specs.Steps.{column}
@@ -12,7 +14,4 @@ abbrev pub lower : ℕ → ℕ → Column → ℕ → Column
 lower m n factors j = lower_of j (column (columns m n factors) j)
 
 abbrev pub invariant-loop-j : goal.invariant-loop-j
-invariant-loop-j l = Written (lower l.m l.n l.factors) l.m l.k l.j l.out
-
-abbrev pub decreases-loop-j : goal.decreases-loop-j
-decreases-loop-j l = l.k - l.j
+invariant-loop-j l = (length l.factors ≡ l.n * l.m) × Written (lower l.m l.n l.factors) l.m l.k l.j l.out

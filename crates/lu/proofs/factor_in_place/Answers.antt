@@ -1,22 +1,21 @@
 -- After each panel the slices hold the factors of its last step; the steps that are left give the elimination. Assumes nothing.
 use Prim.Native.Nat.{◌+◌, ◌-◌, ◌≤◌, min}
 use native.Mathlib.Nat.{zero-add, add_assoc}
-use mathlib.Core.Path.{◌≡◌, refl, sym, ap, subst, ◌∙◌}
+use mathlib.Core.Bool.{true}
+use mathlib.Core.Path.{◌≡◌, sym, ap, ◌∙◌}
 use mathlib.Core.List.{[]}
 use native.Mathlib.Omega.{arith}
-use borrow.Author.Rules.{rules}
 use lib.ListN.{length}
 use Rattle.numbers.specs.Each.{turns_from}
-use Rattle.store.specs.Columns.{columns}
+use Rattle.store.specs.Columns.{columns, is_matrix}
 use Rattle.store.proofs.Columns.{sized, same_matrix}
-use Rattle.elimination.specs.Elimination.{step, unfactored, eliminate}
-use Rattle.lu.specs.Inner.{Held}
+use Rattle.elimination.specs.Elimination.{step, unfactored}
 use Rattle.elimination.specs.TossUps.{toss_from}
 use Rattle.lu.proofs.Slices.{held_unfactored, steps_begin}
 use Rattle.elimination.proofs.Step.{turns_join}
 use Rattle.factors.proofs.Swaps.{length_store}
 use Rattle.elimination.proofs.Tossing.{toss_begin, toss_join}
-use Rattle.lu.proofs.factor_in_place.Goals.{After-factor_panel-arg-in-loop-i-1}
+use Rattle.lu.proofs.factor_in_place.Goals.{After-factor_panel-arg-in-loop-i-1, At-loop-i}
 use Rattle.lu.proofs.factor_in_place.Goals as goal
 
 -- more than eight steps are left
@@ -26,12 +25,14 @@ left c =
     let e = c.min-min_nrows_ncols.ensures in
     (omega (arith, e, c.loop-i-test.true), e, (sized _ _ _ c.requires.0).rows_most)
 
+-- the sizes that both calls ask for
+sizes : (c : At-loop-i) → let g = c.args in (is_matrix c.loop-i.s g.m g.n ≡ true) × (length c.loop-i.swaps ≡ 128)
+sizes c = (same_matrix _ _ _ _ c.loop-i.auto.s ∙ c.requires.0, c.loop-i.auto.swaps ∙ ap length c.requires.1 ∙ length_store [] (omega arith))
+
 pub loop-i-init : goal.loop-i-init
 loop-i-init c =
     let g = c.args in
     let size = (sized g.m g.n g.s.now c.requires.0).size in (
-      refl,
-      refl,
       omega arith,
       (omega arith, omega arith),
       (
@@ -44,17 +45,8 @@ loop-i-init c =
       ),
     )
 
-pub overflow_sub-min_nrows_ncols : goal.overflow_sub-min_nrows_ncols
-overflow_sub-min_nrows_ncols c = rw c.min-min_nrows_ncols.ensures c.loop-i.invariant.2
-
-pub factor_panel-counts-requires : goal.factor_panel-counts-requires
-factor_panel-counts-requires c =
-    let pre = c.requires in
-    let few = (left c).0 in
-    record {
-      i_bound = (omega arith, omega arith, c.loop-i.invariant.3.0, c.loop-i.invariant.3.1);
-      n_value = (same_matrix _ _ _ _ c.loop-i.invariant.0 ∙ pre.0, c.loop-i.invariant.1 ∙ ap length pre.1 ∙ length_store [] (omega arith));
-    }
+pub factor_panel-counts-requires-clause-n_value : goal.factor_panel-counts-requires-clause-n_value
+factor_panel-counts-requires-clause-n_value c = sizes (goal.at.factor_panel-counts-requires-clause-n_value c).At-loop-i
 
 pub loop-i-preserved : goal.loop-i-preserved
 loop-i-preserved c =
@@ -62,8 +54,8 @@ loop-i-preserved c =
     let i = c.loop-i.i in
     let end = min g.m g.n in
     let here = (left (goal.at.loop-i-preserved c).After-factor_panel-arg-in-loop-i-1).0 in
-    let f = c.loop-i.invariant.4.0 in
-    let h = c.loop-i.invariant.4.1.0 in
+    let f = c.loop-i.invariant.2.0 in
+    let h = c.loop-i.invariant.2.1.0 in
     let four = i + 4 - i in
     let there : i + 4 ≡ i + four = omega arith in
     let whole : four + (end - (i + 4)) ≡ end - i = omega arith in
@@ -72,47 +64,20 @@ loop-i-preserved c =
     ap (λ j. turns_from step j (end - (i + 4)) f') there ∙ turns_join step i four (end - (i + 4)) f ∙ ap (λ j. turns_from step i j f) whole in
     let toss : toss_from i four f + toss_from (i + 4) (end - (i + 4)) f' ≡ toss_from i (end - i) f =
     ap (λ j. toss_from i four f + toss_from j (end - (i + 4)) f') there ∙ sym (toss_join four i (end - (i + 4)) f) ∙ ap (λ j. toss_from i j f) whole in (
-      c.factor_panel-counts.auto.s ∙ c.loop-i.invariant.0,
-      search rules,
       here,
       (c.factor_panel-counts.ensures.few.0, c.factor_panel-counts.ensures.few.1),
       (
         f',
         (
           c.factor_panel-counts.ensures.steps f h,
-          steps ∙ c.loop-i.invariant.4.1.1,
+          steps ∙ c.loop-i.invariant.2.1.1,
           ap (λ t. t + toss_from (i + 4) (end - (i + 4)) f') (c.factor_panel-counts.ensures.toss f h)
               ∙ add_assoc c.loop-i.counts.tossed (toss_from i four f) (toss_from (i + 4) (end - (i + 4)) f')
               ∙ ap (λ t. c.loop-i.counts.tossed + t) toss
-              ∙ c.loop-i.invariant.4.1.2,
+              ∙ c.loop-i.invariant.2.1.2,
         ),
       ),
     )
 
-pub factor_steps-requires : goal.factor_steps-requires
-factor_steps-requires c =
-    let pre = c.requires in
-    record {
-      from_le_to = (omega (arith, c.loop-i.invariant.2), omega arith, omega arith, c.loop-i.invariant.3.0, c.loop-i.invariant.3.1);
-      n_value = (same_matrix _ _ _ _ c.loop-i.invariant.0 ∙ pre.0, c.loop-i.invariant.1 ∙ ap length pre.1 ∙ length_store [] (omega arith));
-    }
-
-pub returns : goal.returns
-returns c =
-    let g = c.args in
-    let e = c.min-min_nrows_ncols.ensures in
-    let f = c.loop-i.invariant.4.0 in
-    let h = c.loop-i.invariant.4.1.0 in
-    let upto = c.min-min_nrows_ncols.result in
-    let steps : turns_from step c.loop-i.i (upto - c.loop-i.i) f ≡ eliminate g.m (columns g.m g.n g.s.now) =
-    ap (λ j. turns_from step c.loop-i.i (j - c.loop-i.i) f) e ∙ c.loop-i.invariant.4.1.1 in
-    record {
-      held = subst (λ w. Held c.factor_steps.new.s g.m g.n c.factor_steps.new.swaps c.factor_steps.result.pairs w) steps (c.factor_steps.ensures.steps f h);
-      tossed_value = c.factor_steps.ensures.toss f h ∙ ap (λ j. c.loop-i.counts.tossed + toss_from c.loop-i.i (j - c.loop-i.i) f) e ∙ c.loop-i.invariant.4.1.2;
-    }
-
-pub overflow_add-i : goal.overflow_add-i
-overflow_add-i c = omega (arith, left (goal.at.overflow_add-i c).After-factor_panel-arg-in-loop-i-1)
-
-pub loop-i-smaller : goal.loop-i-smaller
-loop-i-smaller c = omega (arith, left (goal.at.loop-i-smaller c).After-factor_panel-arg-in-loop-i-1)
+pub factor_steps-requires-clause-n_value : goal.factor_steps-requires-clause-n_value
+factor_steps-requires-clause-n_value c = sizes (goal.at.factor_steps-requires-clause-n_value c).At-loop-i

@@ -3,10 +3,9 @@ use Prim.Native.Nat.{ℕ, ◌+◌, ◌-◌}
 use native.Mathlib.Nat.{add-zero, add_assoc}
 use mathlib.Core.Path.{refl, sym, ap, subst, ◌∙◌}
 use native.Mathlib.Omega.{arith}
-use borrow.Author.Rules.{rules}
 use Rattle.numbers.proofs.Each.{turns_next, turns_done}
 use Rattle.store.specs.Steps.{Matrix, column}
-use Rattle.store.proofs.Columns.{sized, same_matrix}
+use Rattle.store.proofs.Columns.{same_matrix}
 use Rattle.factors.specs.Factors.{Factors}
 use Rattle.elimination.specs.Elimination.{step}
 use Rattle.lu.specs.Inner.{Held}
@@ -14,39 +13,26 @@ use Rattle.elimination.specs.TossUps.{toss_at, toss_from}
 use Rattle.elimination.proofs.Tossing.{toss_turn, toss_done}
 use Rattle.lu.proofs.factor_steps.Goals as goal
 
-pub loop-i-init : goal.loop-i-init
-loop-i-init c =
-    (refl, refl, c.requires.from_le_to.0, (c.requires.from_le_to.3, c.requires.from_le_to.4, omega arith), λ f h. (f, (h, refl, refl)))
-
-pub factor_step-now-requires : goal.factor_step-now-requires
-factor_step-now-requires c =
-    record {
-      i_lt_m = (omega arith, omega arith, c.loop-i.invariant.3.0, c.loop-i.invariant.3.1);
-      n_value = (same_matrix _ _ _ _ c.loop-i.invariant.0 ∙ c.requires.n_value.0, c.loop-i.invariant.1 ∙ c.requires.n_value.1);
-    }
-
-pub overflow_add-i : goal.overflow_add-i
-overflow_add-i c = omega (arith, (sized _ _ _ c.requires.n_value.0).rows_most)
+pub factor_step-now-requires-clause-n_value : goal.factor_step-now-requires-clause-n_value
+factor_step-now-requires-clause-n_value c =
+    (same_matrix _ _ _ _ c.loop-i.auto.s ∙ c.requires.n_value.0, c.loop-i.auto.swaps ∙ c.requires.n_value.1)
 
 pub loop-i-preserved : goal.loop-i-preserved
 loop-i-preserved c =
     let g = c.args in
     let i = c.loop-i.i in
     let here = c.loop-i-test.true in (
-      c.factor_step-now.auto.s ∙ c.loop-i.invariant.0,
-      search rules,
-      omega arith,
       (
         c.factor_step-now.ensures.pairs_bound.0,
         c.factor_step-now.ensures.pairs_bound.1,
         omega (
           arith,
           c.factor_step-now.ensures.pairs_bound.2,
-          c.loop-i.invariant.3.2,
+          c.loop-i.invariant.0.2,
         ),
       ),
       λ f h.
-          let e = c.loop-i.invariant.4 f h in
+          let e = c.loop-i.invariant.1 f h in
           let w = e.0 in
           let rest = toss_from (i + 1) (g.to - (i + 1)) (step i w) in
           let counted = c.factor_step-now.ensures.tossed_value ∙ ap (λ (cs : Matrix). c.loop-i.now.tossed + toss_at i (column cs i)) e.1.0.is_columns in (
@@ -68,10 +54,10 @@ returns c =
     let end = c.loop-i-test.false in
     record {
       steps = λ f h.
-          let e = c.loop-i.invariant.4 f h in
+          let e = c.loop-i.invariant.1 f h in
           subst (λ (w : Factors). Held c.loop-i.s g.m g.n c.loop-i.swaps c.loop-i.now.pairs w) (sym (turns_done step c.loop-i.i g.to e.0 end) ∙ e.1.1) e.1.0;
       toss = λ f h.
-          let e = c.loop-i.invariant.4 f h in
+          let e = c.loop-i.invariant.1 f h in
           sym (add-zero c.loop-i.now.tossed) ∙ ap (λ (t : ℕ). c.loop-i.now.tossed + t) (sym (toss_done c.loop-i.i g.to e.0 end)) ∙ e.1.2;
-      few = (omega (arith, c.loop-i.invariant.3.0), omega (arith, c.loop-i.invariant.3.1), c.loop-i.invariant.3.2);
+      few = (omega (arith, c.loop-i.invariant.0.0), omega (arith, c.loop-i.invariant.0.1), c.loop-i.invariant.0.2);
     }

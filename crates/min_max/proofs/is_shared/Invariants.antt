@@ -1,12 +1,9 @@
 -- What is left at row k gives the whole. Assumes nothing.
-use Prim.Native.Nat.{◌+◌, ◌-◌, ◌<◌}
+use Prim.Native.Nat.{◌+◌}
 use mathlib.Core.Path.{◌≡◌}
-use lib.ListN.{length, drop}
+use lib.ListN.{drop}
 use Rattle.min_max.specs.TossUp.{shared_from}
 use Rattle.min_max.proofs.is_shared.Given as goal
 
 abbrev pub invariant-loop-k : goal.invariant-loop-k
-invariant-loop-k l = (l.row < l.k) × (shared_from l.top l.row l.k (drop l.k l.col) ≡ shared_from l.top l.row (l.row + 1) (drop (l.row + 1) l.col))
-
-abbrev pub decreases-loop-k : goal.decreases-loop-k
-decreases-loop-k l = length l.col - l.k
+invariant-loop-k l = shared_from l.top l.row l.k (drop l.k l.col) ≡ shared_from l.top l.row (l.row + 1) (drop (l.row + 1) l.col)

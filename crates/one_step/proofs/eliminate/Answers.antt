@@ -26,28 +26,21 @@ returns-then-min-i c =
 
 pub loop-j-init : goal.loop-j-init
 unfolding eliminated
-loop-j-init c = (refl, omega arith, refl, refl)
+loop-j-init c = (refl, refl)
 
 pub step_inner-requires : goal.step_inner-requires
 step_inner-requires c =
     let h = has (goal.at.step_inner-requires c).Else-min-i in
-    (same_matrix _ _ _ _ c.loop-j.invariant.0 ∙ h.0, h.1, h.2, c.loop-j-test.true)
+    (same_matrix _ _ _ _ c.loop-j.auto.s ∙ h.0, h.1, h.2, c.loop-j-test.true)
 
 pub loop-j-preserved : goal.loop-j-preserved
 loop-j-preserved c =
     let hj = c.loop-j-test.true in
-    let made = c.step_inner.ensures in (
-      c.step_inner.auto.s ∙ c.loop-j.invariant.0,
-      omega arith,
-      stepped_column _ _ _ _ _ _ hj made c.loop-j.invariant.1
-          ∙ c.loop-j.invariant.2,
-      stepped_turn _ _ _ _ _ _ hj made _ c.loop-j.invariant.2 ∙ c.loop-j.invariant.3,
-    )
+    let right : c.args.i < c.loop-j.j = omega arith in
+    let made = c.step_inner.ensures in
+    (stepped_column _ _ _ _ _ _ hj made right ∙ c.loop-j.invariant.0, stepped_turn _ _ _ _ _ _ hj made _ c.loop-j.invariant.0 ∙ c.loop-j.invariant.1)
 
 pub returns : goal.returns
 unfolding step_columns
 returns c =
-    on_done _ _ _ _ _ (has (goal.at.returns c).Else-min-i).0 c.loop-j.invariant.0 (sym (column_stop _ _ _ _ _ c.loop-j-test.false) ∙ c.loop-j.invariant.3)
-
-pub overflow_add-j : goal.overflow_add-j
-overflow_add-j c = omega (arith, has c)
+    on_done _ _ _ _ _ (has (goal.at.returns c).Else-min-i).0 c.loop-j.auto.s (sym (column_stop _ _ _ _ _ c.loop-j-test.false) ∙ c.loop-j.invariant.1)

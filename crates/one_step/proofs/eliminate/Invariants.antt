@@ -1,7 +1,5 @@
 -- The columns that are left from column j on give the whole; column i, left of them, stays. Assumes nothing.
-use Prim.Native.Nat.{◌-◌, ◌<◌}
 use mathlib.Core.Path.{◌≡◌}
-use lib.ListN.{length}
 use Rattle.store.specs.Columns.{columns}
 use Rattle.store.specs.Steps.{column}
 use Rattle.one_step.specs.OneStep.{step_columns, eliminated}
@@ -9,8 +7,5 @@ use Rattle.one_step.proofs.eliminate.Given as goal
 
 abbrev pub invariant-loop-j : goal.invariant-loop-j
 invariant-loop-j l =
-    (length l.s ≡ length l.initial.s) × (l.i < l.j) × (column (columns l.m l.n l.s) l.i ≡ column (columns l.m l.n l.initial.s) l.i)
+    (column (columns l.m l.n l.s) l.i ≡ column (columns l.m l.n l.initial.s) l.i)
     × (step_columns l.i (column (columns l.m l.n l.initial.s) l.i) l.j (columns l.m l.n l.s) ≡ eliminated l.i (columns l.m l.n l.initial.s))
-
-abbrev pub decreases-loop-j : goal.decreases-loop-j
-decreases-loop-j l = l.n - l.j

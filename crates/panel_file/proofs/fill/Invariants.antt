@@ -1,5 +1,5 @@
 -- What is left to write from number k on is `each_from` from k on. Assumes nothing.
-use Prim.Native.Nat.{◌-◌, ◌+◌}
+use Prim.Native.Nat.{◌+◌}
 use mathlib.Core.Path.{◌≡◌}
 use lib.ListN.{length}
 use Rattle.numbers.specs.Each.{each_from, list_of}
@@ -8,8 +8,4 @@ use Rattle.panel_file.proofs.fill.Given as goal
 
 abbrev pub invariant-loop-k : goal.invariant-loop-k
 invariant-loop-k l =
-    (length l.dst ≡ length l.initial.dst) × (each_from (λ i v. number_at l.file (l.from + i)) l.k l.dst
-    ≡ list_of (length l.initial.dst) (λ i. number_at l.file (l.from + i)))
-
-abbrev pub decreases-loop-k : goal.decreases-loop-k
-decreases-loop-k l = length l.initial.dst - l.k
+    each_from (λ i v. number_at l.file (l.from + i)) l.k l.dst ≡ list_of (length l.initial.dst) (λ i. number_at l.file (l.from + i))

@@ -1,5 +1,4 @@
 -- What is left to test from number k on gives the whole answer. Assumes nothing.
-use Prim.Native.Nat.{◌-◌}
 use mathlib.Core.Path.{◌≡◌}
 use lib.ListN.{drop}
 use Rattle.numbers.specs.Each.{list_of}
@@ -9,6 +8,3 @@ use Rattle.panel_file.proofs.numbers_finite.Given as goal
 
 abbrev pub invariant-loop-k : goal.invariant-loop-k
 invariant-loop-k l = all_finite (drop l.k (list_of l.count (number_at l.file))) ≡ all_finite (list_of l.count (number_at l.file))
-
-abbrev pub decreases-loop-k : goal.decreases-loop-k
-decreases-loop-k l = l.count - l.k

@@ -1,10 +1,6 @@
 -- What is left at byte k are the bits divided by 256 so often (`Putting`). Assumes nothing.
-use Prim.Native.Nat.{◌-◌}
 use Rattle.panel_file_writer.proofs.Fields.{Putting}
 use Rattle.panel_file_writer.proofs.put_bits.Given as goal
 
-abbrev pub invariant-loop-k : goal.invariant-loop-k
-invariant-loop-k l = Putting l.at l.bits l.initial.file l.file l.rest l.k
-
-abbrev pub decreases-loop-k : goal.decreases-loop-k
-decreases-loop-k l = 8 - l.k
+abbrev pub invariant-loop-byte : goal.invariant-loop-byte
+invariant-loop-byte l = Putting l.bits l.byte-items l.rest l.byte-index

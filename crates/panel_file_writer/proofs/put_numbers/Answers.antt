@@ -1,23 +1,17 @@
 -- The numbers before number k are written, and what stands before them stays (`Filling`). Assumes nothing.
-use mathlib.Core.Path.{refl}
 use native.Mathlib.Omega.{arith}
 use Rattle.finite.proofs.Finite.{finite_entry}
 use Rattle.panel_file.proofs.Bits.{no_nan}
 use Rattle.panel_file_writer.proofs.Fields.{fill_turn, fill_end}
 use Rattle.panel_file_writer.proofs.put_numbers.Goals as goal
 
-pub loop-k-init : goal.loop-k-init
-loop-k-init c = record { size = refl; place = omega arith; front = refl; done = λ i h. absurd (omega arith) }
-
-pub float_to_bits-numbers : goal.float_to_bits-numbers
-float_to_bits-numbers c = no_nan _ (finite_entry c.args.numbers.now c.loop-k.k c.requires.1 (omega arith))
+pub float_to_bits-x : goal.float_to_bits-x
+float_to_bits-x c = no_nan _ (finite_entry c.args.numbers.now c.loop-k.k c.requires.1 (omega arith))
 
 pub loop-k-preserved : goal.loop-k-preserved
 loop-k-preserved c =
     fill_turn _ _ _ c.loop-k.file c.loop-k.k c.loop-k.invariant (omega arith) c.requires.0 _ c.put_bits.ensures.0.0 c.put_bits.ensures.0.1 c.put_bits.ensures.1
-    (c.shared_slice_known-in-loop-k-1.given c.loop-k.k)
+    (c.type_inv.numbers c.loop-k.k)
 
-pub returns : goal.returns
-returns c =
-    let p = c.loop-k.invariant in
-    record { keeps_before = (c.loop-k.invariant.size, c.loop-k.invariant.front); k_after = fill_end _ _ _ _ _ p c.loop-k-test.false }
+pub returns-clause-k_after : goal.returns-clause-k_after
+returns-clause-k_after c = fill_end _ _ _ _ _ c.loop-k.invariant c.loop-k-test.false

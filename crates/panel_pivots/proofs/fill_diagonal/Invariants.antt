@@ -1,5 +1,5 @@
 -- What is left to copy from number i on is `each_from` from i on. Assumes nothing.
-use Prim.Native.Nat.{◌-◌, ◌+◌, ◌*◌}
+use Prim.Native.Nat.{◌+◌, ◌*◌}
 use mathlib.Core.Path.{◌≡◌}
 use lib.ListN.{length}
 use Rattle.numbers.specs.Each.{each_from, list_of}
@@ -8,8 +8,4 @@ use Rattle.panel_pivots.proofs.fill_diagonal.Given as goal
 
 abbrev pub invariant-loop-i : goal.invariant-loop-i
 invariant-loop-i l =
-    (length l.pivots ≡ length l.initial.pivots)
-    × (each_from (λ k v. entry l.t (k * l.n + k)) l.i l.pivots ≡ list_of (length l.initial.pivots) (λ k. entry l.t (k * l.n + k)))
-
-abbrev pub decreases-loop-i : goal.decreases-loop-i
-decreases-loop-i l = l.n - l.i
+    each_from (λ k v. entry l.t (k * l.n + k)) l.i l.pivots ≡ list_of (length l.initial.pivots) (λ k. entry l.t (k * l.n + k))

@@ -1,11 +1,6 @@
 -- The greatest magnitude of the numbers before number k. Assumes nothing.
-use Prim.Native.Nat.{◌-◌, ◌≤◌}
-use lib.ListN.{length}
 use Rattle.panel_pivots.specs.Outermost.{Greatest}
 use Rattle.panel_pivots.proofs.greatest.Given as goal
 
-abbrev pub invariant-loop-k : goal.invariant-loop-k
-invariant-loop-k l = Greatest l.numbers l.k l.found × (l.k ≤ length l.numbers)
-
-abbrev pub decreases-loop-k : goal.decreases-loop-k
-decreases-loop-k l = length l.numbers - l.k
+abbrev pub invariant-loop-number : goal.invariant-loop-number
+invariant-loop-number l = Greatest l.numbers l.number-index l.found

@@ -1,5 +1,5 @@
 -- What is left to write from line k on is `each_from` from k on, and the lines before it are lines. Assumes nothing.
-use Prim.Native.Nat.{◌-◌, ◌+◌}
+use Prim.Native.Nat.{◌+◌}
 use mathlib.Core.Path.{◌≡◌}
 use lib.ListN.{length}
 use Rattle.numbers.specs.Each.{each_from}
@@ -8,9 +8,5 @@ use Rattle.panel_write.proofs.fill.Given as goal
 
 abbrev pub invariant-loop-k : goal.invariant-loop-k
 invariant-loop-k l =
-    (length l.numbers ≡ length l.initial.numbers)
-    × (each_from (λ i v. number_in l.lines (l.from + i)) l.k l.numbers ≡ numbers_in l.lines l.from (length l.initial.numbers))
+    (each_from (λ i v. number_in l.lines (l.from + i)) l.k l.numbers ≡ numbers_in l.lines l.from (length l.initial.numbers))
     × AreLines l.lines l.from l.k
-
-abbrev pub decreases-loop-k : goal.decreases-loop-k
-decreases-loop-k l = length l.initial.numbers - l.k

@@ -1,16 +1,8 @@
 -- What is left to do at place j gives the whole (`Pushing`). Assumes nothing.
-use mathlib.Core.Path.{refl, sym, ◌∙◌}
-use native.Mathlib.Omega.{arith}
+use mathlib.Core.Path.{sym, ◌∙◌}
 use Rattle.ranking.proofs.Inserting.{turn_moves, turn_stays, turns_end}
 use Rattle.ranking.proofs.insert.Goals.{then-is_ahead, else-is_ahead}
 use Rattle.ranking.proofs.insert.Goals as goal
-
-pub loop-j-init : goal.loop-j-init
-loop-j-init c =
-    record { size = refl; place = omega arith; left = refl; in_hand = (omega arith, omega arith); held = c.requires.by_index }
-
-pub is_ahead-requires : goal.is_ahead-requires
-is_ahead-requires c = (c.loop-j.invariant.in_hand, c.loop-j.invariant.held c.loop-j.j c.loop-j-test.true)
 
 pub loop-j-preserved : goal.loop-j-preserved
 loop-j-preserved c =

@@ -2,37 +2,26 @@
 use Prim.Native.Nat.{◌<◌}
 use mathlib.Core.Path.{sym, ◌∙◌}
 use native.Mathlib.Omega.{arith}
-use lib.ListN.{length, length-set}
-use Rattle.ranking.proofs.Listing.{held_pads, turn_with, turn_without, filling_begins, filling_ends}
+use lib.ListN.{length}
+use Rattle.ranking.proofs.Listing.{held_pads, turn_with, turn_without, filling_begins}
 use Rattle.ranking.proofs.list.Goals.{then-is_listed, else-is_listed}
 use Rattle.ranking.proofs.list.Goals as goal
 
 pub loop-k-init : goal.loop-k-init
-loop-k-init c = (omega arith, filling_begins _ _ _)
+loop-k-init c = filling_begins _ _ _
 
-pub insert-requires : goal.insert-requires
-insert-requires c =
+pub insert-requires-clause-by_index : goal.insert-requires-clause-by_index
+insert-requires-clause-by_index c =
     let room : c.loop-k.k < length c.args.ranks.now = omega arith in
-    record {
-      pad = ((omega arith, omega arith), simp length-set (omega (arith, c.loop-k.invariant.1.size, c.loop-k.invariant.1.few)));
-      by_index = held_pads _ _ _ c.loop-k.ranks c.loop-k.count c.loop-k.k c.loop-k.invariant.1 room c.loop-k.invariant.0;
-    }
+    held_pads _ _ _ c.loop-k.ranks c.loop-k.count c.loop-k.k c.loop-k.invariant room (omega arith)
 
 pub loop-k-preserved : goal.loop-k-preserved
 loop-k-preserved c =
     let test = sym c.is_listed.ensures in
-    let room : c.loop-k.k < length c.args.ranks.now = omega arith in (
-      omega arith,
-      elim c.if-is_listed.branch [
-        | then-is_listed w ↦ rw (w.ranks-is, w.count-is) (turn_with _ _ _ c.loop-k.ranks _ c.loop-k.count c.loop-k.k c.loop-k.invariant.1 room (test
-            ∙ w.if-is_listed.true) w.insert.ensures)
-        | else-is_listed w ↦ rw (w.ranks-is, w.count-is) (turn_without _ _ _ c.loop-k.ranks c.loop-k.count c.loop-k.k c.loop-k.invariant.1 room (test
-            ∙ w.if-is_listed.false))
-      ],
-    )
-
-pub returns : goal.returns
-returns c =
-    let whole = filling_ends _ _ _ c.args.ranks.now c.loop-k.ranks c.loop-k.count c.loop-k.k c.loop-k.invariant.1 c.loop-k-test.false c.loop-k.invariant.0
-    c.requires in
-    record { value = whole.0; ranks_after = whole.1 }
+    let room : c.loop-k.k < length c.args.ranks.now = omega arith in
+    elim c.if-is_listed.branch [
+      | then-is_listed w ↦ rw (w.ranks-is, w.count-is) (turn_with _ _ _ c.loop-k.ranks _ c.loop-k.count c.loop-k.k c.loop-k.invariant room (test
+          ∙ w.if-is_listed.true) w.insert.ensures)
+      | else-is_listed w ↦ rw (w.ranks-is, w.count-is) (turn_without _ _ _ c.loop-k.ranks c.loop-k.count c.loop-k.k c.loop-k.invariant room (test
+          ∙ w.if-is_listed.false))
+    ]

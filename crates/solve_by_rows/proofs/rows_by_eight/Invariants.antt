@@ -1,16 +1,8 @@
--- The turns that are left from turn k on, on what the column holds then, give all from `from` on; none is left when fewer than eight are. Assumes nothing.
+-- The turns that are left from turn k on, on what the column holds then, give all from `from` on. Assumes nothing.
 use Prim.Native.Nat.{◌-◌, ◌%◌, ◌≤◌}
 use mathlib.Core.Path.{◌≡◌}
-use lib.ListN.{length}
-use Rattle.numbers.specs.Each.{turns_from}
-use Rattle.store.specs.Columns.{columns}
-use Rattle.solve_by_rows.specs.Rows.{row_done}
+use Rattle.solve_by_rows.specs.Rows.{rows_from}
 use Rattle.solve_by_rows.proofs.rows_by_eight.Given as goal
 
 abbrev pub invariant-loop-k : goal.invariant-loop-k
-invariant-loop-k l =
-    let f = row_done l.upward l.n (columns l.n l.n l.t) in
-    (l.k ≤ l.n) × (length l.b ≡ l.n) × (turns_from f l.k (l.n - l.k) l.b ≡ turns_from f l.from (l.n - l.from) l.initial.b) × ((l.n - l.k) % 8 ≡ 0)
-
-abbrev pub decreases-loop-k : goal.decreases-loop-k
-decreases-loop-k l = l.n - l.k
+invariant-loop-k l = (l.k ≤ l.n) × ((l.n - l.k) % 8 ≡ 0) × (rows_from l.upward l.n l.t l.k l.b ≡ rows_from l.upward l.n l.t l.from l.initial.b)

@@ -11,8 +11,4 @@ use Rattle.solve_by_rows.proofs.within_down.Given as goal
 abbrev pub invariant-loop-p : goal.invariant-loop-p
 invariant-loop-p l =
     let w = length l.initial.v in
-    (length l.v ≡ w) × (turns_from (column_turn false w (block_of (columns l.n l.n l.t) l.r w)) l.p (w - l.p) l.v
-    ≡ solved_within false (columns l.n l.n l.t) l.r l.initial.v)
-
-abbrev pub decreases-loop-p : goal.decreases-loop-p
-decreases-loop-p l = length l.initial.v - l.p
+    turns_from (column_turn false w (block_of (columns l.n l.n l.t) l.r w)) l.p (w - l.p) l.v ≡ solved_within false (columns l.n l.n l.t) l.r l.initial.v

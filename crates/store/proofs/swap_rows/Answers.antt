@@ -10,7 +10,7 @@ use Rattle.store.proofs.swap_rows.Goals as goal
 
 -- the store has its size all along, and in a turn column j ends within it
 size : (c : In-loop-j) → let g = c.args in length c.loop-j.s ≡ g.n * g.m
-size c = c.loop-j.invariant.0 ∙ (sized _ _ _ (sym c.is_matrix.ensures ∙ c.if-not-is_matrix.false)).size
+size c = c.loop-j.auto.s ∙ (sized _ _ _ (sym c.is_matrix.ensures ∙ c.if-not-is_matrix.false)).size
 
 within : (c : In-loop-j) → let g = c.args in c.loop-j.j * g.m + g.m ≤ length c.loop-j.s
 within c =
@@ -19,9 +19,6 @@ within c =
 
 pub returns-then-not-is_matrix : goal.returns-then-not-is_matrix
 returns-then-not-is_matrix c = on_none _ _ _ _ (sym c.is_matrix.ensures ∙ c.if-not-is_matrix.true)
-
-pub loop-j-init : goal.loop-j-init
-loop-j-init c = (refl, refl)
 
 pub overflow_mul-a : goal.overflow_mul-a
 overflow_mul-a c = omega (arith, within c)
@@ -34,11 +31,8 @@ offset_bounds-s-a c = omega (arith, within c)
 
 pub loop-j-preserved : goal.loop-j-preserved
 loop-j-preserved c =
-    let e = c.min-end.ensures in (
-      omega arith,
-      range_turn _ _ _ _ _ _ _ _ (rw (← e) c.loop-j-test.true) (size (goal.at.loop-j-preserved c).In-loop-j) c.swap.auto.col c.swap.ensures
-          ∙ c.loop-j.invariant.1,
-    )
+    let here = rw c.min-end.ensures at c.loop-j-test.true in
+    range_turn _ _ _ _ _ _ _ _ here (size (goal.at.loop-j-preserved c).In-loop-j) c.swap.auto.col c.swap.ensures ∙ c.loop-j.invariant
 
 -- a row exchanged with itself
 pub returns-then-i-p : goal.returns-then-i-p
@@ -46,9 +40,8 @@ returns-then-i-p c = on_done _ _ _ _ _ (sym c.is_matrix.ensures ∙ c.if-not-is_
 
 pub returns : goal.returns
 returns c =
-    let e = c.min-end.ensures in
-    on_done _ _ _ _ _ (sym c.is_matrix.ensures ∙ c.if-not-is_matrix.false) c.loop-j.invariant.0
-    (sym (range_stop _ _ _ _ _ _ _ (rw (← e) c.loop-j-test.false)) ∙ c.loop-j.invariant.1)
+    let past = rw c.min-end.ensures at c.loop-j-test.false in
+    on_done _ _ _ _ _ (sym c.is_matrix.ensures ∙ c.if-not-is_matrix.false) c.loop-j.auto.s (sym (range_stop _ _ _ _ _ _ _ past) ∙ c.loop-j.invariant)
 
 pub slice_bounds-swap-end : goal.slice_bounds-swap-end
 slice_bounds-swap-end c = within c

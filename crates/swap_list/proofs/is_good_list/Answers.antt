@@ -1,6 +1,6 @@
 -- Those before pair k being good or not, what is left to test from there on gives the whole answer. Assumes nothing.
 use Prim.Native.Nat.{◌*◌}
-use mathlib.Core.Path.{refl, ◌∙◌}
+use mathlib.Core.Path.{◌∙◌}
 use native.Mathlib.Omega.{arith}
 use borrow.Author.Tests.{le-leb, lt-leb}
 use lib.ListN.{length}
@@ -15,9 +15,6 @@ returns-then-most-pairs c = rw (lt-leb _ _ c.if-most-pairs.true)
 pub returns-then-swaps-pairs : goal.returns-then-swaps-pairs
 unfolding good_list holds
 returns-then-swaps-pairs c = rw (le-leb _ _ c.if-most-pairs.false, lt-leb (2 * c.args.pairs) (length c.args.swaps.now) (omega arith))
-
-pub loop-k-init : goal.loop-k-init
-loop-k-init c = refl
 
 pub loop-k-preserved : goal.loop-k-preserved
 loop-k-preserved c =

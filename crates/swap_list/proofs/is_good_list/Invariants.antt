@@ -1,5 +1,4 @@
 -- Those before pair k being good or not, what is left to test from there on gives the whole answer. Assumes nothing.
-use Prim.Native.Nat.{◌-◌}
 use mathlib.Core.Path.{◌≡◌}
 use mathlib.Core.Bool.{◌&&◌}
 use lib.ListN.{drop}
@@ -8,6 +7,3 @@ use Rattle.swap_list.proofs.is_good_list.Given as goal
 
 abbrev pub invariant-loop-k : goal.invariant-loop-k
 invariant-loop-k l = (l.good && good_pairs l.bound (drop l.k (pairs_of l.pairs l.swaps))) ≡ good_pairs l.bound (pairs_of l.pairs l.swaps)
-
-abbrev pub decreases-loop-k : goal.decreases-loop-k
-decreases-loop-k l = l.pairs - l.k

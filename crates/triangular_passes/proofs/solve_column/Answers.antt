@@ -7,19 +7,13 @@ use Rattle.triangular_passes.proofs.solve_column.Goals as goal
 
 pub loop-k-init : goal.loop-k-init
 unfolding solved_column
-loop-k-init c = (c.requires.1, turns_begin _ _ _)
-
-pub take_turn-requires : goal.take_turn-requires
-take_turn-requires c = (c.requires.0, c.loop-k.invariant.0, rw c.turns_of-turns.ensures at c.loop-k-test.true)
+loop-k-init c = turns_begin _ _ _
 
 pub loop-k-preserved : goal.loop-k-preserved
 loop-k-preserved c =
-    let g = c.args in (
-      c.take_turn.auto.b ∙ c.loop-k.invariant.0,
-      turns_next (turn g.pass g.n (columns g.n g.n g.t.now)) _ _ _ _ (rw c.turns_of-turns.ensures at c.loop-k-test.true)
-          c.take_turn.ensures
-          ∙ c.loop-k.invariant.1,
-    )
+    let g = c.args in
+    turns_next (turn g.pass g.n (columns g.n g.n g.t.now)) _ _ _ _ (rw c.turns_of-turns.ensures at c.loop-k-test.true) c.take_turn.ensures
+    ∙ c.loop-k.invariant
 
 pub returns : goal.returns
-returns c = sym (turns_done _ _ _ _ (rw (sym c.turns_of-turns.ensures) c.loop-k-test.false)) ∙ c.loop-k.invariant.1
+returns c = sym (turns_done _ _ _ _ (rw (sym c.turns_of-turns.ensures) c.loop-k-test.false)) ∙ c.loop-k.invariant

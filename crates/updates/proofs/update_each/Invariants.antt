@@ -1,7 +1,6 @@
 -- The updates that are left from column i on give the whole. Assumes nothing.
 use Prim.Native.Nat.{◌-◌}
 use mathlib.Core.Path.{◌≡◌}
-use lib.ListN.{length}
 use Rattle.numbers.specs.Each.{turns_from}
 use Rattle.store.specs.Columns.{columns}
 use Rattle.updates.specs.Updates.{updated_at}
@@ -9,8 +8,5 @@ use Rattle.updates.proofs.update_each.Given as goal
 
 abbrev pub invariant-loop-i : goal.invariant-loop-i
 invariant-loop-i l =
-    (length l.s ≡ length l.initial.s) × (turns_from (updated_at l.j) l.i (l.to - l.i) (columns l.m l.n l.s)
-    ≡ turns_from (updated_at l.j) l.from (l.to - l.from) (columns l.m l.n l.initial.s))
-
-abbrev pub decreases-loop-i : goal.decreases-loop-i
-decreases-loop-i l = l.to - l.i
+    turns_from (updated_at l.j) l.i (l.to - l.i) (columns l.m l.n l.s)
+    ≡ turns_from (updated_at l.j) l.from (l.to - l.from) (columns l.m l.n l.initial.s)

@@ -3,7 +3,6 @@ use mathlib.Core.Path.{◌≡◌, refl, ap, ◌∙◌}
 use mathlib.Core.Bool.{cond}
 use Prim.Native.Nat.{ℕ, ◌<◌}
 use native.Mathlib.Omega.{arith}
-use lib.ListN.{length}
 use lib.Ieee.Scale.{finite}
 use Rattle.numbers.specs.First.{first_failing}
 use Rattle.numbers.specs.Column.{entry}
@@ -11,10 +10,10 @@ use Rattle.store.specs.Columns.{columns}
 use Rattle.triangular_passes.specs.declared.Pass.{Pass}
 use Rattle.triangular_passes.specs.Triangular.{row_at, turns_of, turn, turned_by}
 use Rattle.solve.specs.Reason.{first_row}
-use Rattle.triangular_passes.proofs.Turns.{turns_most, turn_row}
+use Rattle.triangular_passes.proofs.Turns.{turn_row}
 use Rattle.why.specs.Inner.{pass_of}
 use Rattle.why.proofs.Column.{row_fine, row_spoilt, turning_begin, turning_on, turning_found, turning_end, turn_taken}
-use Rattle.why.proofs.overflow_in_column.Goals.{After-slice_known-in-loop-k-1, In-loop-k}
+use Rattle.why.proofs.overflow_in_column.Goals.{After-solve_turn, After-stored_row-row, In-loop-k}
 use Rattle.why.proofs.overflow_in_column.Goals as goal
 
 -- in a turn, there is one
@@ -24,67 +23,45 @@ in_time c = rw c.turns_of-turns.ensures at c.loop-k-test.true
 below : (c : In-loop-k) → let g = c.args in row_at (pass_of g.upper) g.n c.loop-k.k < g.n
 below c = let g = c.args in turn_row (pass_of g.upper) g.n _ _ _ refl (in_time c) refl
 
--- the column after the turn, and that it is
-taken : (c : After-slice_known-in-loop-k-1) → let g = c.args in
+-- the column after the turn
+taken : (c : After-solve_turn) → let g = c.args in
     c.solve_turn.new.b ≡ turn (pass_of g.upper) g.n (columns g.n g.n g.t.now) c.loop-k.k c.loop-k.b
 taken c =
-    let in_time : let g = c.args in c.loop-k.k < turns_of (pass_of g.upper) g.n = rw c.turns_of-turns.ensures at c.loop-k-test.true in
     let g = c.args in
     turn_taken (pass_of g.upper) g.n c.loop-k.k g.t.now c.loop-k.b _ c.requires.0 c.loop-k.invariant.long
-    in_time
+    (rw c.turns_of-turns.ensures at c.loop-k-test.true)
     (c.solve_turn.ensures ∙ ap (λ (p : Pass). turned_by p g.t.now g.n c.loop-k.b c.loop-k.k) c.pass_of.ensures)
 
--- the length that it keeps
-kept : (c : After-slice_known-in-loop-k-1) → length c.solve_turn.new.b ≡ length c.loop-k.b
-kept c = c.solve_turn.auto.b
-
-pub row_of-requires : goal.row_of-requires
-row_of-requires c =
-    let g = c.args in
-    omega (arith, in_time (goal.at.row_of-requires c).In-loop-k, turns_most (pass_of g.upper) g.n)
-
-pub stored_row-row-requires : goal.stored_row-row-requires
-stored_row-row-requires c =
-    omega (
-      arith,
-      below (goal.at.stored_row-row-requires c).In-loop-k,
-      c.row_of.ensures,
-      kept
-          (goal.at.stored_row-row-requires c).After-slice_known-in-loop-k-1,
-      c.loop-k.invariant.long,
-    )
+-- the row that is looked for in it
+row_is : (c : After-stored_row-row) → let g = c.args in c.stored_row-row.result ≡ first_row (pass_of g.upper) g.n c.loop-k.k c.solve_turn.new.b
+unfolding first_row
+row_is c =
+    let b = c.solve_turn.new.b in
+    c.stored_row-row.ensures ∙ ap (λ (i : ℕ). cond (finite (entry b i)) (first_failing finite b) i) c.row_of.ensures
 
 pub returns-then-row-n : goal.returns-then-row-n
-unfolding first_row
 returns-then-row-n c =
-    let row_is : let g = c.args in c.stored_row-row.result ≡ first_row (pass_of g.upper) g.n c.loop-k.k c.solve_turn.new.b = let b = c.solve_turn.new.b in
-    c.stored_row-row.ensures ∙ ap (λ (i : ℕ). cond (finite (entry b i)) (first_failing finite b) i) c.row_of.ensures in
     let g = c.args in
-    let now = c.loop-k.invariant in
-    let low = c.if-row-n.true in
-    let bad = row_spoilt (pass_of g.upper) g.n _ _ _ (kept (goal.at.returns-then-row-n c).After-slice_known-in-loop-k-1 ∙ c.loop-k.invariant.long)
-    (below (goal.at.returns-then-row-n c).In-loop-k) row_is low in
+    let at = goal.at.returns-then-row-n c in
+    let seen = row_is at.After-stored_row-row in
+    let kept = c.solve_turn.auto.b in
+    let bad = row_spoilt (pass_of g.upper) g.n _ _ _ (kept ∙ c.loop-k.invariant.long) (below at.In-loop-k) seen c.if-row-n.true in
     record {
       fine = λ h. absurd (let n : ⊥ = omega arith in n);
       spoilt = λ _. (
         c.loop-k.k,
-        turning_found _ _ _ _ _ _ now (in_time (goal.at.returns-then-row-n c).In-loop-k) _
-            (kept (goal.at.returns-then-row-n c).After-slice_known-in-loop-k-1) (taken (goal.at.returns-then-row-n c).After-slice_known-in-loop-k-1) _ bad
-            row_is,
+        turning_found _ _ _ _ _ _ c.loop-k.invariant (in_time at.In-loop-k) _ kept (taken at.After-solve_turn) _ bad seen,
       );
     }
 
 pub loop-k-preserved : goal.loop-k-preserved
-unfolding first_row
 loop-k-preserved c =
-    let row_is : let g = c.args in c.stored_row-row.result ≡ first_row (pass_of g.upper) g.n c.loop-k.k c.solve_turn.new.b = let b = c.solve_turn.new.b in
-    c.stored_row-row.ensures ∙ ap (λ (i : ℕ). cond (finite (entry b i)) (first_failing finite b) i) c.row_of.ensures in
     let g = c.args in
-    let now = c.loop-k.invariant in
-    let fine = row_fine (pass_of g.upper) g.n _ _ _ (kept (goal.at.loop-k-preserved c).After-slice_known-in-loop-k-1 ∙ c.loop-k.invariant.long)
-    (below (goal.at.loop-k-preserved c).In-loop-k) row_is c.if-row-n.false in
-    turning_on _ _ _ _ _ _ now (in_time (goal.at.loop-k-preserved c).In-loop-k) _ (kept (goal.at.loop-k-preserved c).After-slice_known-in-loop-k-1)
-    (taken (goal.at.loop-k-preserved c).After-slice_known-in-loop-k-1) fine
+    let at = goal.at.loop-k-preserved c in
+    let kept = c.solve_turn.auto.b in
+    let fine = row_fine (pass_of g.upper) g.n _ _ _ (kept ∙ c.loop-k.invariant.long) (below at.In-loop-k) (row_is at.After-stored_row-row)
+    c.if-row-n.false in
+    turning_on _ _ _ _ _ _ c.loop-k.invariant (in_time at.In-loop-k) _ kept (taken at.After-solve_turn) fine
 
 pub returns : goal.returns
 returns c =
@@ -95,9 +72,3 @@ returns c =
 
 pub loop-k-init : goal.loop-k-init
 loop-k-init c = turning_begin (pass_of c.args.upper) _ _ _ c.requires.1
-
-pub overflow_add-k : goal.overflow_add-k
-overflow_add-k c = let t = in_time (goal.at.overflow_add-k c).In-loop-k in omega arith
-
-pub loop-k-smaller : goal.loop-k-smaller
-loop-k-smaller c = let t = in_time (goal.at.loop-k-smaller c).In-loop-k in omega arith

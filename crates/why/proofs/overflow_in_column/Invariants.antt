@@ -1,13 +1,8 @@
 -- After k turns, what is left gives the first result that is not finite and the solved column (`Turning`). Assumes nothing.
-use Prim.Native.Nat.{◌-◌}
 use Rattle.store.specs.Columns.{columns}
-use Rattle.triangular_passes.specs.Triangular.{turns_of}
 use Rattle.why.specs.Inner.{pass_of}
 use Rattle.why.proofs.Column.{Turning}
 use Rattle.why.proofs.overflow_in_column.Given as goal
 
 abbrev pub invariant-loop-k : goal.invariant-loop-k
 invariant-loop-k l = Turning (pass_of l.upper) l.n (columns l.n l.n l.t) l.initial.b l.b l.k
-
-abbrev pub decreases-loop-k : goal.decreases-loop-k
-decreases-loop-k l = turns_of (pass_of l.upper) l.n - l.k

@@ -1,7 +1,6 @@
 -- After i steps, what is left to store gives the whole answer (`Stepping`). Assumes nothing.
 use Prim.Native.Nat.{◌<◌, min}
 use mathlib.Core.Path.{sym}
-use native.Mathlib.Omega.{arith}
 use Rattle.why.specs.Why.{told_factor}
 use Rattle.why.proofs.Results.{failing_all, failing_some}
 use Rattle.why.proofs.Steps.{stepping_begin, stepping_on, stepping_found, stepping_end}
@@ -12,9 +11,6 @@ use Rattle.why.proofs.overflow_in_steps.Goals as goal
 before_end : (c : After-plain_step-arg-1) → c.loop-i.i < min c.args.m
     c.args.n
 before_end c = let least = c.min-end.ensures in rw least at c.loop-i-test.true
-
-pub nonzero_div-result : goal.nonzero_div-result
-nonzero_div-result c = let h = before_end (goal.at.nonzero_div-result c).After-plain_step-arg-1 in omega arith
 
 pub returns-then-at-s : goal.returns-then-at-s
 returns-then-at-s c =
@@ -36,12 +32,3 @@ returns c = sym (stepping_end _ _ _ c.requires.0 _ _ c.loop-i.invariant (rw c.mi
 
 pub loop-i-init : goal.loop-i-init
 loop-i-init c = stepping_begin _ _ _ c.requires.0 c.requires.1
-
-pub nonzero_rem-result : goal.nonzero_rem-result
-nonzero_rem-result c = let h = before_end (goal.at.nonzero_rem-result c).After-plain_step-arg-1 in omega arith
-
-pub overflow_add-i : goal.overflow_add-i
-overflow_add-i c = let h = before_end (goal.at.overflow_add-i c).After-plain_step-arg-1 in omega arith
-
-pub loop-i-smaller : goal.loop-i-smaller
-loop-i-smaller c = let h = before_end (goal.at.loop-i-smaller c).After-plain_step-arg-1 in omega arith
