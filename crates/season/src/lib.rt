@@ -90,7 +90,7 @@ fn tell(file: &[u8]) -> Result<Crossing, Refusal>
 
 // One more at place i, where there is such a place.
 fn one_more<const N: usize>(mut a: [usize; N], i: usize) -> [usize; N]
-    ensures { result ≡ one_more_at i a }
+    ensures { result ≡ one_more_at i a.entry }
 {
     if i < N {
         a[i] = std::num::wrapping_add_usize(a[i], 1);
@@ -123,6 +123,7 @@ impl Season {
     }
 
     // The season with a file that brought this.
+    #[tactic(auto, unfolding(crate::specs::Season::counted))]
     fn counted(self, told: Result<Crossing, Refusal>) -> Self
         ensures { result ≡ counted self (share_told told) }
     {
@@ -148,6 +149,7 @@ impl Season {
     }
 
     // The season with one file more; refused where there are 4,000, and then the caller still holds the season before.
+    #[tactic(auto, unfolding(crate::specs::Season::handing, refusals::specs::Outcome::tested, refusals::specs::Outcome::first_holding))]
     pub fn with_file(self, file: &[u8]) -> Result<Self, Refusal>
         ensures { handed self result ≡ handing self file.now }
     {
