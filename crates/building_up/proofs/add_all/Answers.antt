@@ -1,15 +1,21 @@
 -- After k columns the slices hold the outcome of factoring the first k (`Build`). Assumes nothing.
-use Prim.Native.Nat.{ℕ, ◌*◌, ◌+◌}
+use Prim.Native.Nat.{ℕ, ◌*◌, ◌+◌, ◌<◌}
 use mathlib.Core.Path.{◌≡◌, refl, sym, ap, ◌∙◌}
 use mathlib.Core.List.{◌++◌}
 use native.Mathlib.Omega.{arith}
-use lib.ListN.{drop}
+use lib.ListN.{length, take, drop, length-drop}
 use lib.Seq.{length-take-le, length_front}
-use Rattle.store.proofs.Columns.{sized}
+use Rattle.numbers.specs.Column.{Column}
+use Rattle.store.proofs.Columns.{column_within}
 use Rattle.lu.proofs.Shape.{ok}
-use Rattle.building_up.proofs.Build.{slot_ends, slot_long, building_none, Grown, went_on, gave_up, all_added, not_added}
-use Rattle.building_up.proofs.add_all.Goals.{In-Ok, In-loop-k}
+use Rattle.building_up.proofs.Build.{building_none, Grown, went_on, gave_up, all_added, not_added}
+use Rattle.building_up.proofs.add_all.Goals.{In-Ok}
 use Rattle.building_up.proofs.add_all.Goals as goal
+
+-- the slot behind the k columns
+slot_long : (m n k : ℕ) (out : Column) → k < n → length out ≡ n * m → length (take m (drop (k * m) out)) ≡ m
+slot_long m n k out h long =
+    length-take-le m (drop (k * m) out) (omega (arith, column_within m n k out h long, length-drop (k * m) out))
 
 -- a record was answered: one column more
 grown : (c : In-Ok) → let g = c.args in
@@ -17,10 +23,10 @@ grown : (c : In-Ok) → let g = c.args in
     (c.add_column.new.s ++ drop (c.loop-k.k * g.m + g.m) c.loop-k.out)
     c.add_column.new.swaps
 grown c =
-    let none = c.requires.swaps_value in
-    let more = c.loop-k-test.true in
-    went_on _ _ _ _ _ none _ more _ (slot_long _ _ _ _ _ none _ more _ c.loop-k.invariant.long) _ c.loop-k.invariant.accepted _ _ _ _ _
-    (slot_ends _ _ _ _ _ none _ more _ c.loop-k.invariant.long)
+    let t = c.loop-k-test.true in
+    let long = c.loop-k.invariant.long in
+    went_on _ _ _ _ _ c.requires.swaps_value _ t _ (slot_long _ _ _ c.loop-k.out t long) _ c.loop-k.invariant.accepted _ _ _ _ _
+    (column_within _ _ _ c.loop-k.out t long)
     c.loop-k.invariant.front_is c.loop-k.invariant.store_is refl c.add_column.ensures.result_value c.add_column.ensures.s_after
     c.add_column.ensures.swaps_after _ c.in-Ok.is
 
@@ -29,26 +35,23 @@ loop-k-init c = building_none _ _ _ _ _ c.requires.swaps_value _ _ c.requires.sw
 
 pub returns-in_default : goal.returns-in_default
 returns-in_default c =
-    let none = c.requires.swaps_value in
-    let more = c.loop-k-test.true in
-    not_added _ _ _ _ _ none _ _
-    (gave_up _ _ _ _ _ none _ more _ (slot_long _ _ _ _ _ none _ more _ c.loop-k.invariant.long) _ c.loop-k.invariant.accepted _ _ _ _ _
-    (slot_ends _ _ _ _ _ none _ more _ c.loop-k.invariant.long)
+    let t = c.loop-k-test.true in
+    let long = c.loop-k.invariant.long in
+    not_added _ _ _ _ _ c.requires.swaps_value _ _
+    (gave_up _ _ _ _ _ c.requires.swaps_value _ t _ (slot_long _ _ _ c.loop-k.out t long) _ c.loop-k.invariant.accepted _ _
+    _ _ _ (column_within _ _ _ c.loop-k.out t long)
     c.loop-k.invariant.front_is c.loop-k.invariant.store_is refl c.add_column.ensures.result_value c.add_column.ensures.s_after
     c.add_column.ensures.swaps_after _ c.in_default.is)
 
 pub overflow_add-tossed : goal.overflow_add-tossed
-overflow_add-tossed c =
-    let next = grown (goal.at.overflow_add-tossed c).In-Ok in
-    omega (arith, c.loop-k.invariant.within, c.loop-k.invariant.few, next.at_most_one, (ok _ _ _ _ _ c.requires.swaps_value).cols.at_most)
+overflow_add-tossed c = omega (arith, c.loop-k.invariant.few, (grown (goal.at.overflow_add-tossed c).In-Ok).at_most_one, (ok _ _ _ _ _ c.requires.swaps_value).cols.at_most)
 
 pub loop-k-preserved : goal.loop-k-preserved
 loop-k-preserved c =
     let next = grown (goal.at.loop-k-preserved c).In-Ok in
     record {
-      long = length_front c.loop-k.out c.add_column.new.s _ c.add_column.auto.s ∙ c.loop-k.invariant.long;
-      room = c.add_column.auto.swaps ∙ c.loop-k.invariant.room;
-      within = omega arith;
+      whole = c.loop-k.invariant.whole;
+      long = length_front c.loop-k.out c.add_column.new.s (c.loop-k.k * c.args.m + c.args.m) c.add_column.auto.s ∙ c.loop-k.invariant.long;
       accepted = next.accepted;
       front_is = next.front_is;
       store_is = next.store_is;
@@ -59,12 +62,6 @@ loop-k-preserved c =
 pub returns : goal.returns
 returns c =
     let g = c.args in
-    let p = ok _ _ _ _ _ c.requires.swaps_value in
-    let e : c.loop-k.k ≡ g.n = omega (arith, c.loop-k.invariant.within, c.loop-k-test.false) in
+    let e : c.loop-k.k ≡ g.n = omega arith in
     all_added g.m g.n g.a.now _ _ c.requires.swaps_value c.loop-k.out c.loop-k.swaps c.loop-k.told c.loop-k.tossed (rw e at c.loop-k.invariant.counted)
-    (c.loop-k.invariant.long ∙ (sized _ _ _ p.slice).size) (rw e at c.loop-k.invariant.accepted) (rw e at c.loop-k.invariant.front_is)
-    (rw e at c.loop-k.invariant.store_is)
-
-pub slice_bounds-add_column-end-in-loop-k : goal.slice_bounds-add_column-end-in-loop-k
-slice_bounds-add_column-end-in-loop-k c =
-    sym (length-take-le _ _ (slot_ends _ _ _ _ _ c.requires.swaps_value _ c.loop-k-test.true _ c.loop-k.invariant.long))
+    c.loop-k.invariant.long (rw e at c.loop-k.invariant.accepted) (rw e at c.loop-k.invariant.front_is) (rw e at c.loop-k.invariant.store_is)
