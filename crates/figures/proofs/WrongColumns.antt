@@ -23,8 +23,9 @@ use Rattle.store.specs.Columns.{columns, flat, is_matrix, on_columns}
 use Rattle.store.specs.Steps.{column, swap_in_all, rows_swapped, columns_swapped}
 use Rattle.one_step.specs.OneStep.{step_column, step_columns, eliminated}
 use Rattle.four_steps.specs.FourSteps.{step_by, four_steps, four_stepped, four_stepped_on}
-use Rattle.refusals.specs.declared.Answer.{Answer}
-use Rattle.refusals.specs.declared.Answer.TheVariants.{Done, Refused}
+use Rattle.std.proofs.Common.{Result, Ok, Err}
+use Rattle.refusals.specs.declared.Refusal.{Refusal}
+use Rattle.refusals.specs.declared.Refusal.TheVariants.{Overflow}
 use Rattle.refusals.specs.Outcome.{Outcome, done, refused, number_of, first_holding, tested, Call, outcome}
 use Rattle.refusals.specs.Refusals.{outside, seventh}
 use Rattle.refusals.proofs.Strength.{ShutsOut, shut_out, TwoShutOut, two, done_refused}
@@ -37,8 +38,7 @@ unfolding add sub mul div neg eq lt of_bits each_from turns_from is_zero magnitu
     add_block
     eight_sums pair_sums dot_of columns flat is_matrix on_columns swap_in_all rows_swapped step_column step_columns eliminated step_by four_steps
     four_stepped four_stepped_on
-    first_holding outside tested
-    outcome number_of seventh
+    first_holding outside tested seventh
 Runs = Unit {0}
 
 abbrev -n1 : Float
@@ -287,16 +287,16 @@ unfolding Runs
 answer_for = two answers_for refused 0 0 1 done_refused done_refused
 
 -- 1 for every refusal
-abbrev numbers : Answer → ℕ
+abbrev numbers : Result (Unit {0}) Refusal → ℕ
 numbers answer = number_of (outcome answer)
 
-abbrev told_one : Answer → ℕ
-told_one Done = 0
-told_one (Refused number) = 1
+abbrev told_one : Result (Unit {0}) Refusal → ℕ
+told_one (Ok made) = 0
+told_one (Err refusal) = 1
 
 pub number_of_not_always_one : TwoShutOut numbers told_one
 unfolding Runs
-number_of_not_always_one = two numbers told_one (Refused 7) (Refused 7) Done (λ d. omega (arith, d)) (λ d. omega (arith, d))
+number_of_not_always_one = two numbers told_one (Err Overflow) (Err Overflow) (Ok tt) (λ d. omega (arith, d)) (λ d. omega (arith, d))
 
 -- accepted always, the slice as it was
 pub settle : TwoShutOut seventh leaves

@@ -8,7 +8,18 @@ use native.Mathlib.Omega.{arith}
 use Rattle.numbers.proofs.Choice.{cond_cases}
 use Rattle.std.proofs.Common.{Result, Ok, Err}
 use Rattle.refusals.specs.declared.Refusal.{Refusal}
-use Rattle.refusals.specs.declared.Refusal.TheVariants.{Size, NotSquare, Length, SwapList, NotFinite, Singular, Overflow, NotAPanelFile, DeadColumns, SeasonFull}
+use Rattle.refusals.specs.declared.Refusal.TheVariants.{
+  Size,
+  NotSquare,
+  Length,
+  SwapList,
+  NotFinite,
+  Singular,
+  Overflow,
+  NotAPanelFile,
+  DeadColumns,
+  SeasonFull,
+}
 use Rattle.refusals.specs.Outcome.{Outcome, done, refused, outcome, number, first_holding, tested, and_then}
 use Rattle.refusals.proofs.Outcomes.{Numbered, never_0, same_kind, tested_none, tested_some, tested_cases}
 
