@@ -11,7 +11,6 @@ use lu::Factored;
 use refusals::Refusal;
 
 // Adds the columns of the m by n matrix a one by one, from none on. Answers the last record, or refusal 7 where a column is refused.
-#[tactic(auto, using(crate::proofs::Build::column_ends, crate::proofs::Build::slot_ends))]
 fn add_all(
     a: &[f64],
     m: usize,

@@ -1,7 +1,7 @@
 -- How a pad's load moves as the code puts it together: the pad's number after the file's tests, then the factors and the transposed solve of its unit
 -- column; and what is known of the numbers. By the case of the outcome. Assumes nothing.
 use mathlib.Core.Path.{◌≡◌, refl, sym, ap, ◌∙◌}
-use mathlib.Core.Bool.{true, false, not, cond}
+use mathlib.Core.Bool.{Bool, true, false}
 use mathlib.Core.List.{List, [], ◌∷◌}
 use Prim.Native.Nat.{ℕ, zero, suc, ◌-◌, ◌≤◌, ◌<◌}
 use native.Mathlib.Nat.{le_of_suc-le-suc, not-suc-le-zero}
@@ -112,7 +112,9 @@ module _ (bytes : List ℕ) (pad : ℕ) where
 
   pub refused_by_pad : no_pad n pad ≡ true → 0 ≡ file_refusal bytes → 1 ≡ moves_refusal bytes pad
   unfolding moves_refusal file_refusal first_holding
-  refused_by_pad nowhere e = rw nowhere at passed_before (file_tests true bytes) ((1, no_pad n pad) ∷ []) (file_numbered true bytes) e
+  refused_by_pad nowhere e =
+      ap (λ (t : Bool). first_holding ((1, t) ∷ [])) (sym nowhere)
+      ∙ passed_before (file_tests true bytes) ((1, no_pad n pad) ∷ []) (file_numbered true bytes) e
 
   pub moving_early : (r : Refusal) (answer : Result Order Refusal) (out : Column) → number r ≡ moves_refusal bytes pad → answer ≡ Err r
       → (pads_ordered answer ≡ (moving bytes pad out).answer) × (out ≡ (moving bytes pad out).left)

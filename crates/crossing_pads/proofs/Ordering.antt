@@ -1,6 +1,6 @@
 -- The whole answer as the code puts it together: the factors, then the loads and their ranks. By the case of the outcome.
 -- Assumes nothing.
-use mathlib.Core.Path.{◌≡◌, sym, ap, ◌∙◌}
+use mathlib.Core.Path.{◌≡◌, refl, sym, ap, ◌∙◌}
 use mathlib.Core.Bool.{true, false}
 use mathlib.Core.List.{List, ◌++◌}
 use Prim.Native.Nat.{ℕ, ◌≤◌}
@@ -42,15 +42,21 @@ ranks_made n x was lo hi lx lr finite =
 
 -- ---- what a solve answers, with the number of pads and of toss-ups in place of nothing: o is what it came to
 
+abbrev pub bare : Outcome Column → Outcome (Unit {0})
+bare o = and_then o (λ _. done tt)
+
 module _ (o : Outcome Column) (n tossed : ℕ) where
-  pub told_done : done tt ≡ and_then o (λ _. done tt) → done (n, tossed) ≡ and_then o (λ _. done (n, tossed))
+  abbrev pub counted : Outcome (ℕ × ℕ)
+  counted = and_then o (λ _. done (n, tossed))
+
+  pub told_done : done tt ≡ bare o → done (n, tossed) ≡ counted
   told_done e = then_done o (λ _. done tt) tt (sym e) (λ x d _. rw d refl)
 
-  pub not_solved : (r : Refusal) → refused (number r) ≡ and_then o (λ _. done tt) → o ≡ refused (number r)
+  pub not_solved : (r : Refusal) → refused (number r) ≡ bare o → o ≡ refused (number r)
   not_solved r e = then_refused o (λ _. done tt) (number r) (sym e) (λ d. d) (λ _ _ f. never_both tt (number r) f)
 
-  pub told_refused : (r : Refusal) (answer : Result Order Refusal) → refused (number r) ≡ and_then o (λ _. done tt) → IsErrAnd answer (λ e. e ≡ r)
-      → pads_ordered answer ≡ and_then o (λ _. done (n, tossed))
+  pub told_refused : (r : Refusal) (answer : Result Order Refusal) → refused (number r) ≡ bare o → IsErrAnd answer (λ e. e ≡ r)
+      → pads_ordered answer ≡ counted
   told_refused r answer e h = rw (handed_on r answer h, not_solved r e) refl
 
 -- ---- solving, then ranking: o is what the solve came to, of n pads
@@ -63,7 +69,7 @@ module _ (n : ℕ) (o : Outcome Column) where
     pub size : length x ≡ n
     pub front : take n now ≡ x
 
-  pub solved : (was now : Column) → done tt ≡ and_then o (λ _. done tt) → now ≡ fronted n o was → n ≤ length was → length now ≡ length was → Solved now
+  pub solved : (was now : Column) → done tt ≡ bare o → now ≡ fronted n o was → n ≤ length was → length now ≡ length was → Solved now
   solved was now e f h l =
       then_done o (λ _. done tt) tt (sym e) (λ x d _. let q = front_done n o x was now d f h l in record { x = x; is = d; size = q.0; front = q.1 })
 

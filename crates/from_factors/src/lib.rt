@@ -310,7 +310,10 @@ fn number_or_7(x: f64) -> Result<f64, Refusal>
 pub fn determinant(factors: &[f64], swaps: &[usize], told: Record) -> Result<f64, Refusal>
     ensures { outcome result ≡ determining factors.now swaps.now told }
 {
-    let res = product(factors, swaps, told)?;
+    let answer = product(factors, swaps, told);
+    let Ok(res) = answer else {
+        return answer;
+    };
     number_or_7(res * permutation_sequence::determinant(told.pairs))
 }
 

@@ -1,17 +1,15 @@
 -- What a file brings to a season, as the code puts it together; and what is known of it: a refusal is one of 1 to 9 and the one that the answer for the file
 -- gives, an accepted file lists at most 64 pads and is in one of the five bands. By the cases of the outcomes. Assumes nothing.
-use Rattle.std.proofs.Common.{◌≡◌, ℕ, zero, suc, ◌+◌, ◌*◌, ◌<◌, ◌≤◌, true, false, T, List, [], ◌∷◌, length, take, replicate, sym, refl, ap, ◌∙◌, arith}
-use lib.ListN.{length-replicate}
+use Rattle.std.proofs.Common.{◌≡◌, ℕ, ◌+◌, ◌*◌, ◌<◌, ◌≤◌, true, false, T, List, [], ◌∷◌, length, take, replicate, sym, refl, ap, ◌∙◌, arith, Result, Ok, Err}
 use lib.Ieee.{nan, binary64, fits}
 use lib.Ieee.Scale.{finite}
-use Rattle.numbers.specs.Numbers.{zero64, magnitude}
+use Rattle.numbers.specs.Numbers.{magnitude}
 use Rattle.numbers.specs.Column.{Column, zeros}
 use Rattle.finite.specs.Finite.{all_finite}
 use Rattle.numbers.proofs.Choice.{cond_cases}
 use Rattle.finite.proofs.Finite.{finite_entry}
 use Rattle.store.specs.Columns.{columns, is_matrix}
 use Rattle.store.proofs.Columns.{sized, column_within, entry_at}
-use Rattle.std.proofs.Common.{Result, Ok, Err}
 use Rattle.std.specs.Result.{IsErrAnd, result_unwrap_or}
 use Rattle.refusals.specs.declared.Refusal.{Refusal}
 use Rattle.refusals.specs.Outcome.{Outcome, done, refused, outcome, number, number_of, and_then, Call, leaving}
@@ -122,7 +120,8 @@ module _ (bytes : List ℕ) where
       → share_told answer ≡ telling bytes
   unfolding telling
   telling_refused r answer e h =
-      ap share_told (handed_on r answer h) ∙ ap (λ (o : Outcome Packed). and_then o (λ f. and_then (solution_by false f (readings_of n bytes)) (λ x. done (share_of f x)))) (sym e)
+      ap share_told (handed_on r answer h)
+      ∙ ap (λ (o : Outcome Packed). and_then o (λ f. and_then (solution_by false f (readings_of n bytes)) (λ x. done (share_of f x)))) (sym e)
 
   -- ---- THEOREM. A file is refused by a season exactly as the answer for it is, and with the same number.
   pub telling_number : number_of (telling bytes) ≡ number_of (loads_of bytes)

@@ -83,8 +83,12 @@ fn tell(file: &[u8]) -> Result<Crossing, Refusal>
     let mut matrix = [0.0f64; 4096];
     let mut readings = [0.0f64; 64];
     let mut swaps = [0usize; 128];
-    let Factored { told, toss_ups: _ } =
-        crossing::factor_file(file, &mut matrix, &mut readings, &mut swaps)?;
+    let Factored { told, toss_ups: _ } = crossing::factor_file(
+        file,
+        &mut matrix,
+        &mut readings,
+        &mut swaps,
+    )?;
     tell_crossing(&matrix, &swaps, told, &readings)
 }
 

@@ -3,6 +3,8 @@ use mathlib.Core.Bool.{true, false}
 use mathlib.Core.Path.{◌≡◌, refl}
 use native.Mathlib.Omega.{arith}
 use borrow.Author.Rules.{rules}
+use Rattle.std.proofs.Common.{Err}
+use Rattle.refusals.specs.declared.Refusal.TheVariants.{Size}
 use Rattle.refusals.proofs.Outcomes.{handed_on}
 use Rattle.panel_file.specs.File.{pads_of}
 use Rattle.crossing_pads.specs.Moving.{no_pad}
@@ -21,7 +23,7 @@ returns-in_err-test_file c =
 pub returns-then-nowhere : goal.returns-then-nowhere
 returns-then-nowhere c =
     let g = c.args in
-    let o = moving_early g.file.now g.pad _ _ g.out.now (refused_by_pad g.file.now g.pad (rw (← c.pads_of-n.ensures.0) c.if-nowhere.true)
+    let o = moving_early g.file.now g.pad Size (Err Size) g.out.now (refused_by_pad g.file.now g.pad (rw (← c.pads_of-n.ensures.0) c.if-nowhere.true)
     c.in_ok-test_file.ensures) refl in
     record { result_value = o.0; out_after = o.1; out_len = search rules }
 

@@ -40,6 +40,5 @@ slice_bounds-band-end c = taken_count _ c.args.matrix.now (omega (arith, c.requi
 pub returns : goal.returns
 returns c =
     let g = c.args in
-    told_share _ (loads (goal.at.returns c).In_ok-solve_readings) (packed_in g.matrix.now g.swaps.now g.told) _ _ _ (front (goal.at.returns c).In_ok-solve_readings).1
-    c.listed.ensures
-    c.band.ensures
+    let past = (goal.at.returns c).In_ok-solve_readings in
+    told_share _ (loads past) (packed_in g.matrix.now g.swaps.now g.told) _ _ _ (front past).1 c.listed.ensures c.band.ensures
