@@ -11,6 +11,13 @@ use Rattle.panel_text.proofs.moves_text.Goals as goal
 moved_at : (c : In-Ok) → Moved c.args.file.now c.args.pad c.in-Ok.field-0.pads c.moves.new.out
 moved_at c = moved _ _ _ c.moves.ensures.result_value _ _ c.in-Ok.is c.moves.ensures.out_after c.moves.ensures.out_len
 
+pub slice_bounds-moves-end : goal.slice_bounds-moves-end
+slice_bounds-moves-end c = omega (arith, (moved_at (goal.at.slice_bounds-moves-end c).In-Ok).few)
+
+pub slice_bounds-put_moves-end-in-Ok : goal.slice_bounds-put_moves-end-in-Ok
+slice_bounds-put_moves-end-in-Ok c =
+    taken_count _ c.moves.new.out (omega (arith, (moved_at (goal.at.slice_bounds-put_moves-end-in-Ok c).In-Ok).few, c.moves.ensures.out_len))
+
 pub put_moves-requires : goal.put_moves-requires
 put_moves-requires c =
     let w = moved_at (goal.at.put_moves-requires c).In-Ok in

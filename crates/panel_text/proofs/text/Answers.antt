@@ -14,6 +14,21 @@ shown_at c =
     shown _ _ c.pad_order.ensures.result_value _ _ _ c.in-Ok.is c.pad_order.ensures.ranks_after c.pad_order.ensures.loads_after
     c.pad_order.ensures.loads_len
 
+pub slice_bounds-ranks-end : goal.slice_bounds-ranks-end
+slice_bounds-ranks-end c = let w = shown_at (goal.at.slice_bounds-ranks-end c).In-Ok in omega (arith, w.few, w.ranks_count)
+
+pub slice_bounds-put_pads-end-in-Ok : goal.slice_bounds-put_pads-end-in-Ok
+slice_bounds-put_pads-end-in-Ok c =
+    let w = shown_at (goal.at.slice_bounds-put_pads-end-in-Ok c).In-Ok in taken_count _ _ (omega (arith, w.few, w.ranks_count))
+
+pub slice_bounds-loads-end : goal.slice_bounds-loads-end
+slice_bounds-loads-end c = omega (arith, (shown_at (goal.at.slice_bounds-loads-end c).In-Ok).few)
+
+pub slice_bounds-put_pads-end-in-Ok-2 : goal.slice_bounds-put_pads-end-in-Ok-2
+slice_bounds-put_pads-end-in-Ok-2 c =
+    let w = shown_at (goal.at.slice_bounds-put_pads-end-in-Ok-2 c).In-Ok in
+    taken_count _ c.pad_order.new.loads (omega (arith, w.few, c.pad_order.ensures.loads_len))
+
 pub put_pads-requires : goal.put_pads-requires
 put_pads-requires c =
     let w = shown_at (goal.at.put_pads-requires c).In-Ok in
