@@ -19,21 +19,16 @@ pub fn zero_on_diagonal(t: &[f64], n: usize) -> bool
 fn given_finite(pass: Pass) -> bool
     ensures { result ≡ given_finite pass }
 {
-    match pass {
-        Pass::GivenDiagonal(d) => numbers::is_finite(d),
-        Pass::CorrectedDiagonal(d) => numbers::is_finite(d),
-        _ => true,
-    }
+    pass.given().is_none_or(numbers::is_finite)
 }
 
 // Refusal 6: whether some row would be divided by a zero.
 fn zero_divisor(pass: Pass, t: &[f64], n: usize) -> bool
     ensures { result ≡ zero_divisor pass t.now n }
 {
-    match pass {
-        Pass::GivenDiagonal(d) => numbers::is_zero(d),
-        Pass::CorrectedDiagonal(d) => numbers::is_zero(d),
-        _ => zero_on_diagonal(t, n),
+    match pass.given() {
+        Some(d) => numbers::is_zero(d),
+        None => zero_on_diagonal(t, n),
     }
 }
 
