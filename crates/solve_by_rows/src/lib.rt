@@ -83,41 +83,46 @@ fn block<const UP: bool>(t: &[f64], n: usize, b: &mut [f64], k: usize, v: &mut [
 }
 
 // The N turns from k on, in one block.
-fn rows_at_once<const N: usize, const UP: bool>(t: &[f64], n: usize, b: &mut [f64], k: usize)
+fn rows_at_once<const N: usize>(upward: bool, t: &[f64], n: usize, b: &mut [f64], k: usize)
     requires { (is_matrix t.now n n ≡ true) × (length b.old ≡ n) × (k + N ≤ n) }
-    ensures { b.new ≡ turns_from (row_done UP n (columns n n t.now)) k N b.old }
+    ensures { b.new ≡ turns_from (row_done upward n (columns n n t.now)) k N b.old }
 {
     let mut v = [0.0f64; N];
-    block::<UP>(t, n, b, k, &mut v);
+    if upward {
+        block::<true>(t, n, b, k, &mut v);
+    } else {
+        block::<false>(t, n, b, k, &mut v);
+    }
 }
 
 // The turns from `from` up to `to`, N at a time: those from `to` on give the rest.
-fn rows_by<const N: usize, const UP: bool>(t: &[f64], n: usize, b: &mut [f64], from: usize, to: usize)
+fn rows_by<const N: usize>(upward: bool, t: &[f64], n: usize, b: &mut [f64], from: usize, to: usize)
     requires { (is_matrix t.now n n ≡ true) × (length b.old ≡ n) × (from ≤ to) × (to ≤ n) × ((to - from) % N ≡ 0) × (1 ≤ N) }
-    ensures { rows_from UP n t.now to b.new ≡ rows_from UP n t.now from b.old }
+    ensures { rows_from upward n t.now to b.new ≡ rows_from upward n t.now from b.old }
 {
     for k in (from..to).step_by(N) {
-        rows_at_once::<N, UP>(t, n, b, k);
+        rows_at_once::<N>(upward, t, n, b, k);
     }
 }
 
 // Solves one right-hand column in place: row by row until what is left is whole fours, here a row has few products to take, then four rows until it is whole
 // eights, then eight at a time.
-fn solve_column<const UP: bool>(t: &[f64], n: usize, b: &mut [f64])
+fn solve_column(upward: bool, t: &[f64], n: usize, b: &mut [f64])
     requires { (is_matrix t.now n n ≡ true) × (length b.old ≡ n) }
-    ensures { b.new ≡ solved_column (pass_of UP) n (columns n n t.now) b.old }
+    ensures { b.new ≡ solved_column (pass_of upward) n (columns n n t.now) b.old }
 {
     let fours = n % 4;
     let eights = n % 8;
-    rows_by::<1, UP>(t, n, b, 0, fours);
-    rows_by::<4, UP>(t, n, b, fours, eights);
-    rows_by::<8, UP>(t, n, b, eights, n);
+    rows_by::<1>(upward, t, n, b, 0, fours);
+    rows_by::<4>(upward, t, n, b, fours, eights);
+    rows_by::<8>(upward, t, n, b, eights, n);
 }
 
-// Solves the k right-hand columns in b in place by the n by n matrix t. Where a slice holds no such matrix, b stays as it was.
+// Solves the k right-hand columns in b in place by the n by n matrix t: by its upper triangle, or by its lower one with ones on the diagonal. Where a slice
+// holds no such matrix, b stays as it was.
 #[tactic(auto, using(triangular_passes::proofs::InPlace::column_loop))]
-fn solve_columns<const UP: bool>(t: &[f64], n: usize, b: &mut [f64], k: usize)
-    ensures { b.new ≡ solved_in_place (pass_of UP) t.now n b.old k }
+pub fn solve_in_place(upward: bool, t: &[f64], n: usize, b: &mut [f64], k: usize)
+    ensures { b.new ≡ solved_in_place (pass_of upward) t.now n b.old k }
 {
     if !store::is_matrix(t, n, n) {
         return;
@@ -128,18 +133,7 @@ fn solve_columns<const UP: bool>(t: &[f64], n: usize, b: &mut [f64], k: usize)
     for j in 0..k {
         let a = j * n;
         let e = a + n;
-        solve_column::<UP>(t, n, &mut b[a..e]);
-    }
-}
-
-// The same, the direction known only where it runs: upward by the upper triangle of t, or downward by its lower one with ones on the diagonal.
-pub fn solve_in_place(upward: bool, t: &[f64], n: usize, b: &mut [f64], k: usize)
-    ensures { b.new ≡ solved_in_place (pass_of upward) t.now n b.old k }
-{
-    if upward {
-        solve_columns::<true>(t, n, b, k);
-    } else {
-        solve_columns::<false>(t, n, b, k);
+        solve_column(upward, t, n, &mut b[a..e]);
     }
 }
 
@@ -148,8 +142,8 @@ fn solve_small<const N: usize>(t: &[f64], b: &mut [f64])
     requires { (is_matrix t.now N N ≡ true) × (length b.old ≡ N) }
     ensures { b.new ≡ both_passes t.now N b.old }
 {
-    rows_at_once::<N, false>(t, N, b, 0);
-    rows_at_once::<N, true>(t, N, b, 0);
+    rows_at_once::<N>(false, t, N, b, 0);
+    rows_at_once::<N>(true, t, N, b, 0);
 }
 
 // Solves the right-hand column b in place by the n by n matrix t, whose lower triangle has ones on the diagonal: by the lower triangle, then by the upper one.
@@ -163,8 +157,8 @@ pub fn solve_one(t: &[f64], n: usize, b: &mut [f64])
         3 if fits => solve_small::<3>(t, b),
         4 if fits => solve_small::<4>(t, b),
         _ => {
-            solve_columns::<false>(t, n, b, 1);
-            solve_columns::<true>(t, n, b, 1);
+            solve_in_place(false, t, n, b, 1);
+            solve_in_place(true, t, n, b, 1);
         }
     }
 }

@@ -11,12 +11,12 @@ use Rattle.solve_by_rows.proofs.Blocks.{full}
 use Rattle.solve_by_rows.proofs.solve_column.Goals as goal
 
 pub returns : goal.returns
-returns g c =
+returns c =
     let a = c.args in
     sym (turns_done _ _ _ _ (omega arith))
     ∙ c.rows_by-3.ensures
     ∙ c.rows_by-2.ensures
     ∙ c.rows_by.ensures
     ∙ rows_all _ _ _ _
-    ∙ rows_solve _ a.n (columns a.n a.n a.t.now) a.b.now (full a.n a.t.now (sized _ _ _ c.requires.0).size) c.requires.1
+    ∙ rows_solve a.upward a.n (columns a.n a.n a.t.now) a.b.now (full a.n a.t.now (sized _ _ _ c.requires.0).size) c.requires.1
     c.slice_known-1.given
