@@ -111,11 +111,13 @@ fn solve_column(upward: bool, t: &[f64], n: usize, b: &mut [f64])
     requires { (is_matrix t.now n n ≡ true) × (length b.old ≡ n) }
     ensures { b.new ≡ solved_column (pass_of upward) n (columns n n t.now) b.old }
 {
-    let fours = n % 4;
-    let eights = n % 8;
-    rows_by::<1>(upward, t, n, b, 0, fours);
-    rows_by::<4>(upward, t, n, b, fours, eights);
-    rows_by::<8>(upward, t, n, b, eights, n);
+    let after_singles = n % 4;
+    let after_fours = n % 8;
+    rows_by::<1>(upward, t, n, b, 0, after_singles);
+    if after_singles < after_fours {
+        rows_at_once::<4>(upward, t, n, b, after_singles);
+    }
+    rows_by::<8>(upward, t, n, b, after_fours, n);
 }
 
 // Solves the k right-hand columns in b in place by the n by n matrix t: by its upper triangle, or by its lower one with ones on the diagonal. Where a slice
