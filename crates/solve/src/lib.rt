@@ -106,6 +106,8 @@ fn solve_by(
     refusals::settle(x)
 }
 
+// The six calls below stay, one for each kind: they are public, with theorems of their own, and docs/CONTRACTS.md names them.
+
 // The lower triangle of t, by its own diagonal.
 pub fn solve_lower_triangular(
     t: &[f64],

@@ -8,7 +8,7 @@ ghost use Rattle.store.specs.Columns.{columns, is_matrix};
 ghost use Rattle.triangular_passes.specs.Triangular.{solved_column, solved_in_place};
 ghost use Rattle.solve_by_rows.specs.Rows.{pass_of, row_of, row_sums, solved_within, row_done, all_rows, rows_from, both_passes};
 
-// The row of turn k: upward from the last, or downward from the first.
+// The row of turn k: upward from the last, or downward from the first. (Not `Pass::row_at`: as a value the direction stayed in the inner loop, and was slower.)
 #[tactic(auto, unfolding(crate::specs::Rows::row_of))]
 fn row_of<const UP: bool>(n: usize, k: usize) -> usize
     requires { k < n }
@@ -49,7 +49,7 @@ fn within_down(t: &[f64], n: usize, r: usize, v: &mut [f64])
     }
 }
 
-// The same upward.
+// The same upward, each row divided. (Not one with `within_down`: start, step, part and division differ, so one for both is two bodies, and no plainer.)
 #[tactic(auto, using(store::proofs::Columns::sized, store::proofs::Columns::column_within))]
 fn within_up(t: &[f64], n: usize, r: usize, v: &mut [f64])
     requires { (is_matrix t.now n n ≡ true) × (r + length v.old ≤ n) }
@@ -82,7 +82,7 @@ fn block<const UP: bool>(t: &[f64], n: usize, b: &mut [f64], k: usize, v: &mut [
     blas::copy(&mut b[r..e], v);
 }
 
-// The N turns from k on, in one block.
+// The N turns from k on, in one block. (The direction is a value from here up: as a const parameter 48 rows and more took 1.2 times as long.)
 fn rows_at_once<const N: usize>(upward: bool, t: &[f64], n: usize, b: &mut [f64], k: usize)
     requires { (is_matrix t.now n n ≡ true) × (length b.old ≡ n) × (k + N ≤ n) }
     ensures { b.new ≡ turns_from (row_done upward n (columns n n t.now)) k N b.old }
@@ -105,8 +105,8 @@ fn rows_by<const N: usize>(upward: bool, t: &[f64], n: usize, b: &mut [f64], fro
     }
 }
 
-// Solves one right-hand column in place: row by row until what is left is whole fours, here a row has few products to take, then four rows until it is whole
-// eights, then eight at a time.
+// Solves one right-hand column in place: row by row until what is left is whole fours, since here a row has few products to take, then four rows where it is
+// not whole eights, then eight at a time. (The four are no loop: with one, some sizes took 1.1 times as long.)
 fn solve_column(upward: bool, t: &[f64], n: usize, b: &mut [f64])
     requires { (is_matrix t.now n n ≡ true) × (length b.old ≡ n) }
     ensures { b.new ≡ solved_column (pass_of upward) n (columns n n t.now) b.old }
@@ -121,7 +121,7 @@ fn solve_column(upward: bool, t: &[f64], n: usize, b: &mut [f64])
 }
 
 // Solves the k right-hand columns in b in place by the n by n matrix t: by its upper triangle, or by its lower one with ones on the diagonal. Where a slice
-// holds no such matrix, b stays as it was.
+// holds no such matrix, b stays as it was. (The loop of `triangular_passes` once more: one loop above both crates was slower.)
 #[tactic(auto, using(triangular_passes::proofs::InPlace::column_loop))]
 pub fn solve_in_place(upward: bool, t: &[f64], n: usize, b: &mut [f64], k: usize)
     ensures { b.new ≡ solved_in_place (pass_of upward) t.now n b.old k }
@@ -154,13 +154,14 @@ pub fn solve_one(t: &[f64], n: usize, b: &mut [f64])
     ensures { b.new ≡ both_passes t.now n b.old }
 {
     let fits = store::is_matrix(t, n, n) & (b.len() == n);
-    match n {
-        2 if fits => solve_small::<2>(t, b),
-        3 if fits => solve_small::<3>(t, b),
-        4 if fits => solve_small::<4>(t, b),
-        _ => {
-            solve_in_place(false, t, n, b, 1);
-            solve_in_place(true, t, n, b, 1);
+    if fits & (1 < n) & (n < 5) {
+        match n {
+            2 => solve_small::<2>(t, b),
+            3 => solve_small::<3>(t, b),
+            _ => solve_small::<4>(t, b),
         }
+        return;
     }
+    solve_in_place(false, t, n, b, 1);
+    solve_in_place(true, t, n, b, 1);
 }

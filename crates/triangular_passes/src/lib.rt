@@ -87,7 +87,7 @@ fn upper_row(d: f64, col: &[f64], b: &mut [f64], i: usize)
     blas::axpy(&mut b[..i], -x, &col[..i], 0);
 }
 
-// The rows below row i are updated by row i divided by d; row i itself stays.
+// The rows below row i are updated by row i divided by d; row i itself stays. (One with `lower_row` would take a flag for one line, and be no plainer.)
 #[tactic(auto, unfolding(crate::specs::Triangular::kept_row))]
 fn kept_row(d: f64, col: &[f64], b: &mut [f64], i: usize)
     requires { i < length b.old }
@@ -116,7 +116,7 @@ fn transposed_lower_row(d: f64, col: &[f64], b: &mut [f64], i: usize)
     b[i] = less_below(col, b, i) / d;
 }
 
-// The same undivided.
+// The same undivided. (One with the above would take an Option of d and look at it in each row, and be no plainer.)
 #[tactic(auto, unfolding(crate::specs::Triangular::transposed_unit_lower_row))]
 fn transposed_unit_lower_row(col: &[f64], b: &mut [f64], i: usize)
     requires { (i < length col.now) × (i < length b.old) }
@@ -135,7 +135,7 @@ fn transposed_upper_row(d: f64, col: &[f64], b: &mut [f64], i: usize)
     b[i] = (b[i] - sum) / d;
 }
 
-// One row of a solve, col being column i of the matrix.
+// One row of a solve, col being column i of the matrix. (An arm for each arithmetic: a trait with a type for each kind would be no plainer.)
 #[tactic(auto, unfolding(crate::specs::Triangular::solved_row))]
 fn solve_row(pass: Pass, col: &[f64], b: &mut [f64], i: usize)
     requires { (i < length col.now) × (i < length b.old) }

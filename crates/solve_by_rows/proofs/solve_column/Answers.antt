@@ -19,14 +19,14 @@ returns c =
     let a = c.args in
     let n = a.n in
     let four : rows_from a.upward n a.t.now (n % 8) c.if-after_singles-after_fours.b ≡ rows_from a.upward n a.t.now (n % 4) c.rows_by.new.b =
-        elim c.if-after_singles-after_fours.branch [
-          then-after_singles-after_fours w ↦
-              let h = w.if-after_singles-after_fours.true in
-              rw w.b-is (turns_by _ 4 _ _ _ _ _ _ (omega (arith, h)) (omega (arith, h)) w.rows_at_once.ensures)
-        | else-after_singles-after_fours w ↦
-              let none : n % 8 ≡ n % 4 = omega (arith, w.if-after_singles-after_fours.false) in
-              ap₂ (λ (k : _) (b : Column). rows_from a.upward n a.t.now k b) none w.b-is
-        ] in
+    elim c.if-after_singles-after_fours.branch [
+      | then-after_singles-after_fours w ↦
+          let h = w.if-after_singles-after_fours.true in
+          rw w.b-is (turns_by _ 4 _ _ _ _ _ _ (omega (arith, h)) (omega (arith, h)) w.rows_at_once.ensures)
+      | else-after_singles-after_fours w ↦
+          let none : n % 8 ≡ n % 4 = omega (arith, w.if-after_singles-after_fours.false) in
+          ap₂ (λ (k : _) (b : Column). rows_from a.upward n a.t.now k b) none w.b-is
+    ] in
     sym (turns_done _ _ _ _ (omega arith))
     ∙ c.rows_by-2.ensures
     ∙ four

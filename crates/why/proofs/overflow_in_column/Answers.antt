@@ -7,8 +7,7 @@ use lib.Ieee.Scale.{finite}
 use Rattle.numbers.specs.First.{first_failing}
 use Rattle.numbers.specs.Column.{entry}
 use Rattle.store.specs.Columns.{columns}
-use Rattle.triangular_passes.specs.declared.Pass.{Pass}
-use Rattle.triangular_passes.specs.Triangular.{row_at, turns_of, turn, turned_by}
+use Rattle.triangular_passes.specs.Triangular.{row_at, turns_of, turn}
 use Rattle.solve.specs.Reason.{first_row}
 use Rattle.triangular_passes.proofs.Turns.{turn_row}
 use Rattle.why.proofs.Column.{row_fine, row_spoilt, turning_begin, turning_on, turning_found, turning_end, turn_taken}
