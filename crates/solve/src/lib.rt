@@ -9,6 +9,7 @@ use refusals::Refusal;
 use triangular_passes::Pass;
 
 // Whether the n by n matrix t has a zero of either sign on its diagonal; false where t is no such matrix.
+#[tactic(auto, unfolding(crate::specs::Calls::zero_on_diagonal))]
 pub fn zero_on_diagonal(t: &[f64], n: usize) -> bool
     ensures { result ≡ zero_on_diagonal t.now n }
 {
@@ -19,58 +20,41 @@ pub fn zero_on_diagonal(t: &[f64], n: usize) -> bool
 fn given_finite(pass: Pass) -> bool
     ensures { result ≡ given_finite pass }
 {
-    match pass {
-        Pass::GivenDiagonal(d) => numbers::is_finite(d),
-        Pass::CorrectedDiagonal(d) => numbers::is_finite(d),
-        _ => true,
-    }
+    pass.given().is_none_or(numbers::is_finite)
 }
 
 // Refusal 6: whether some row would be divided by a zero.
 fn zero_divisor(pass: Pass, t: &[f64], n: usize) -> bool
     ensures { result ≡ zero_divisor pass t.now n }
 {
-    match pass {
-        Pass::GivenDiagonal(d) => numbers::is_zero(d),
-        Pass::CorrectedDiagonal(d) => numbers::is_zero(d),
-        _ => zero_on_diagonal(t, n),
+    match pass.given() {
+        Some(d) => numbers::is_zero(d),
+        None => zero_on_diagonal(t, n),
     }
 }
 
 // Refusal 1: whether a size lies outside its limits.
+#[tactic(auto, unfolding(crate::specs::Calls::sizes_outside))]
 fn sizes_outside(n: usize, k: usize) -> bool
     ensures { result ≡ sizes_outside n k }
 {
-    if refusals::outside(1, n) {
-        return true;
-    }
-    refusals::outside(1, k)
+    refusals::outside(1, n) || refusals::outside(1, k)
 }
 
 // Refusal 3: whether the three slices have the lengths that the sizes ask for.
+#[tactic(auto, unfolding(crate::specs::Calls::lengths_fit))]
 fn lengths_fit(t: &[f64], n: usize, b: &[f64], k: usize, x: &[f64]) -> bool
     ensures { result ≡ lengths_fit t.now n b.now k x.now }
 {
-    if !store::is_matrix(t, n, n) {
-        return false;
-    }
-    if !store::is_matrix(b, n, k) {
-        return false;
-    }
-    store::is_matrix(x, n, k)
+    store::is_matrix(t, n, n) && store::is_matrix(b, n, k) && store::is_matrix(x, n, k)
 }
 
 // Refusal 5: whether every number given is finite.
+#[tactic(auto, unfolding(crate::specs::Calls::numbers_finite))]
 fn numbers_finite(pass: Pass, t: &[f64], b: &[f64]) -> bool
     ensures { result ≡ numbers_finite pass t.now b.now }
 {
-    if !finite::all_finite(t) {
-        return false;
-    }
-    if !finite::all_finite(b) {
-        return false;
-    }
-    given_finite(pass)
+    finite::all_finite(t) && finite::all_finite(b) && given_finite(pass)
 }
 
 // Refuses what the solves refuse before the work, by the tests in their order.
@@ -110,6 +94,8 @@ fn solve_by(
     triangular_passes::solve_in_place(pass, t, n, x, k);
     refusals::settle(x)
 }
+
+// The six calls below stay, one for each kind: they are public, with theorems of their own, and docs/CONTRACTS.md names them.
 
 // The lower triangle of t, by its own diagonal.
 pub fn solve_lower_triangular(

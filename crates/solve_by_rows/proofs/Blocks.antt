@@ -55,7 +55,7 @@ unfolding row_sums
 length_sums upward n cs b r turns w = length_list w _
 
 -- where the rows of the turns k to k + w - 1 begin
-abbrev first_row : Bool → ℕ → ℕ → ℕ → ℕ
+abbrev pub first_row : Bool → ℕ → ℕ → ℕ → ℕ
 first_row upward n k w = cond upward (n - k - w) k
 
 first_low : (upward : Bool) (n k w r : ℕ) → k + w ≤ n → r ≡ first_row upward n k w → r + w ≤ n

@@ -1,9 +1,8 @@
--- One right-hand column as one block: a block of all rows has all turns, and these give the pass. The block was solved for k rows, and the matrix has n,
--- which is k: so the law is one over the size, whatever sizes are written out. Assumes nothing.
+-- One right-hand column as one block: a block of all rows has all turns, and these give the pass. Assumes nothing.
 use mathlib.Core.Path.{◌≡◌, sym, ap, ◌∙◌}
 use mathlib.Core.Bool.{Bool, true, false}
 use mathlib.Core.List.{append-nil}
-use Prim.Native.Nat.{ℕ, ◌+◌, ◌≤◌}
+use Prim.Native.Nat.{ℕ}
 use native.Mathlib.Nat.{one-mul}
 use native.Mathlib.Omega.{arith}
 use lib.ListN.{length, take}
@@ -30,26 +29,20 @@ one_solved pass n t b matrix long =
     ∙ append-nil (solved_column pass n (columns n n t) (take n b))
     ∙ ap (solved_column pass n (columns n n t)) (take_all n b (omega arith))
 
-module _ (n k : ℕ) (same : n ≡ k) (t : Column) (matrix : is_matrix t n n ≡ true) where
-  -- a block of all k rows may be solved
-  pub whole_may : (long w : ℕ) → long ≡ n → w ≡ k → (is_matrix t k k ≡ true) × (long ≡ k) × (0 + w ≤ k)
-  whole_may long w h e = (sym (ap (λ (q : ℕ). is_matrix t q q) same) ∙ matrix, h ∙ same, omega (arith, e))
-
-  -- and gives the pass
-  whole_block : (upward : Bool) (b b' : Column) (w : ℕ) → w ≡ k → length b ≡ n → Doubles b → b' ≡ turns_from (row_done upward k (columns k k t)) 0 w b
+module _ (n : ℕ) (t : Column) (matrix : is_matrix t n n ≡ true) where
+  -- a block of all rows gives the pass
+  whole_block : (upward : Bool) (b b' : Column) → length b ≡ n → Doubles b → b' ≡ turns_from (row_done upward n (columns n n t)) 0 n b
       → b' ≡ solved_in_place (pass_of upward) t n b 1
-  whole_block upward b b' w e long all made =
+  whole_block upward b b' long all made =
       made
-      ∙ ap (λ (q : ℕ). turns_from (row_done upward k (columns k k t)) 0 q b) e
-      ∙ ap (λ (q : ℕ). turns_from (row_done upward q (columns q q t)) 0 q b) (sym same)
       ∙ rows_solve upward n (columns n n t) b (full n t (sized n n t matrix).size) long all
       ∙ sym (one_solved (pass_of upward) n t b matrix long)
 
   -- so two blocks, one after the other, give both passes
-  pub both_blocks : (b b' b'' : Column) (w w' : ℕ) → w ≡ k → w' ≡ k → length b ≡ n → length b' ≡ length b → Doubles b → Doubles b'
-      → b' ≡ turns_from (row_done false k (columns k k t)) 0 w b
-      → b'' ≡ turns_from (row_done true k (columns k k t)) 0 w' b'
+  pub both_blocks : (b b' b'' : Column) → length b ≡ n → length b' ≡ length b → Doubles b → Doubles b'
+      → b' ≡ turns_from (row_done false n (columns n n t)) 0 n b
+      → b'' ≡ turns_from (row_done true n (columns n n t)) 0 n b'
       → b'' ≡ both_passes t n b
-  both_blocks b b' b'' w w' e e' long kept all all' down up =
-      whole_block true b' b'' w' e' (kept ∙ long) all' up
-      ∙ ap (λ (c : Column). solved_in_place (pass_of true) t n c 1) (whole_block false b b' w e long all down)
+  both_blocks b b' b'' long kept all all' down up =
+      whole_block true b' b'' (kept ∙ long) all' up
+      ∙ ap (λ (c : Column). solved_in_place (pass_of true) t n c 1) (whole_block false b b' long all down)

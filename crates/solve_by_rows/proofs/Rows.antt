@@ -1,7 +1,9 @@
 -- The turns of a solve row by row: which row each has, and what a row's sum is once one more turn is done. Assumes nothing.
 use mathlib.Core.Path.{◌≡◌, refl, sym, ap, ap₂, ◌∙◌}
 use mathlib.Core.Bool.{Bool, true, false}
-use Prim.Native.Nat.{ℕ, zero, suc, ◌+◌, ◌≤◌, ◌<◌}
+use Prim.Native.Nat.{ℕ, zero, suc, ◌+◌, ◌-◌, ◌%◌, ◌≤◌, ◌<◌}
+use Rattle.std.proofs.Math.Nat.{mod-eq-sub-mod}
+use Rattle.std.proofs.lemmas.Nat.Gcd.{dvd_of_mod-eq-zero, le_of_dvd}
 use native.Mathlib.Omega.{arith}
 use lib.ListN.{length, set}
 use lib.Seq.{get_or-set_same, get_or-set_other}
@@ -11,7 +13,8 @@ use Rattle.numbers.specs.Numbers.{plus_product}
 use Rattle.numbers.specs.Column.{Column, entry}
 use Rattle.numbers.proofs.Each.{turns_turn}
 use Rattle.store.specs.Steps.{Matrix, column}
-use Rattle.solve_by_rows.specs.Rows.{row_of, with_turn, row_sum}
+use Rattle.store.specs.Columns.{columns}
+use Rattle.solve_by_rows.specs.Rows.{row_of, with_turn, row_sum, row_done, all_rows, rows_from}
 
 -- ---- turns one after another
 module _ {S : Type 0} (f : ℕ → S → S) where
@@ -41,6 +44,14 @@ module _ {S : Type 0} (f : ℕ → S → S) where
       let on : 0 + c ≡ c = omega arith in
       turns_snoc 0 c s ∙ ap (λ (j : ℕ). f j (turns_from f 0 c s)) on
 
+-- where whole blocks of w turns are left from turn k to turn `to`, and not none, one more fits, and whole blocks are left behind it
+pub block_fits : (w k to : ℕ) → 1 ≤ w → k < to → (to - k) % w ≡ 0 → (k + w ≤ to) × ((to - (k + w)) % w ≡ 0)
+block_fits w k to some on whole =
+    let block : w ≤ to - k = le_of_dvd (omega arith) (dvd_of_mod-eq-zero w whole) in
+    let room : k + w ≤ to = omega (arith, block) in
+    let left : to - (k + w) ≡ to - k - w = omega arith in
+    (room, ap (λ (d : ℕ). d % w) left ∙ sym (mod-eq-sub-mod block) ∙ whole)
+
 -- two ways to make a turn that agree
 pub turns_same : {S : Type 0} (f g : ℕ → S → S) (i c : ℕ) (s : S) → ((k : ℕ) (x : S) → i ≤ k → k < i + c → f k x ≡ g k x)
     → turns_from f i c s ≡ turns_from g i c s
@@ -48,6 +59,10 @@ unfolding turns_from
 turns_same f g i zero s e = refl
 turns_same f g i (suc c) s e =
     ap (turns_from f (i + 1) c) (e i s (omega arith) (omega arith)) ∙ turns_same f g (i + 1) c (g i s) (λ k x h l. e k x (omega arith) (omega arith))
+
+-- those from the first on are all
+pub rows_all : (upward : Bool) (n : ℕ) (t b : Column) → rows_from upward n t 0 b ≡ all_rows upward n t b
+rows_all upward n t b = let all : n - 0 ≡ n = omega arith in ap (λ (q : ℕ). turns_from (row_done upward n (columns n n t)) 0 q b) all
 
 -- ---- the rows of the turns
 pub row_below : (upward : Bool) (n k : ℕ) → k < n → row_of upward n k < n

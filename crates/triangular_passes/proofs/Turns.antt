@@ -1,12 +1,11 @@
 -- The loops of a solve in the terms of its meaning: which row a turn works on, what a turn makes of a column, and that no turn changes how
 -- many rows there are. By cases on the kind of solve. Assumes nothing.
-use mathlib.Core.Path.{◌≡◌, sym, ap, ap₂, ◌∙◌}
+use mathlib.Core.Path.{◌≡◌, ap, ◌∙◌}
 use Prim.Native.Nat.{ℕ, ◌+◌, ◌-◌, ◌*◌, ◌≤◌, ◌<◌}
 use native.Mathlib.Omega.{arith}
 use borrow.Rule.Slice.PartMut.{mid_of}
 use lib.ListN.{length, drop, length-drop}
 use lib.Seq.{take_all}
-use lib.Ieee.{Float}
 use Rattle.numbers.specs.Column.{Column}
 use Rattle.store.specs.Columns.{columns}
 use Rattle.store.specs.Steps.{column}
@@ -14,7 +13,7 @@ use Rattle.store.proofs.Columns.{part_column}
 use Rattle.triangular_passes.specs.declared.Pass.{Pass}
 use Rattle.triangular_passes.specs.declared.Pass.TheVariants.{Lower, Upper, GivenDiagonal, CorrectedDiagonal}
 use Rattle.triangular_passes.specs.declared.Pass.TheVariants.{TransposedLower, TransposedUpper, TransposedUnitLower}
-use Rattle.triangular_passes.specs.Triangular.{divisor, row_by, solved_row, row_at, turns_of, turn}
+use Rattle.triangular_passes.specs.Triangular.{solved_row, row_at, turns_of, turn}
 
 -- no more turns than rows, and each turn's row is one
 pub turns_most : (pass : Pass) (n : ℕ) → turns_of pass n ≤ n
@@ -44,12 +43,6 @@ pub rest_part : (a : ℕ) (s : Column) → mid_of a (length s - a) s ≡ drop a 
 rest_part a s =
     let len : length (drop a s) ≤ length s - a = omega (arith, length-drop a s) in
     take_all (length s - a) (drop a s) len
-
--- a row that was worked on as its kind says, by its divisor
-pub row_done : (pass kind : Pass) (d : Float) (l : Column) (i : ℕ) (b c : Column) → pass ≡ kind → d ≡ divisor pass l i → c ≡ row_by kind d l i b
-    → c ≡ solved_row pass l i b
-unfolding solved_row
-row_done pass kind d l i b c told by made = made ∙ ap₂ (λ (p : Pass) (e : Float). row_by p e l i b) (sym told) by
 
 -- turn k, with the matrix's column as a part of its slice
 pub turn_done : (pass : Pass) (n k i : ℕ) (t b c : Column) → i ≡ row_at pass n k → i < n → c ≡ solved_row pass (mid_of (i * n) (i * n + n - i * n) t) i b

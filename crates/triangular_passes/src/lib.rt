@@ -4,7 +4,7 @@
 
 ghost use Rattle.std.specs.Prelude.{◌≡◌, true, ◌<◌, length};
 ghost use Rattle.store.specs.Columns.{columns, is_matrix};
-ghost use Rattle.triangular_passes.specs.Triangular.{divisor, lower_row, upper_row, kept_row, less_below, transposed_lower_row, transposed_upper_row};
+ghost use Rattle.triangular_passes.specs.Triangular.{given, divisor, lower_row, upper_row, kept_row, less_below, transposed_lower_row, transposed_upper_row};
 ghost use Rattle.triangular_passes.specs.Triangular.{transposed_unit_lower_row, solved_row, row_at, turns_of, turn, turned_by, solved_column, solved_in_place};
 
 // Which solve it is: the triangle read, the diagonal divided by, and whether the matrix is transposed. A given diagonal is the Rust's: it
@@ -20,20 +20,51 @@ pub enum Pass {
     TransposedUnitLower,
 }
 
-// The number that row i is divided by: the given diagonal, or else the matrix's own.
-fn divisor(pass: Pass, col: &[f64], i: usize) -> f64
-    requires { i < length col.now }
-    ensures { result ≡ divisor pass col.now i }
-{
-    let own = col[i];
-    match pass {
-        Pass::GivenDiagonal(d) => d,
-        Pass::CorrectedDiagonal(d) => d,
-        _ => own,
+impl Pass {
+    // The given diagonal, where there is one.
+    pub fn given(self) -> Option<f64>
+        ensures { result ≡ given self Some None }
+    {
+        match self {
+            Pass::GivenDiagonal(d) | Pass::CorrectedDiagonal(d) => Some(d),
+            _ => None,
+        }
+    }
+
+    // The row of turn k: downward from the first, or upward from the last.
+    pub fn row_at(self, n: usize, k: usize) -> usize
+        requires { k < n }
+        ensures { result ≡ row_at self n k }
+    {
+        match self {
+            Pass::Upper | Pass::TransposedLower | Pass::TransposedUnitLower => n - 1 - k,
+            _ => k,
+        }
+    }
+
+    // How many rows are worked on: all, but where each entry is kept the last has nothing below it.
+    pub fn turns(self, n: usize) -> usize
+        ensures { result ≡ turns_of self n }
+    {
+        let last = n - store::min(n, 1);
+        match self {
+            Pass::GivenDiagonal(_) => last,
+            _ => n,
+        }
+    }
+
+    // The number that row i is divided by, col being column i of the matrix: the given diagonal, or else the matrix's own.
+    fn divisor(self, col: &[f64], i: usize) -> f64
+        requires { i < length col.now }
+        ensures { result ≡ divisor self col.now i }
+    {
+        let own = col[i];
+        self.given().unwrap_or(own)
     }
 }
 
 // Row i is divided by d, and the rows below it are updated.
+#[tactic(auto, unfolding(crate::specs::Triangular::lower_row))]
 fn lower_row(d: f64, col: &[f64], b: &mut [f64], i: usize)
     requires { i < length b.old }
     ensures { b.new ≡ lower_row d col.now i b.old }
@@ -45,6 +76,7 @@ fn lower_row(d: f64, col: &[f64], b: &mut [f64], i: usize)
 }
 
 // Row i is divided by d, and the rows above it are updated.
+#[tactic(auto, unfolding(crate::specs::Triangular::upper_row))]
 fn upper_row(d: f64, col: &[f64], b: &mut [f64], i: usize)
     requires { (i < length col.now) × (i < length b.old) }
     ensures { b.new ≡ upper_row d col.now i b.old }
@@ -55,7 +87,8 @@ fn upper_row(d: f64, col: &[f64], b: &mut [f64], i: usize)
     blas::axpy(&mut b[..i], -x, &col[..i], 0);
 }
 
-// The rows below row i are updated by row i divided by d; row i itself stays.
+// The rows below row i are updated by row i divided by d; row i itself stays. (One with `lower_row` would take a flag for one line, and be no plainer.)
+#[tactic(auto, unfolding(crate::specs::Triangular::kept_row))]
 fn kept_row(d: f64, col: &[f64], b: &mut [f64], i: usize)
     requires { i < length b.old }
     ensures { b.new ≡ kept_row d col.now i b.old }
@@ -75,6 +108,7 @@ fn less_below(col: &[f64], b: &[f64], i: usize) -> f64
 }
 
 // That, divided by d, in row i.
+#[tactic(auto, unfolding(crate::specs::Triangular::transposed_lower_row))]
 fn transposed_lower_row(d: f64, col: &[f64], b: &mut [f64], i: usize)
     requires { (i < length col.now) × (i < length b.old) }
     ensures { b.new ≡ transposed_lower_row d col.now i b.old }
@@ -82,7 +116,8 @@ fn transposed_lower_row(d: f64, col: &[f64], b: &mut [f64], i: usize)
     b[i] = less_below(col, b, i) / d;
 }
 
-// The same undivided.
+// The same undivided. (One with the above would take an Option of d and look at it in each row, and be no plainer.)
+#[tactic(auto, unfolding(crate::specs::Triangular::transposed_unit_lower_row))]
 fn transposed_unit_lower_row(col: &[f64], b: &mut [f64], i: usize)
     requires { (i < length col.now) × (i < length b.old) }
     ensures { b.new ≡ transposed_unit_lower_row col.now i b.old }
@@ -91,6 +126,7 @@ fn transposed_unit_lower_row(col: &[f64], b: &mut [f64], i: usize)
 }
 
 // Row i less the dot product of the rows above it, divided by d.
+#[tactic(auto, unfolding(crate::specs::Triangular::transposed_upper_row))]
 fn transposed_upper_row(d: f64, col: &[f64], b: &mut [f64], i: usize)
     requires { (i < length col.now) × (i < length b.old) }
     ensures { b.new ≡ transposed_upper_row d col.now i b.old }
@@ -99,48 +135,20 @@ fn transposed_upper_row(d: f64, col: &[f64], b: &mut [f64], i: usize)
     b[i] = (b[i] - sum) / d;
 }
 
-// One row of a solve, col being column i of the matrix.
+// One row of a solve, col being column i of the matrix. (An arm for each arithmetic: a trait with a type for each kind would be no plainer.)
+#[tactic(auto, unfolding(crate::specs::Triangular::solved_row))]
 fn solve_row(pass: Pass, col: &[f64], b: &mut [f64], i: usize)
     requires { (i < length col.now) × (i < length b.old) }
     ensures { b.new ≡ solved_row pass col.now i b.old }
 {
-    let d = divisor(pass, col, i);
+    let d = pass.divisor(col, i);
     match pass {
-        Pass::Lower => lower_row(d, col, b, i),
+        Pass::Lower | Pass::CorrectedDiagonal(_) => lower_row(d, col, b, i),
         Pass::Upper => upper_row(d, col, b, i),
         Pass::GivenDiagonal(_) => kept_row(d, col, b, i),
         Pass::TransposedLower => transposed_lower_row(d, col, b, i),
         Pass::TransposedUpper => transposed_upper_row(d, col, b, i),
-        Pass::CorrectedDiagonal(_) => lower_row(d, col, b, i),
         Pass::TransposedUnitLower => transposed_unit_lower_row(col, b, i),
-    }
-}
-
-// The row of turn k: downward from the first, or upward from the last.
-fn row_at(pass: Pass, n: usize, k: usize) -> usize
-    requires { k < n }
-    ensures { result ≡ row_at pass n k }
-{
-    let up = n - 1 - k;
-    match pass {
-        Pass::Lower => k,
-        Pass::Upper => up,
-        Pass::GivenDiagonal(_) => k,
-        Pass::TransposedLower => up,
-        Pass::TransposedUpper => k,
-        Pass::CorrectedDiagonal(_) => k,
-        Pass::TransposedUnitLower => up,
-    }
-}
-
-// How many rows are worked on: all, but where each entry is kept the last has nothing below it.
-fn turns_of(pass: Pass, n: usize) -> usize
-    ensures { result ≡ turns_of pass n }
-{
-    let last = n - store::min(n, 1);
-    match pass {
-        Pass::GivenDiagonal(_) => last,
-        _ => n,
     }
 }
 
@@ -149,13 +157,14 @@ fn take_turn(pass: Pass, t: &[f64], n: usize, b: &mut [f64], k: usize)
     requires { (is_matrix t.now n n ≡ true) × (length b.old ≡ n) × (k < turns_of pass n) }
     ensures { b.new ≡ turn pass n (columns n n t.now) k b.old }
 {
-    let i = row_at(pass, n, k);
+    let i = pass.row_at(n, k);
     let a = i * n;
     let e = a + n;
     solve_row(pass, &t[a..e], b, i);
 }
 
 // The same by itself; nothing where t is no n by n matrix, b has not n entries, or there is no turn k.
+#[tactic(auto, unfolding(crate::specs::Triangular::turned_by))]
 pub fn solve_turn(pass: Pass, t: &[f64], n: usize, b: &mut [f64], k: usize)
     ensures { b.new ≡ turned_by pass t.now n b.old k }
 {
@@ -165,7 +174,7 @@ pub fn solve_turn(pass: Pass, t: &[f64], n: usize, b: &mut [f64], k: usize)
     if b.len() != n {
         return;
     }
-    if turns_of(pass, n) <= k {
+    if pass.turns(n) <= k {
         return;
     }
     take_turn(pass, t, n, b, k);
@@ -176,7 +185,7 @@ fn solve_column(pass: Pass, t: &[f64], n: usize, b: &mut [f64])
     requires { (is_matrix t.now n n ≡ true) × (length b.old ≡ n) }
     ensures { b.new ≡ solved_column pass n (columns n n t.now) b.old }
 {
-    let turns = turns_of(pass, n);
+    let turns = pass.turns(n);
     for k in 0..turns {
         take_turn(pass, t, n, b, k);
     }

@@ -8,14 +8,13 @@ ghost use Rattle.numbers.specs.First.{first_failing};
 ghost use Rattle.numbers.specs.Column.{entry};
 ghost use Rattle.finite.specs.Finite.{all_finite};
 ghost use Rattle.store.specs.Columns.{columns, is_matrix};
-ghost use Rattle.triangular_passes.specs.Triangular.{row_at, turns_of};
 ghost use Rattle.solve.specs.Reason.{lowest_zero};
 ghost use Rattle.swap_list.specs.SwapList.{good_list};
 ghost use Rattle.lu.specs.Factoring.{factoring};
 ghost use Rattle.from_factors.specs.Solving.{solving};
 ghost use Rattle.why.specs.Results.{first_overflow};
 ghost use Rattle.why.specs.Factoring.{factoring_results};
-ghost use Rattle.why.specs.Inner.{pass_of, Turned, Passed, column_or};
+ghost use Rattle.why.specs.Inner.{Turned, Passed, column_or};
 ghost use Rattle.why.specs.Why.{overflowed, told_factor, explain_factoring, told_solve, results_of, explain_solving};
 
 use factors::Record;
@@ -99,32 +98,6 @@ pub fn why_factor(
     reason
 }
 
-// The pass of a solve: unit lower, or upper.
-fn pass_of(upper: bool) -> Pass
-    ensures { result ≡ pass_of upper }
-{
-    if upper {
-        Pass::Upper
-    } else {
-        Pass::GivenDiagonal(1.0)
-    }
-}
-
-// The row that turn k of n has, and how many turns there are.
-fn row_of(upper: bool, n: usize, k: usize) -> usize
-    requires { k < n }
-    ensures { result ≡ row_at (pass_of upper) n k }
-{
-    if upper { n - 1 - k } else { k }
-}
-
-fn turns_of(upper: bool, n: usize) -> usize
-    requires { 1 ≤ n }
-    ensures { result ≡ turns_of (pass_of upper) n }
-{
-    if upper { n } else { n - 1 }
-}
-
 // The first row that a turn on row `own` stored a number in that is not finite: that row itself, else from the top; the length where all are finite.
 fn stored_row(b: &[f64], own: usize) -> usize
     requires { own < length b.now }
@@ -137,14 +110,14 @@ fn stored_row(b: &[f64], own: usize) -> usize
 }
 
 // The row of the first result that is not finite of a pass on the right-hand column b, by plain turns; n where there is none, and then b is solved.
-fn overflow_in_column(upper: bool, t: &[f64], n: usize, b: &mut [f64]) -> usize
+fn overflow_in_column(pass: Pass, t: &[f64], n: usize, b: &mut [f64]) -> usize
     requires { (is_matrix t.now n n ≡ true) × (length b.old ≡ n) × (1 ≤ n) }
-    ensures { Turned upper n (columns n n t.now) b.old result b.new }
+    ensures { Turned pass n (columns n n t.now) b.old result b.new }
 {
-    let turns = turns_of(upper, n);
+    let turns = pass.turns(n);
     for k in 0..turns {
-        triangular_passes::solve_turn(pass_of(upper), t, n, b, k);
-        let row = stored_row(b, row_of(upper, n, k));
+        triangular_passes::solve_turn(pass, t, n, b, k);
+        let row = stored_row(b, pass.row_at(n, k));
         if row < n {
             return row;
         }
@@ -160,14 +133,14 @@ struct Found {
 }
 
 // The first result that is not finite of a pass over the k right-hand columns in x; column k where there is none, and then x is solved.
-fn overflow_in_pass(upper: bool, t: &[f64], n: usize, x: &mut [f64], k: usize) -> Found
+fn overflow_in_pass(pass: Pass, t: &[f64], n: usize, x: &mut [f64], k: usize) -> Found
     requires { (is_matrix t.now n n ≡ true) × (is_matrix x.old n k ≡ true) × (1 ≤ n) }
-    ensures { Passed upper n k (columns n n t.now) (columns n k x.old) result (columns n k x.new) }
+    ensures { Passed pass n k (columns n n t.now) (columns n k x.old) result (columns n k x.new) }
 {
     for j in 0..k {
         let a = j * n;
         let e = a + n;
-        let row = overflow_in_column(upper, t, n, &mut x[a..e]);
+        let row = overflow_in_column(pass, t, n, &mut x[a..e]);
         if row < n {
             return Found { column: j, row };
         }
@@ -190,7 +163,7 @@ fn overflow_in_solve(
 {
     let n = told.rows;
     exchanges::apply_to_rows(x, n, k, swaps, told.pairs, false);
-    let low = overflow_in_pass(false, factors, n, x, k);
+    let low = overflow_in_pass(Pass::GivenDiagonal(1.0), factors, n, x, k);
     if low.column < k {
         return Some(WhySolve::Overflow {
             pass: 1,
@@ -198,7 +171,7 @@ fn overflow_in_solve(
             row: low.row,
         });
     }
-    let up = overflow_in_pass(true, factors, n, x, k);
+    let up = overflow_in_pass(Pass::Upper, factors, n, x, k);
     if up.column < k {
         return Some(WhySolve::Overflow {
             pass: 2,

@@ -12,8 +12,8 @@ loop-k-init c = turns_begin _ _ _
 pub loop-k-preserved : goal.loop-k-preserved
 loop-k-preserved c =
     let g = c.args in
-    turns_next (turn g.pass g.n (columns g.n g.n g.t.now)) _ _ _ _ (rw c.turns_of-turns.ensures at c.loop-k-test.true) c.take_turn.ensures
+    turns_next (turn g.pass g.n (columns g.n g.n g.t.now)) _ _ _ _ (rw c.turns-turns.ensures at c.loop-k-test.true) c.take_turn.ensures
     ∙ c.loop-k.invariant
 
 pub returns : goal.returns
-returns c = sym (turns_done _ _ _ _ (rw (sym c.turns_of-turns.ensures) c.loop-k-test.false)) ∙ c.loop-k.invariant
+returns c = sym (turns_done _ _ _ _ (rw (sym c.turns-turns.ensures) c.loop-k-test.false)) ∙ c.loop-k.invariant

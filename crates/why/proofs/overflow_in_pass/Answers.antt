@@ -9,7 +9,6 @@ use Rattle.store.proofs.Columns.{sized, length_columns, part_column, column_lent
 use Rattle.store.specs.Steps.{column}
 use Rattle.triangular_passes.specs.Triangular.{solved_column}
 use Rattle.solve.specs.Reason.{first_in_column}
-use Rattle.why.specs.Inner.{pass_of}
 use Rattle.why.proofs.Pass.{passing_begin, passing_on, passing_found, passing_end, same_column}
 use Rattle.why.proofs.overflow_in_pass.Goals.{In-loop-j}
 use Rattle.why.proofs.overflow_in_pass.Goals as goal
@@ -53,8 +52,8 @@ loop-j-preserved c =
       same_len_mid from (from + g.n - from) c.loop-j.x part kept ∙ c.loop-j.invariant.0,
       rw put
           (passing_on _ _ _ _ _ _ _ c.loop-j.invariant.1 (length_columns g.n g.k g.x.now) (length_columns g.n g.k c.loop-j.x) h part
-          (ap (first_in_column (pass_of g.upper) g.n cs 0) (sym seen) ∙ fine.0)
-          (fine.1 ∙ ap (solved_column (pass_of g.upper) g.n cs) (part_now (goal.at.loop-j-preserved c).In-loop-j))),
+          (ap (first_in_column g.pass g.n cs 0) (sym seen) ∙ fine.0)
+          (fine.1 ∙ ap (solved_column g.pass g.n cs) (part_now (goal.at.loop-j-preserved c).In-loop-j))),
     )
 
 pub returns : goal.returns

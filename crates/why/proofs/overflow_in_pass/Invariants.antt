@@ -3,10 +3,9 @@ use mathlib.Core.Path.{◌≡◌}
 use Prim.Native.Nat.{◌*◌}
 use lib.ListN.{length}
 use Rattle.store.specs.Columns.{columns}
-use Rattle.why.specs.Inner.{pass_of}
 use Rattle.why.proofs.Pass.{Passing}
 use Rattle.why.proofs.overflow_in_pass.Given as goal
 
 abbrev pub invariant-loop-j : goal.invariant-loop-j
-invariant-loop-j l = (length l.x ≡ l.k * l.n) × Passing (pass_of l.upper) l.n l.k (columns l.n l.n l.t) (columns l.n l.k l.initial.x)
+invariant-loop-j l = (length l.x ≡ l.k * l.n) × Passing l.pass l.n l.k (columns l.n l.n l.t) (columns l.n l.k l.initial.x)
     (columns l.n l.k l.x) l.j
