@@ -11,16 +11,9 @@ ghost use Rattle.blas.specs.Dot.{add_product, dot_of};
 pub fn swap(col: &mut [f64], i: usize, j: usize)
     ensures { col.new ≡ swap_rows i j col.old }
 {
-    if col.len() <= i {
-        return;
+    if i < col.len() && j < col.len() {
+        col.swap(i, j);
     }
-    if col.len() <= j {
-        return;
-    }
-    let x = col[i];
-    let y = col[j];
-    col[i] = y;
-    col[j] = x;
 }
 
 // col[k] = col[k] * r for each k from `from` on.

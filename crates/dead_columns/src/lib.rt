@@ -8,17 +8,17 @@ ghost use Rattle.dead_columns.specs.Dead.{zero_count, dead_at, dead_of};
 fn zero_count(x: f64) -> usize
     ensures { (result ≡ zero_count x) × (result ≤ 1) }
 {
-    if numbers::is_zero(x) { 1 } else { 0 }
+    usize::from(numbers::is_zero(x))
 }
 
 // 1 where col, being column number j, is dead, else 0; a column past the last row has no diagonal.
 pub fn dead_at(col: &[f64], j: usize) -> usize
     ensures { (result ≡ dead_at j col.now) × (result ≤ 1) }
 {
-    if col.len() <= j {
-        return 0;
+    match col.get(j) {
+        Some(&x) => zero_count(x),
+        None => 0,
     }
-    zero_count(col[j])
 }
 
 // The dead columns among the first min(m, n) of the m by n matrix s; 0 where s is no such matrix.

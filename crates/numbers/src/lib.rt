@@ -9,8 +9,7 @@ ghost use Rattle.numbers.specs.Numbers.{magnitude, is_zero};
 pub fn is_finite(x: f64) -> bool
     ensures { result ≡ finite x }
 {
-    let d = x - x;
-    d == d
+    x.is_finite()
 }
 
 // Whether x is a zero of either sign.

@@ -14,34 +14,14 @@ ghost use Rattle.panel_file.specs.Reading.{file_tests, file_refusal, stores, rea
 
 use refusals::Refusal;
 
-// A byte as a number.
-fn wide(x: u8) -> u64
-    ensures { (result ≡ x) × (result < 256) }
-{
-    x as u64
-}
-
-// Byte k from a place on.
-fn byte_from(file: &[u8], at: usize, k: usize) -> u64
-    requires { at + k < length file.now }
-    ensures { (result ≡ get_or file.now (at + k) 0) × (result < 256) }
-{
-    wide(file[at + k])
-}
-
 // The 64 bits at a place, least byte first.
 fn bits_at(file: &[u8], at: usize) -> u64
     requires { at + 8 ≤ length file.now }
     ensures { result ≡ bits_at file.now at }
 {
-    let high = byte_from(file, at, 4)
-        + 256
-            * (byte_from(file, at, 5)
-                + 256 * (byte_from(file, at, 6) + 256 * byte_from(file, at, 7)));
-    byte_from(file, at, 0)
-        + 256
-            * (byte_from(file, at, 1)
-                + 256 * (byte_from(file, at, 2) + 256 * (byte_from(file, at, 3) + 256 * high)))
+    let mut bytes = [0u8; 8];
+    bytes.copy_from_slice(&file[at..at + 8]);
+    u64::from_le_bytes(bytes)
 }
 
 // Whether the double with these bits is finite: its exponent is not the greatest one.
@@ -82,18 +62,17 @@ fn is_headed(file: &[u8]) -> bool
     if file.len() < 6 {
         return false;
     }
-    let mark = (file[0] == b'L') & (file[1] == b'X') & (file[2] == b'P');
-    mark & (byte_from(file, 3, 0) + 256 * byte_from(file, 3, 1) == 1)
+    file.starts_with(b"LXP") & (u16::from_le_bytes([file[3], file[4]]) == 1)
 }
 
 // The number of pads that the head tells, 0 where there is none.
 pub fn pads_of(file: &[u8]) -> usize
     ensures { (result ≡ pads_of file.now) × (result < 256) }
 {
-    if file.len() <= 5 {
-        return 0;
+    match file.get(5) {
+        Some(&pads) => usize::from(pads),
+        None => 0,
     }
-    wide(file[5]) as usize
 }
 
 // Refuses what is no panel file, where the stores that are lent besides fit or not. Its numbers are looked at where its length is right.

@@ -10,7 +10,7 @@ ghost use Rattle.store.specs.Steps.{rows_swapped, columns_swapped};
 pub fn min(a: usize, b: usize) -> usize
     ensures { result ≡ min a b }
 {
-    if a < b { a } else { b }
+    a.min(b)
 }
 
 // Whether s holds n columns of m entries each, neither number past 64.
