@@ -172,7 +172,9 @@ fn write_lines(
 fn write_text(text: &[u8], out: &mut [u8]) -> Result<usize, Refusal>
     ensures { TextWritten text.now out.old (written result out.new) }
 {
-    let head = head_of(text).ok_or(Refusal::Size)?;
+    let Some(head) = head_of(text) else {
+        return Err(Refusal::Size);
+    };
     let n = head.pads;
     if refusals::outside(1, n) {
         return Err(Refusal::Size);

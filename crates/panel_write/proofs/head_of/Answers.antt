@@ -1,6 +1,5 @@
 -- Each answer by the tests that led there. Assumes nothing.
-use Rattle.std.proofs.Common.{refl, ap, ◌∙◌, sym, arith}
-use Rattle.panel_write.specs.Text.{two_digits}
+use Rattle.std.proofs.Common.{refl, arith}
 use Rattle.panel_write.proofs.FirstLine.{head_short, head_one, head_two, head_none, two_good, two_no_ones, two_no_tens}
 use Rattle.panel_write.proofs.head_of.Goals as goal
 

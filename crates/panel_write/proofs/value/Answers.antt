@@ -1,5 +1,4 @@
 -- A digit's value is less than 16, and any other byte's is 16 (`value_of`). Assumes nothing.
-use Rattle.std.proofs.Common.{◌∙◌}
 use Rattle.panel_write.proofs.Digits.{digit_most, value_of}
 use Rattle.panel_write.proofs.value.Goals as goal
 
