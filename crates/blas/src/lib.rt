@@ -60,6 +60,7 @@ fn add_block(sums: &mut [f64], x: &[f64], y: &[f64])
     requires { (length sums.old ≤ length x.now) × (length sums.old ≤ length y.now) }
     ensures { sums.new ≡ each_from (add_product x.now y.now) 0 sums.old }
 {
+    // `times_block` of finite differs in this line alone; a function of both, with the line as a closure, would be no plainer.
     for k in 0..sums.len() {
         sums[k] = sums[k] + x[k] * y[k];
     }
@@ -82,6 +83,7 @@ pub fn dot(x: &[f64], y: &[f64]) -> f64
     ensures { result ≡ dot_of x.now y.now }
 {
     if x.len() != y.len() {
+        // The contract's `dot_of` is a NaN here, so this is no Option; 0 / 0 gives its bits.
         let none = 0.0f64;
         return none / none;
     }

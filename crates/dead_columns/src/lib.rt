@@ -26,11 +26,13 @@ pub fn dead_at(col: &[f64], j: usize) -> usize
 pub fn dead_of(s: &[f64], m: usize, n: usize) -> usize
     ensures { result ≡ dead_of s.now m n }
 {
+    // The contract's `dead_of` is 0 here, so this is no Option.
     if !store::is_matrix(s, m, n) {
         return 0;
     }
     let end = store::min(m, n);
     let mut dead = 0;
+    // Other crates walk a diagonal too: what they share is the place a + j, and a function with the step as a closure would be no plainer.
     for j in 0..end {
         let a = j * m;
         let q = a + j;

@@ -28,6 +28,7 @@ fn bits_at(file: &[u8], at: usize) -> u64
 fn is_finite_bits(bits: u64) -> bool
     ensures { result ≡ finite (of_bits binary64 bits) }
 {
+    // `from_bits` asks for bits that are no NaN's, so `is_finite` of a float cannot tell.
     bits % 0x8000_0000_0000_0000 / 0x10_0000_0000_0000 != 2047
 }
 
@@ -36,6 +37,7 @@ fn numbers_finite(file: &[u8], count: usize) -> bool
     requires { 6 + 8 * count ≤ length file.now }
     ensures { result ≡ all_finite (list_of count (number_at file.now)) }
 {
+    // `rest_finite` of finite goes over floats, and these are bytes yet: the two share the `for` and no more.
     for k in 0..count {
         if !is_finite_bits(bits_at(file, 6 + 8 * k)) {
             return false;
@@ -71,6 +73,7 @@ pub fn pads_of(file: &[u8]) -> usize
 {
     match file.get(5) {
         Some(&pads) => usize::from(pads),
+        // The contract's `pads_of` reads 0 past the end, so this is no Option.
         None => 0,
     }
 }
@@ -123,6 +126,7 @@ pub fn read(file: &[u8], matrix: &mut [f64], readings: &mut [f64]) -> Result<usi
     ensures matrix_after { matrix.new ≡ (reading file.now (stores matrix.old readings.old)).left.matrix }
     ensures readings_after { readings.new ≡ (reading file.now (stores matrix.old readings.old)).left.readings }
 {
+    // `read` and `read_sized` stay two: their contracts name `reading` and `reading_sized`, and `read_front` is what they share.
     let fit = (matrix.len() == 4096) & (readings.len() == 64);
     read_front(file, fit, matrix, readings)
 }

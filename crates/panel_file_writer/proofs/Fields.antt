@@ -86,7 +86,7 @@ put_eight at bits was s is small room =
     let long : length (mid_of at (at + 8 - at) was) ≡ at + 8 - at = mid_len at (at + 8) was room in
     let there : s ≡ take (at + 8 - at) (drop at (put_mid at (at + 8 - at) was s)) =
     sym (ap (take (at + 8 - at)) (drop_at (take at was) (s ++ post_of at (at + 8 - at) was) at (length-take-le at was (omega arith)))
-        ∙ take_at s (post_of at (at + 8 - at) was) (at + 8 - at) part) in (
+    ∙ take_at s (post_of at (at + 8 - at) was) (at + 8 - at) part) in (
       (same_len_mid at (at + 8 - at) was s (part ∙ sym long), take_put at (at + 8 - at) was s (omega arith)),
       sym (read_eight s (put_mid at (at + 8 - at) was s) at there (omega arith)) ∙ ap (from_le_bytes w64) is ∙ from_le_bytes-to_le_bytes_8 bits small,
     )

@@ -42,7 +42,7 @@ fn value(byte: u8) -> u64
     digit(byte).unwrap_or(0)
 }
 
-// A decimal digit's value.
+// A decimal digit's value, as in panel_moves: a crate for one match, of two programs, would be no plainer.
 fn decimal(byte: u8) -> Option<usize>
     ensures { SomeIff result (digit_of byte ≤ 9) (digit_of byte) }
 {
@@ -85,6 +85,7 @@ fn four_at(text: &[u8], at: usize) -> u64
     requires { at + 4 ≤ length text.now }
     ensures { (result ≡ four_at text.now at) × (result < 65536) }
 {
+    // `from_str_radix` takes capitals and signs too, and a line has neither.
     4096 * value(text[at])
         + 256 * value(text[at + 1])
         + 16 * value(text[at + 2])
@@ -106,6 +107,7 @@ fn bits_at(text: &[u8], at: usize) -> u64
 fn float_of(bits: u64) -> f64
     ensures { result ≡ of_bits binary64 bits }
 {
+    // `from_bits` asks for no NaN's bits. `float_of` of cases is the same: a crate for two lines, of a program and the replay, would be no plainer.
     if 0x7ff0_0000_0000_0000 < bits % 0x8000_0000_0000_0000 {
         return 0.0 / 0.0;
     }
@@ -184,7 +186,7 @@ fn write_text(text: &[u8], out: &mut [u8]) -> Result<usize, Refusal>
     write_lines(n, &text[head.end..], &mut matrix, &mut readings, out)
 }
 
-// Prints the refusal.
+// Prints the refusal. With no heap the program prints by pieces, and makes no text by `format!`.
 fn refuse(refusal: Refusal) {
     io::write_all(1, b"refused ");
     io::print_decimal(1, usize::from(refusal) as u64);

@@ -22,6 +22,6 @@ pub returns-else-i-col : goal.returns-else-i-col
 unfolding exchanged
 returns-else-i-col c =
     elim c.else-i-col.branch [
-      else-i-col-via-then-i-col+else-j-col w ↦ rw (lt-ltb _ _ w.if-i-col.true, le-ltb _ _ w.if-j-col.false)
-    | else-i-col-via-else-i-col w ↦ rw (le-ltb _ _ w.if-i-col.false)
+      | else-i-col-via-then-i-col+else-j-col w ↦ rw (lt-ltb _ _ w.if-i-col.true, le-ltb _ _ w.if-j-col.false)
+      | else-i-col-via-else-i-col w ↦ rw (le-ltb _ _ w.if-i-col.false)
     ]
