@@ -32,6 +32,7 @@ fn older(s: &[f64], m: usize, n: usize, room: bool) -> usize
     requires { room ≡ is_matrix s.now m (n + 1) }
     ensures { (result ≡ cond room (n * m) 0) × (result ≤ length s.now) }
 {
+    // With no slot the tests of numbers go over the first 0: that is a length, and an Option would have it put in again.
     if room {
         return n * m;
     }

@@ -11,16 +11,9 @@ ghost use Rattle.blas.specs.Dot.{add_product, dot_of};
 pub fn swap(col: &mut [f64], i: usize, j: usize)
     ensures { col.new ≡ swap_rows i j col.old }
 {
-    if col.len() <= i {
-        return;
+    if i < col.len() && j < col.len() {
+        col.swap(i, j);
     }
-    if col.len() <= j {
-        return;
-    }
-    let x = col[i];
-    let y = col[j];
-    col[i] = y;
-    col[j] = x;
 }
 
 // col[k] = col[k] * r for each k from `from` on.
@@ -67,6 +60,7 @@ fn add_block(sums: &mut [f64], x: &[f64], y: &[f64])
     requires { (length sums.old ≤ length x.now) × (length sums.old ≤ length y.now) }
     ensures { sums.new ≡ each_from (add_product x.now y.now) 0 sums.old }
 {
+    // `times_block` of finite differs in this line alone; a function of both, with the line as a closure, would be no plainer.
     for k in 0..sums.len() {
         sums[k] = sums[k] + x[k] * y[k];
     }
@@ -89,6 +83,7 @@ pub fn dot(x: &[f64], y: &[f64]) -> f64
     ensures { result ≡ dot_of x.now y.now }
 {
     if x.len() != y.len() {
+        // The contract's `dot_of` is a NaN here, so this is no Option; 0 / 0 gives its bits.
         let none = 0.0f64;
         return none / none;
     }

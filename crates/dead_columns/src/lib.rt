@@ -8,17 +8,17 @@ ghost use Rattle.dead_columns.specs.Dead.{zero_count, dead_at, dead_of};
 fn zero_count(x: f64) -> usize
     ensures { (result ≡ zero_count x) × (result ≤ 1) }
 {
-    if numbers::is_zero(x) { 1 } else { 0 }
+    usize::from(numbers::is_zero(x))
 }
 
 // 1 where col, being column number j, is dead, else 0; a column past the last row has no diagonal.
 pub fn dead_at(col: &[f64], j: usize) -> usize
     ensures { (result ≡ dead_at j col.now) × (result ≤ 1) }
 {
-    if col.len() <= j {
-        return 0;
+    match col.get(j) {
+        Some(&x) => zero_count(x),
+        None => 0,
     }
-    zero_count(col[j])
 }
 
 // The dead columns among the first min(m, n) of the m by n matrix s; 0 where s is no such matrix.
@@ -26,11 +26,13 @@ pub fn dead_at(col: &[f64], j: usize) -> usize
 pub fn dead_of(s: &[f64], m: usize, n: usize) -> usize
     ensures { result ≡ dead_of s.now m n }
 {
+    // The contract's `dead_of` is 0 here, so this is no Option.
     if !store::is_matrix(s, m, n) {
         return 0;
     }
     let end = store::min(m, n);
     let mut dead = 0;
+    // Other crates walk a diagonal too: what they share is the place a + j, and a function with the step as a closure would be no plainer.
     for j in 0..end {
         let a = j * m;
         let q = a + j;

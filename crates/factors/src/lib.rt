@@ -58,7 +58,7 @@ pub fn test_held(factors: &[f64], swaps: &[usize], told: Record, asks: Asks) -> 
 pub fn count(holds: bool) -> usize
     ensures { result ≡ cond holds 1 0 }
 {
-    if holds { 1 } else { 0 }
+    usize::from(holds)
 }
 
 // Records the swap of the rows i and piv behind the pairs, unless the two are one or the store is full. Answers the number of pairs.

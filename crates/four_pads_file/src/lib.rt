@@ -8,6 +8,7 @@ ghost use Rattle.four_pads_file.specs.FileProfile.{numbers_in, four_pads_in};
 use four_pads::FourPads;
 
 // What is read of a file: a refusal's number, 0 for none, the matrix by column and the readings. A refusal's numbers are zeros.
+// It is no Result, for the contract of `numbers_of` is an equation of all three.
 #[derive(Clone, Copy)]
 pub struct FourNumbers {
     pub number: usize,
@@ -19,6 +20,7 @@ pub struct FourNumbers {
 pub fn by_columns(a: [f64; 16]) -> [[f64; 4]; 4]
     ensures { flat result ≡ a }
 {
+    // std lends an array in chunks (`as_chunks_mut`) and copies none out, so the entries stand by their places.
     [
         [a[0], a[1], a[2], a[3]],
         [a[4], a[5], a[6], a[7]],

@@ -3,16 +3,19 @@
 use mathlib.Core.Path.{◌≡◌, refl, sym, ap, ap₂, ◌∙◌, subst}
 use mathlib.Core.Bool.{Bool, true, false, not, cond, ◌&&◌, false≢true}
 use mathlib.Core.List.{List, [], ◌∷◌}
-use Prim.Native.Nat.{ℕ, zero, suc, ◌+◌, ◌*◌, ◌/◌, ◌%◌, ◌^◌, ◌≤◌, ◌<◌}
+use Prim.Native.Nat.{ℕ, zero, suc, ◌+◌, ◌-◌, ◌*◌, ◌/◌, ◌%◌, ◌^◌, ◌≤◌, ◌<◌}
 use native.Mathlib.Nat.{pow-succ'}
 use native.Mathlib.Omega.{arith}
-use borrow.Author.Tests.{le-leb}
+use borrow.Author.Tests.{le-leb, eqb-true, eqb-false, eq-eqb, ne_eqb}
 use lib.Dec.{T, eqb, leb}
 use lib.ListN.{length, get_or, take, drop}
-use lib.Seq.{get_or-drop}
+use lib.Seq.{get_or-drop, take_all}
+use Rattle.std.specs.List.{starts_with}
+use Rattle.std.specs.Int.{w64, from_le_bytes}
 use lib.Ieee.{Float, nan, inf, fin, binary64, odd, is_nan, of_fields, of_bits, nan_bits}
 use lib.Ieee.Bits.{nan_bits_is}
 use lib.Ieee.Scale.{finite}
+use Rattle.numbers.proofs.Choice.{test_cases}
 use Rattle.numbers.proofs.Walk.{drop_next}
 use Rattle.panel_file.specs.File.{little_endian, field_at, headed, AllBytes}
 
@@ -31,12 +34,6 @@ field_none s at = refl
 pub field_two : (s : List ℕ) → 6 ≤ length s → field_at 2 s 3 ≡ get_or s 3 0 + 256 * get_or s 4 0
 field_two s h =
     omega (arith, field_next 1 s 3 4 (omega arith) refl, field_next 0 s 4 5 (omega arith) refl, field_none s 5)
-
--- the head's test as the code makes it, v being the two bytes of the version
-pub headed_by : (s : List ℕ) (v : ℕ) → 6 ≤ length s → v ≡ get_or s 3 0 + 256 * get_or s 4 0
-    → (eqb (get_or s 0 0) 76 && eqb (get_or s 1 0) 88 && eqb (get_or s 2 0) 80 && eqb v 1) ≡ headed s
-unfolding headed
-headed_by s v h e = rw (le-leb 6 (length s) h, field_two s h, e)
 
 pub field_eight : (s : List ℕ) (at b0 b1 b2 b3 b4 b5 b6 b7 : ℕ) → at + 8 ≤ length s
     → b0 ≡ get_or s (at + 0) 0 → b1 ≡ get_or s (at + 1) 0 → b2 ≡ get_or s (at + 2) 0 → b3 ≡ get_or s (at + 3) 0
@@ -57,6 +54,37 @@ field_eight s at b0 b1 b2 b3 b4 b5 b6 b7 h e0 e1 e2 e3 e4 e5 e6 e7 =
       field_next 0 s (at + 7) (at + 8) (omega arith) (omega arith),
       field_none s (at + 8),
     )
+
+-- the head's test as the code makes it, v being the two bytes of the version
+eqb_flip : (a b : ℕ) → eqb a b ≡ eqb b a
+eqb_flip a b =
+    test_cases (eqb a b) (λ t. let e = eqb-true a b t in rw (e, eq-eqb b b refl) refl)
+    (λ t. t ∙ sym (ne_eqb b a (λ e. eqb-false a b t (sym e))))
+
+regrouped : (x y z w : Bool) → (x && (y && (z && true))) && w ≡ (x && y && z && w)
+regrouped true true true w = refl
+regrouped true true false w = refl
+regrouped true false z w = refl
+regrouped false y z w = refl
+
+pub headed_by : (s : List ℕ) (v : ℕ) → 6 ≤ length s → v ≡ get_or s 3 0 + get_or s 4 0 * 256
+    → (starts_with eqb s (76 ∷ 88 ∷ 80 ∷ []) && eqb v 1) ≡ headed s
+unfolding headed
+headed_by [] v h e = absurd (omega arith)
+headed_by (a ∷ []) v h e = absurd (omega arith)
+headed_by (a ∷ b ∷ []) v h e = absurd (omega arith)
+headed_by (a ∷ b ∷ c ∷ s) v h e =
+    let version : field_at 2 (a ∷ b ∷ c ∷ s) 3 ≡ v = omega (arith, field_two (a ∷ b ∷ c ∷ s) h) in
+    rw (le-leb 6 (length (a ∷ b ∷ c ∷ s)) h, version, eqb_flip a 76, eqb_flip b 88, eqb_flip c 80) (regrouped (eqb 76 a) (eqb 88 b) (eqb 80 c) (eqb v 1))
+
+-- eight bytes as the machine's little-endian number
+pub read_eight : (b s : List ℕ) (at : ℕ) → b ≡ take (at + 8 - at) (drop at s) → length b ≡ 8 → from_le_bytes w64 b ≡ field_at 8 s at
+unfolding field_at
+read_eight b s at e l =
+    let eight : at + 8 - at ≡ 8 = omega arith in
+    let here : field_at 8 b 0 ≡ field_at 8 s at =
+    ap little_endian (take_all 8 b (omega arith) ∙ e ∙ ap (λ (k : ℕ). take k (drop at s)) eight) in
+    omega (arith, here, field_eight b 0 _ _ _ _ _ _ _ _ (omega arith) refl refl refl refl refl refl refl refl)
 
 -- ---- bytes and the number that they stand for
 each_take : (w : ℕ) (l : List ℕ) → AllBytes l → AllBytes (take w l)

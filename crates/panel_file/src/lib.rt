@@ -14,40 +14,21 @@ ghost use Rattle.panel_file.specs.Reading.{file_tests, file_refusal, stores, rea
 
 use refusals::Refusal;
 
-// A byte as a number.
-fn wide(x: u8) -> u64
-    ensures { (result ≡ x) × (result < 256) }
-{
-    x as u64
-}
-
-// Byte k from a place on.
-fn byte_from(file: &[u8], at: usize, k: usize) -> u64
-    requires { at + k < length file.now }
-    ensures { (result ≡ get_or file.now (at + k) 0) × (result < 256) }
-{
-    wide(file[at + k])
-}
-
 // The 64 bits at a place, least byte first.
 fn bits_at(file: &[u8], at: usize) -> u64
     requires { at + 8 ≤ length file.now }
     ensures { result ≡ bits_at file.now at }
 {
-    let high = byte_from(file, at, 4)
-        + 256
-            * (byte_from(file, at, 5)
-                + 256 * (byte_from(file, at, 6) + 256 * byte_from(file, at, 7)));
-    byte_from(file, at, 0)
-        + 256
-            * (byte_from(file, at, 1)
-                + 256 * (byte_from(file, at, 2) + 256 * (byte_from(file, at, 3) + 256 * high)))
+    let mut bytes = [0u8; 8];
+    bytes.copy_from_slice(&file[at..at + 8]);
+    u64::from_le_bytes(bytes)
 }
 
 // Whether the double with these bits is finite: its exponent is not the greatest one.
 fn is_finite_bits(bits: u64) -> bool
     ensures { result ≡ finite (of_bits binary64 bits) }
 {
+    // `from_bits` asks for bits that are no NaN's, so `is_finite` of a float cannot tell.
     bits % 0x8000_0000_0000_0000 / 0x10_0000_0000_0000 != 2047
 }
 
@@ -56,6 +37,7 @@ fn numbers_finite(file: &[u8], count: usize) -> bool
     requires { 6 + 8 * count ≤ length file.now }
     ensures { result ≡ all_finite (list_of count (number_at file.now)) }
 {
+    // `rest_finite` of finite goes over floats, and these are bytes yet: the two share the `for` and no more.
     for k in 0..count {
         if !is_finite_bits(bits_at(file, 6 + 8 * k)) {
             return false;
@@ -82,18 +64,18 @@ fn is_headed(file: &[u8]) -> bool
     if file.len() < 6 {
         return false;
     }
-    let mark = (file[0] == b'L') & (file[1] == b'X') & (file[2] == b'P');
-    mark & (byte_from(file, 3, 0) + 256 * byte_from(file, 3, 1) == 1)
+    file.starts_with(b"LXP") & (u16::from_le_bytes([file[3], file[4]]) == 1)
 }
 
 // The number of pads that the head tells, 0 where there is none.
 pub fn pads_of(file: &[u8]) -> usize
     ensures { (result ≡ pads_of file.now) × (result < 256) }
 {
-    if file.len() <= 5 {
-        return 0;
+    match file.get(5) {
+        Some(&pads) => usize::from(pads),
+        // The contract's `pads_of` reads 0 past the end, so this is no Option.
+        None => 0,
     }
-    wide(file[5]) as usize
 }
 
 // Refuses what is no panel file, where the stores that are lent besides fit or not. Its numbers are looked at where its length is right.
@@ -144,6 +126,7 @@ pub fn read(file: &[u8], matrix: &mut [f64], readings: &mut [f64]) -> Result<usi
     ensures matrix_after { matrix.new ≡ (reading file.now (stores matrix.old readings.old)).left.matrix }
     ensures readings_after { readings.new ≡ (reading file.now (stores matrix.old readings.old)).left.readings }
 {
+    // `read` and `read_sized` stay two: their contracts name `reading` and `reading_sized`, and `read_front` is what they share.
     let fit = (matrix.len() == 4096) & (readings.len() == 64);
     read_front(file, fit, matrix, readings)
 }

@@ -11,7 +11,7 @@ use borrow.Rule.Slice.PartMut.{put_mid, mid_of, post_of, mid_len, same_len_mid, 
 use borrow.Author.Tests.{le-leb, ltb-true, ltb-false}
 use lib.Dec.{T, ltb}
 use lib.ListN.{length, get_or, take, drop, set, length-set}
-use lib.Seq.{length-take-le, take-take, take-add, take-set-le, drop_at, ext_get_or, get_or-take, get_or-set_same}
+use lib.Seq.{length-take-le, take-take, take-add, take_at, take-set-le, drop_at, ext_get_or, get_or-take, get_or-set_same}
 use lib.Ieee.{nan, binary64, fits, of_bits, to_bits}
 use lib.Ieee.Bits.{of_bits-to_bits}
 use Rattle.std.proofs.lemmas.List.{take-append-le}
@@ -21,7 +21,9 @@ use Rattle.numbers.proofs.Each.{length_list, list_at}
 use Rattle.numbers.proofs.Choice.{test_cases}
 use Rattle.panel_file.specs.File.{little_endian, field_at, bits_at, headed, pads_of, file_length, number_at, matrix_of, AllBytes, IsFile}
 use Rattle.panel_file_writer.specs.Inner.{KeepsBefore}
-use Rattle.panel_file.proofs.Bits.{field_next, field_none}
+use Rattle.panel_file.proofs.Bits.{field_next, field_none, read_eight}
+use Rattle.std.specs.Int.{w64, from_le_bytes, to_le_bytes}
+use Rattle.std.proofs.lemmas.Nat.{from_le_bytes-to_le_bytes_8}
 
 -- ---- a field and the byte behind it
 pub field_last : (k : ℕ) (s : List ℕ) (at : ℕ) → at + k < length s → field_at (suc k) s at ≡ field_at k s at + 256 ^ k * get_or s (at + k) 0
@@ -75,45 +77,18 @@ front_head s t a b e =
 front_pads : (s t : List ℕ) → take 6 s ≡ take 6 t → get_or s 5 0 ≡ get_or t 5 0
 front_pads s t e = front_byte s t 5 6 (omega arith) e
 
--- ---- the loop that writes a field: at byte k the part's field so far, and what is left of the bits by its weight, are the bits
-pub record Putting (bits : ℕ) (s : List ℕ) (rest k : ℕ) : Type 0 where
-  pub size : length s ≡ 8
-  pub place : k ≤ 8
-  pub sum : field_at k s 0 + 256 ^ k * rest ≡ bits
-
-pub put_begin : (bits : ℕ) (s : List ℕ) → length s ≡ 8 → Putting bits s bits 0
-put_begin bits s size = record { size = size; place = omega arith; sum = omega (arith, field_none s 0) }
-
-pub put_turn : (bits : ℕ) (s : List ℕ) (rest k : ℕ) → Putting bits s rest k → k < 8 → Putting bits (set s k (rest % 256)) (rest / 256) (k + 1)
-put_turn bits s rest k p h =
-    let b = rest % 256 in
-    let q = rest / 256 in
-    let w = 256 ^ k in
-    let t = set s k b in
-    let there : k < length s = omega (arith, p.size) in
-    let lt : length t ≡ length s = length-set s k b in
-    let kept : field_at k t 0 ≡ field_at k s 0 = front_field k t s 0 k (omega arith) (omega arith) (omega arith) (take-set-le k s k b (omega arith)) in
-    let last : field_at (suc k) t 0 ≡ field_at k t 0 + w * get_or t (0 + k) 0 = field_last k t 0 (omega arith) in
-    let byte : w * get_or t (0 + k) 0 ≡ w * b = ap (λ (x : ℕ). w * x) (rw zero-add (get_or-set_same s k b 0 there)) in
-    let weight : 256 ^ suc k * q ≡ 256 * (w * q) = ap (λ (x : ℕ). x * q) (pow-succ' 256 k) ∙ mul_assoc 256 w q in
-    let whole : rest ≡ b + 256 * q = omega arith in
-    let split : w * rest ≡ w * b + 256 * (w * q) = ap (λ (x : ℕ). w * x) whole ∙ mul-add w b (256 * q) ∙ ap (λ (x : ℕ). w * b + x) (mul_left_comm w 256 q) in
-    let next : field_at (suc k) t 0 + 256 ^ suc k * q ≡ bits = omega (arith, p.sum) in
-    record { size = lt ∙ p.size; place = omega arith; sum = ap (λ (i : ℕ). field_at i t 0 + 256 ^ i * q) (add-one k) ∙ next }
-
--- all eight bytes hold 64 bits, and stand where the part did
-pub put_end : (at bits : ℕ) (was s : List ℕ) (rest k : ℕ) → Putting bits s rest k → 8 ≤ k → bits < 256 ^ 8 → at + 8 ≤ length was
+-- ---- eight bytes written at a place are the field there, and what stands before stays
+pub put_eight : (at bits : ℕ) (was s : List ℕ) → s ≡ to_le_bytes w64 bits → bits < 2 ^ 64 → at + 8 ≤ length was
     → KeepsBefore at was (put_mid at (at + 8 - at) was s) × (bits_at (put_mid at (at + 8 - at) was s) at ≡ bits)
-unfolding field_at
-put_end at bits was s rest k p h small room =
-    let eight : k ≡ 8 = omega (arith, p.place) in
-    let sum : field_at 8 s 0 + 256 ^ 8 * rest ≡ bits = rw eight at p.sum in
-    let own : field_at 8 s 0 ≡ bits = omega arith in
-    let part : length s ≡ at + 8 - at = omega (arith, p.size) in
-    let long : length (mid_of at (at + 8 - at) was) ≡ at + 8 - at = mid_len at (at + 8) was room in (
+put_eight at bits was s is small room =
+    let size : length s ≡ 8 = ap length is in
+    let part : length s ≡ at + 8 - at = omega arith in
+    let long : length (mid_of at (at + 8 - at) was) ≡ at + 8 - at = mid_len at (at + 8) was room in
+    let there : s ≡ take (at + 8 - at) (drop at (put_mid at (at + 8 - at) was s)) =
+    sym (ap (take (at + 8 - at)) (drop_at (take at was) (s ++ post_of at (at + 8 - at) was) at (length-take-le at was (omega arith)))
+    ∙ take_at s (post_of at (at + 8 - at) was) (at + 8 - at) part) in (
       (same_len_mid at (at + 8 - at) was s (part ∙ sym long), take_put at (at + 8 - at) was s (omega arith)),
-      ap little_endian (ap (take 8) (drop_at (take at was) (s ++ post_of at (at + 8 - at) was) at (length-take-le at was (omega arith)))
-          ∙ take-append-le 8 s (post_of at (at + 8 - at) was) (omega (arith, p.size))) ∙ own,
+      sym (read_eight s (put_mid at (at + 8 - at) was s) at there (omega arith)) ∙ ap (from_le_bytes w64) is ∙ from_le_bytes-to_le_bytes_8 bits small,
     )
 
 -- ---- the head's six bytes, one after the other

@@ -17,11 +17,7 @@ fn put_bits(file: &mut [u8], at: usize, bits: u64)
     requires { at + 8 ≤ length file.old }
     ensures { KeepsBefore at file.old file.new × (bits_at file.new at ≡ bits) }
 {
-    let mut rest = bits;
-    for byte in &mut file[at..at + 8] {
-        *byte = (rest % 256) as u8;
-        rest = rest / 256;
-    }
+    file[at..at + 8].copy_from_slice(&bits.to_le_bytes());
 }
 
 // Writes the numbers as those of the file from number `from` on. What stands before them stays.

@@ -4,53 +4,35 @@
 
 use std::env::Env;
 
-// A decimal digit's value, 10 for any other byte.
-fn digit(byte: u8) -> usize {
-    if byte < b'0' {
-        return 10;
-    }
-    if byte > b'9' {
-        return 10;
-    }
-    (byte - b'0') as usize
+// A decimal digit's value.
+fn digit(byte: u8) -> Option<usize> {
+    let value = char::from(byte).to_digit(10)?;
+    Some(value as usize)
 }
 
-// The number of two digits; 0, which no pad has, where one of them is none.
-fn two_digits(tens: usize, ones: usize) -> usize {
-    if tens > 9 {
-        return 0;
+// The number that a word of one or two digits stands for.
+fn pad_of(word: &[u8]) -> Option<usize> {
+    match word {
+        [ones] => digit(*ones),
+        [tens, ones] => Some(10 * digit(*tens)? + digit(*ones)?),
+        _ => None,
     }
-    if ones > 9 {
-        return 0;
-    }
-    10 * tens + ones
 }
 
-// The number that a word of one or two digits stands for; 0 for any other word.
-fn pad_of(word: &[u8]) -> usize {
-    if word.len() == 1 {
-        return two_digits(0, digit(word[0]));
-    }
-    if word.len() == 2 {
-        return two_digits(digit(word[0]), digit(word[1]));
-    }
-    0
-}
-
-// The pad of the first argument; 0 where it is missing or longer than a word.
-fn pad_asked(rt: HostRuntime) -> usize {
+// The pad of the first argument. One that is longer than a word is none.
+fn pad_asked(rt: HostRuntime) -> Option<usize> {
     let mut word = [0u8; 16];
-    match rt.arg(1, &mut word) {
-        Ok(n) => pad_of(&word[..n]),
-        Err(_) => 0,
-    }
+    let length = rt.arg(1, &mut word).ok()?;
+    pad_of(&word[..length])
 }
 
 fn main(rt: HostRuntime) {
-    let pad = pad_asked(rt);
+    // No pad has the number 0.
+    let pad = pad_asked(rt).unwrap_or(0);
     let mut file = [0u8; 33287];
     let held = io::read_full(0, &mut file);
     let mut out = [0u8; 1288];
+    // The programs differ in this call; one function that takes it as a closure, with the closure's contract, would be no plainer.
     let count = panel_text::moves_text(&file[..held], pad, &mut out);
     io::write_all(1, &out[..count]);
 }

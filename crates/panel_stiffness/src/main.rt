@@ -6,6 +6,7 @@ fn main() {
     let mut file = [0u8; 33287];
     let held = io::read_full(0, &mut file);
     let mut out = [0u8; 1288];
+    // The programs differ in this call; one function that takes it as a closure, with the closure's contract, would be no plainer.
     let count = panel_text::stiffness_text(&file[..held], &mut out);
     io::write_all(1, &out[..count]);
 }

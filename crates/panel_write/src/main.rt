@@ -2,11 +2,12 @@
 // column by column, and of the readings, with the 16 small hex digits of its bits. The bytes are those of `panel_file_writer::write`.
 #![tactic(auto)]
 
-ghost use Rattle.std.specs.Prelude.{◌≡◌, true, ◌+◌, ◌*◌, ◌<◌, ◌≤◌, length};
+ghost use Rattle.std.specs.Prelude.{◌≡◌, true, ◌+◌, ◌*◌, ◌%◌, ◌<◌, ◌≤◌, length};
+ghost use Rattle.std.specs.Option.{SomeIff, MatchOption};
 ghost use Rattle.std.specs.Float.{binary64};
 ghost use Rattle.std.specs.Float.Ieee.{of_bits};
 ghost use Rattle.panel_file_writer.specs.Writing.{written};
-ghost use Rattle.panel_write.specs.Text.{digit_of, four_at, bits_at, LineAt, AreLines, numbers_in, LinesWritten, two_digits, head_in, TextWritten};
+ghost use Rattle.panel_write.specs.Text.{digit_of, four_at, bits_at, LineAt, AreLines, numbers_in, LinesWritten, head_in, TextWritten};
 
 use refusals::Refusal;
 
@@ -16,59 +17,58 @@ const TEXT: usize = 70724;
 // The most bytes of a file.
 const FILE: usize = 33286;
 
-// What the first line tells: the number of pads, 0 for none, and the place behind the line.
+// What the first line tells: the number of pads, and the place behind the line.
 #[derive(Clone, Copy)]
 struct Head {
     pads: usize,
     end: usize,
 }
 
-// A hex digit's value, 16 for any other byte.
-fn digit(byte: u8) -> u64
-    ensures { (result ≡ digit_of byte) × (result ≤ 16) }
+// A hex digit's value. `to_digit` would take capitals too.
+fn digit(byte: u8) -> Option<u64>
+    ensures { SomeIff result (digit_of byte < 16) (digit_of byte) }
 {
     match byte {
-        0..=47 => 16,
-        b'0'..=b'9' => (byte - b'0') as u64,
-        58..=96 => 16,
-        b'a'..=b'f' => (byte - b'a') as u64 + 10,
-        _ => 16,
+        b'0'..=b'9' => Some((byte - b'0') as u64),
+        b'a'..=b'f' => Some((byte - b'a') as u64 + 10),
+        _ => None,
     }
 }
 
-// The number of two decimal digits, 0 where one of them is none.
-fn two_digits(tens: u64, ones: u64) -> usize
-    ensures { result ≡ two_digits tens ones }
+// A hex digit's value where the line is known to hold one.
+fn value(byte: u8) -> u64
+    ensures { (result ≡ digit_of byte % 16) × (result < 16) }
 {
-    if tens > 9 {
-        return 0;
+    digit(byte).unwrap_or(0)
+}
+
+// A decimal digit's value, as in panel_moves: a crate for one match, of two programs, would be no plainer.
+fn decimal(byte: u8) -> Option<usize>
+    ensures { SomeIff result (digit_of byte ≤ 9) (digit_of byte) }
+{
+    match byte {
+        b'0'..=b'9' => Some((byte - b'0') as usize),
+        _ => None,
     }
-    if ones > 9 {
-        return 0;
-    }
-    (10 * tens + ones) as usize
 }
 
 // Reads the first line: one or two digits.
-fn head_of(text: &[u8]) -> Head
-    ensures { (result.pads ≡ (head_in text.now).0) × (result.end ≡ (head_in text.now).1) × (result.end ≤ length text.now) }
+fn head_of(text: &[u8]) -> Option<Head>
+    ensures { MatchOption result ((head_in text.now).0 ≡ 0)
+        (λ head. (head.pads ≡ (head_in text.now).0) × (head.end ≡ (head_in text.now).1) × (head.end ≤ length text.now)) }
 {
     if text.len() < 3 {
-        return Head { pads: 0, end: 0 };
+        return None;
     }
     if text[1] == b'\n' {
-        return Head {
-            pads: two_digits(0, digit(text[0])),
-            end: 2,
-        };
+        let pads = decimal(text[0])?;
+        return Some(Head { pads, end: 2 });
     }
     if text[2] == b'\n' {
-        return Head {
-            pads: two_digits(digit(text[0]), digit(text[1])),
-            end: 3,
-        };
+        let pads = 10 * decimal(text[0])? + decimal(text[1])?;
+        return Some(Head { pads, end: 3 });
     }
-    Head { pads: 0, end: 0 }
+    None
 }
 
 // Whether the 17 bytes at a place are 16 hex digits and a newline.
@@ -76,7 +76,7 @@ fn is_line(text: &[u8], at: usize) -> bool
     requires { at + 17 ≤ length text.now }
     ensures { (result ≡ true → LineAt text.now at) × (LineAt text.now at → result ≡ true) }
 {
-    let digits = text[at..at + 16].iter().all(|&byte| digit(byte) < 16);
+    let digits = text[at..at + 16].iter().all(|&byte| digit(byte).is_some());
     digits & (text[at + 16] == b'\n')
 }
 
@@ -85,10 +85,11 @@ fn four_at(text: &[u8], at: usize) -> u64
     requires { at + 4 ≤ length text.now }
     ensures { (result ≡ four_at text.now at) × (result < 65536) }
 {
-    4096 * (digit(text[at]) % 16)
-        + 256 * (digit(text[at + 1]) % 16)
-        + 16 * (digit(text[at + 2]) % 16)
-        + digit(text[at + 3]) % 16
+    // `from_str_radix` takes capitals and signs too, and a line has neither.
+    4096 * value(text[at])
+        + 256 * value(text[at + 1])
+        + 16 * value(text[at + 2])
+        + value(text[at + 3])
 }
 
 // The bits that the 16 digits at a place stand for.
@@ -106,6 +107,7 @@ fn bits_at(text: &[u8], at: usize) -> u64
 fn float_of(bits: u64) -> f64
     ensures { result ≡ of_bits binary64 bits }
 {
+    // `from_bits` asks for no NaN's bits. `float_of` of cases is the same: a crate for two lines, of a program and the replay, would be no plainer.
     if 0x7ff0_0000_0000_0000 < bits % 0x8000_0000_0000_0000 {
         return 0.0 / 0.0;
     }
@@ -172,18 +174,19 @@ fn write_lines(
 fn write_text(text: &[u8], out: &mut [u8]) -> Result<usize, Refusal>
     ensures { TextWritten text.now out.old (written result out.new) }
 {
-    let head = head_of(text);
+    let Some(head) = head_of(text) else {
+        return Err(Refusal::Size);
+    };
     let n = head.pads;
-    let end = head.end;
     if refusals::outside(1, n) {
         return Err(Refusal::Size);
     }
     let mut matrix = [0.0f64; 4096];
     let mut readings = [0.0f64; 64];
-    write_lines(n, &text[end..], &mut matrix, &mut readings, out)
+    write_lines(n, &text[head.end..], &mut matrix, &mut readings, out)
 }
 
-// Prints the refusal.
+// Prints the refusal. With no heap the program prints by pieces, and makes no text by `format!`.
 fn refuse(refusal: Refusal) {
     io::write_all(1, b"refused ");
     io::print_decimal(1, usize::from(refusal) as u64);

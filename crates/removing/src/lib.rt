@@ -14,16 +14,6 @@ ghost use Rattle.removing.specs.Inner.{RemovableIf, Ready, RemovedFrom};
 use factors::{Asks, Record};
 use refusals::Refusal;
 
-// The number of the last of n columns; 0 where there is none.
-fn last_of(n: usize) -> usize
-    ensures { result ≡ n - 1 }
-{
-    if n == 0 {
-        return 0;
-    }
-    n - 1
-}
-
 // Whether the last pair begins with the number of the last column.
 fn undoes_swap(swaps: &[usize], pairs: usize, last: usize) -> bool
     requires { 2 * pairs ≤ length swaps.now }
@@ -54,7 +44,7 @@ fn is_good_to_remove(swaps: &[usize], told: Record) -> bool
     let n = told.columns;
     let pairs = told.pairs;
     if swap_list::is_good_list(swaps, pairs, m, store::min(m, n)) {
-        return is_removable(swaps, pairs, m, last_of(n));
+        return is_removable(swaps, pairs, m, n.saturating_sub(1));
     }
     false
 }

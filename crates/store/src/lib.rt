@@ -10,7 +10,7 @@ ghost use Rattle.store.specs.Steps.{rows_swapped, columns_swapped};
 pub fn min(a: usize, b: usize) -> usize
     ensures { result ≡ min a b }
 {
-    if a < b { a } else { b }
+    a.min(b)
 }
 
 // Whether s holds n columns of m entries each, neither number past 64.
@@ -58,6 +58,7 @@ fn swap_columns_by(
     requires i_lt_n { (i < n) × (j < n) × (i * m + m ≤ length s.old) × (j * m + m ≤ length s.old) }
     ensures { columns m n s.new ≡ columns_swapped i j (columns m n s.old) }
 {
+    // `split_at_mut` and `swap_with_slice` ask for two columns in order and not one: two tests more, so no plainer than four copies.
     let a = i * m;
     let b = a + m;
     let c = j * m;

@@ -1,8 +1,7 @@
 -- A column that ends before the row has no diagonal. Assumes nothing.
-use mathlib.Core.Path.{sym}
-use native.Mathlib.Omega.{arith}
+use Rattle.std.proofs.Common.{sym, arith}
 use Rattle.dead_columns.proofs.Dead.{past_last}
 use Rattle.dead_columns.proofs.dead_at.Goals as goal
 
-pub returns-then-col-j : goal.returns-then-col-j
-returns-then-col-j c = (sym (past_last _ c.args.col.now c.if-col-j.true), omega arith)
+pub returns-in-None : goal.returns-in-None
+returns-in-None c = (sym (past_last _ c.args.col.now c.in-None.ensures.lookup.3), omega arith)

@@ -1,13 +1,13 @@
--- By the test. Assumes nothing.
-use mathlib.Core.Path.{sym, ◌∙◌}
-use native.Mathlib.Omega.{arith}
+-- By the test and its number. Assumes nothing.
+use Rattle.std.proofs.Common.{◌≡◌, ◌≤◌, Bool, true, false, cond, refl, arith}
+use Rattle.std.specs.Int.{from_bool}
 use Rattle.dead_columns.specs.Dead.{zero_count}
 use Rattle.dead_columns.proofs.zero_count.Goals as goal
 
-pub returns-then-is_zero : goal.returns-then-is_zero
-unfolding zero_count
-returns-then-is_zero c = (rw (sym c.is_zero.ensures ∙ c.if-is_zero.true), omega arith)
+as_number : (b : Bool) → (from_bool b ≡ cond b 1 0) × (from_bool b ≤ 1)
+as_number true = (refl, omega arith)
+as_number false = (refl, omega arith)
 
-pub returns-else-is_zero : goal.returns-else-is_zero
+pub returns : goal.returns
 unfolding zero_count
-returns-else-is_zero c = (rw (sym c.is_zero.ensures ∙ c.if-is_zero.false), omega arith)
+returns c = rw (c.from.ensures, c.is_zero.ensures) (as_number _)

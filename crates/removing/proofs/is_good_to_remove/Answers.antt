@@ -27,7 +27,7 @@ returns-then-is_good_list c =
     let g = c.args in
     record {
       good = λ _. c.is_removable.ensures
-          ∙ ap (λ (k : ℕ). good_undoing g.told.rows k (pairs_of g.told.pairs g.swaps.now)) c.last_of.ensures;
+          ∙ ap (λ (k : ℕ). good_undoing g.told.rows k (pairs_of g.told.pairs g.swaps.now)) c.saturating_sub.ensures;
     }
 
 pub returns : goal.returns

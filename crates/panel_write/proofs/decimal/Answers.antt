@@ -1,0 +1,13 @@
+-- Each arm by the limits that led there. Assumes nothing.
+use native.Mathlib.Omega.{arith}
+use Rattle.panel_write.proofs.Digits.{digit_before, digit_figure, digit_high}
+use Rattle.panel_write.proofs.decimal.Goals as goal
+
+pub returns-in-48-to-57 : goal.returns-in-48-to-57
+returns-in-48-to-57 c = let e = digit_figure c.args.byte (omega arith) (omega arith) in (omega (arith, e), e)
+
+pub returns-in_default : goal.returns-in_default
+returns-in_default c = λ h. omega (arith, digit_before c.args.byte (omega arith))
+
+pub returns-in_default-2 : goal.returns-in_default-2
+returns-in_default-2 c = λ h. omega (arith, digit_high c.args.byte (omega arith))
