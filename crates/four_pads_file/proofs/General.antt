@@ -14,7 +14,7 @@ use Rattle.finite.specs.Finite.{all_finite}
 use Rattle.finite.proofs.Finite.{finite_append}
 use Rattle.store.specs.Columns.{columns, flat}
 use Rattle.store.proofs.Columns.{is_matrix_lem}
-use Rattle.refusals.specs.Outcome.{done, refused, number_of, first_holding, tested, and_then, Call, leaving, outcome}
+use Rattle.refusals.specs.Outcome.{Outcome, done, refused, number_of, first_holding, tested, and_then, Call, leaving}
 use Rattle.refusals.proofs.Outcomes.{Numbered, first_none, none_first, tested_none, tested_some, tested_cases, then_then}
 use Rattle.refusals.proofs.Cases.{first_behind}
 use Rattle.factors.specs.Factors.{Factors, store_of, record_for}
@@ -22,7 +22,6 @@ use Rattle.elimination.specs.Elimination.{eliminate}
 use Rattle.lu.specs.Factoring.{settled, factoring}
 use Rattle.lu.proofs.Told.{passes, worked}
 use Rattle.from_factors.specs.Solving.{solving}
-use Rattle.panel_file.specs.declared.Panel.{Panel}
 use Rattle.panel_file.specs.File.{pads_of, matrix_of, readings_of}
 use Rattle.panel_file.specs.Reading.{file_tests, file_refusal, Stores, stores, filled, sized_refusal, reading_sized}
 use Rattle.panel_file.proofs.Reading.{file_whole}
@@ -163,9 +162,9 @@ module _ (bytes : List ℕ) where
         ∙ loaded_as (ap (λ (r : FourNumbers). r.number) (sym is) ∙ none)
 
 -- what the reader answers and leaves, as the code has it
-pub read_numbers : (bytes : List ℕ) (answer : Panel) (matrix readings : Column) → outcome answer ≡ (reading_sized bytes 4 lent).answer
-    → stores matrix readings ≡ (reading_sized bytes 4 lent).left → (number : ℕ) → number ≡ number_of (outcome answer)
+pub read_numbers : (bytes : List ℕ) (o : Outcome ℕ) (matrix readings : Column) → o ≡ (reading_sized bytes 4 lent).answer
+    → stores matrix readings ≡ (reading_sized bytes 4 lent).left → (number : ℕ) → number ≡ number_of o
     → ◌≡◌ {A = FourNumbers} (record { number = number; matrix = matrix; readings = readings }) (numbers_in bytes)
 unfolding numbers_in
-read_numbers bytes answer matrix readings told left number is =
+read_numbers bytes o matrix readings told left number is =
     λ i. record { number = (is ∙ ap number_of told) i; matrix = (left i).matrix; readings = (left i).readings }

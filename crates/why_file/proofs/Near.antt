@@ -14,6 +14,7 @@ use Rattle.numbers.specs.Column.{Column, zeros}
 use Rattle.numbers.proofs.Choice.{test_cases, cond_cases}
 use Rattle.store.specs.Columns.{columns}
 use Rattle.store.proofs.Columns.{is_matrix_lem}
+use Rattle.std.proofs.Common.{Option as Maybe, Some, None}
 use Rattle.refusals.specs.Outcome.{Outcome, done, refused, number_of, tested, and_then}
 use Rattle.refusals.proofs.Outcomes.{tested_none, tested_some}
 use Rattle.refusals.proofs.Cases.{tested_done, tested_refused}
@@ -21,6 +22,7 @@ use Rattle.elimination.specs.Reason.{Place}
 use Rattle.lu.specs.Factoring.{factoring_refusal, factoring}
 use Rattle.lu.proofs.Told.{passes}
 use Rattle.lu.proofs.Shape.{settled_number}
+use Rattle.from_factors.specs.Solving.{solving}
 use Rattle.panel_file.specs.File.{pads_of, matrix_of, readings_of}
 use Rattle.panel_file.specs.Reading.{file_refusal}
 use Rattle.crossing.specs.Below.{Packed, factors_of, solution_by}
@@ -35,7 +37,7 @@ use Rattle.why.specs.Why.{Told, told_number, overflowed, explain_factoring, expl
 use Rattle.why.proofs.Factoring.{place_within, same_number as factoring-number}
 use Rattle.why.proofs.SolvingCall.{spot_within, column_within, same_number as solving-number}
 use Rattle.why_file.specs.declared.WhyFile.{WhyFile}
-use Rattle.why_file.specs.declared.WhyFile.TheVariants.{NoReason, Refused, Factoring, Singular, Solving}
+use Rattle.why_file.specs.declared.WhyFile.TheVariants.{Refused, Factoring, Singular, Solving}
 use Rattle.why_file.specs.Explaining.{Stage, in_factoring, in_solving, told_in, explain_factors, explain_loads, explained_by, explain_file, told_file}
 use Rattle.why_file.specs.Placed.{Placed}
 
@@ -174,7 +176,8 @@ module _ (bytes : List ℕ) where
   same_number =
       by_outcome (λ t o. t.number ≡ number_of o) factors_number
       (λ f e.
-      solving-number f.told f.factors f.swaps 1 b (zeros f.told.rows) ∙ sym (number_then _ _))
+      let x = solving f.factors f.swaps f.told b 1 (zeros f.told.rows) in
+      solving-number f.told f.factors f.swaps 1 b (zeros f.told.rows) ∙ sym (number_then x.answer (λ _. x.left)))
 
   near_file : Near (explain_file bytes)
   unfolding factors_in
@@ -194,10 +197,10 @@ module _ (bytes : List ℕ) where
       cases (done x) e = omega arith
       cases (refused k) e = loads_few bytes k e
 
-  pub placed : (why : WhyFile) → told_file why ≡ explain_file bytes → Placed why
+  pub placed : (why : Maybe WhyFile) → told_file why ≡ explain_file bytes → Placed why
   unfolding told_file Placed
-  placed NoReason e = tt
-  placed (Refused number) e = rw (sym (ap (λ (t : Told Stage). t.number) e)) at number_few
-  placed (Factoring i j r) e = near_file.factoring _ (sym (ap (λ (t : Told Stage). t.place) e))
-  placed (Singular j) e = near_file.column j (sym (ap (λ (t : Told Stage). t.column) e))
-  placed (Solving pass j r) e = near_file.solving _ (sym (ap (λ (t : Told Stage). t.place) e))
+  placed None e = tt
+  placed (Some (Refused refusal)) e = rw (sym (ap (λ (t : Told Stage). t.number) e)) at number_few
+  placed (Some (Factoring i j r)) e = near_file.factoring _ (sym (ap (λ (t : Told Stage). t.place) e))
+  placed (Some (Singular j)) e = near_file.column j (sym (ap (λ (t : Told Stage). t.column) e))
+  placed (Some (Solving pass j r)) e = near_file.solving _ (sym (ap (λ (t : Told Stage). t.place) e))

@@ -32,6 +32,7 @@ pub enum WhyFile {
 }
 
 // The reason of a factoring as a file's.
+#[tactic(auto, unfolding(why::specs::Why::told_factor, why::specs::Why::overflowed, crate::specs::Explaining::told_file))]
 fn of_factoring(reason: WhyFactor) -> WhyFile
     ensures { told_file (Some result) ≡ told_in in_factoring (told_factor (Some reason)) }
 {
@@ -42,6 +43,7 @@ fn of_factoring(reason: WhyFactor) -> WhyFile
 }
 
 // The reason of a solve as a file's.
+#[tactic(auto, unfolding(why::specs::Why::told_solve, why::specs::Why::overflowed, crate::specs::Explaining::told_file))]
 fn of_solving(reason: WhySolve) -> WhyFile
     ensures { told_file (Some result) ≡ told_in in_solving (told_solve (Some reason)) }
 {

@@ -5,11 +5,11 @@ use Rattle.std.proofs.Common.{Err}
 use Rattle.refusals.specs.declared.Refusal.TheVariants.{Singular, Overflow}
 use Rattle.refusals.specs.contracts.Refusal.{the_type}
 use Rattle.why.proofs.SolvingCall.{no_reason, bad_input, six_matrix, singular, ready, overflow_told, zeroed_again}
-use Rattle.why.proofs.why_solve.Goals.{After-lowest_dead-arg-1, After-copy-arg-1}
+use Rattle.why.proofs.why_solve.Goals.{Then-eq, After-copy-arg-1}
 use Rattle.why.proofs.why_solve.Goals as goal
 
 -- the matrix is singular
-is_singular : (c : After-lowest_dead-arg-1) → c.solve.result ≡ Err Singular
+is_singular : (c : Then-eq) → c.solve.result ≡ Err Singular
 is_singular c = c.in-Err.is ∙ ap Err (same_true the_type tt _ _ (sym c.if-eq.ensures))
 
 -- the refusal is an overflow
@@ -21,11 +21,11 @@ returns-in_default-clause-result_value c = no_reason _ _ _ _ _ _ _ c.solve.ensur
 
 pub lowest_dead-requires : goal.lowest_dead-requires
 lowest_dead-requires c =
-    six_matrix _ _ _ _ _ _ _ c.solve.ensures.result_value (is_singular (goal.at.lowest_dead-requires c).After-lowest_dead-arg-1)
+    six_matrix _ _ _ _ _ _ _ c.solve.ensures.result_value (is_singular (goal.at.lowest_dead-requires c).Then-eq)
 
 pub returns-then-eq-clause-result_value : goal.returns-then-eq-clause-result_value
 returns-then-eq-clause-result_value c =
-    singular _ _ _ _ _ _ _ c.solve.ensures.result_value (is_singular (goal.at.returns-then-eq-clause-result_value c).After-lowest_dead-arg-1) _
+    singular _ _ _ _ _ _ _ c.solve.ensures.result_value (is_singular (goal.at.returns-then-eq-clause-result_value c).Then-eq) _
     c.lowest_dead.ensures
 
 pub returns-then-ne-clause-result_value : goal.returns-then-ne-clause-result_value

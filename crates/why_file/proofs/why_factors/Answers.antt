@@ -7,13 +7,12 @@ use Rattle.why_file.proofs.why_factors.Goals as goal
 
 pub why_matrix-requires : goal.why_matrix-requires
 why_matrix-requires c =
-    let w = was_read c.args.file.now _ _ _ c.read.ensures.result_value c.read.ensures.matrix_after c.read.ensures.readings_after _ c.in-Pads.is in
+    let w = was_read c.args.file.now _ _ c.read.ensures.matrix_after c.read.ensures.readings_after _ c.in-Ok.ensures.result_value in
     (w.good.most, c.read.auto.matrix ∙ length-replicate 4096 zero64)
 
-pub returns-in-Pads : goal.returns-in-Pads
-returns-in-Pads c =
-    by_matrix c.args.file.now _ _ _ c.read.ensures.result_value c.read.ensures.matrix_after c.read.ensures.readings_after _ _ c.in-Pads.is c.why_matrix.ensures
+pub returns-in-Ok : goal.returns-in-Ok
+returns-in-Ok c =
+    by_matrix c.args.file.now _ _ c.read.ensures.matrix_after c.read.ensures.readings_after _ c.in-Ok.ensures.result_value _ c.why_matrix.ensures
 
-pub returns-in-Refused : goal.returns-in-Refused
-returns-in-Refused c =
-    by_reader c.args.file.now _ _ _ c.read.ensures.result_value c.read.ensures.matrix_after c.read.ensures.readings_after _ c.in-Refused.is
+pub returns-in-Err : goal.returns-in-Err
+returns-in-Err c = by_reader c.args.file.now _ c.in-Err.ensures.result_value

@@ -1,14 +1,16 @@
 -- The front of each store. Assumes nothing.
-use mathlib.Core.Path.{ap, ◌∙◌}
-use Prim.Native.Nat.{◌*◌}
+use mathlib.Core.Path.{◌≡◌, ap, ◌∙◌}
+use mathlib.Core.List.{List}
+use Prim.Native.Nat.{ℕ, ◌≤◌}
 use native.Mathlib.Omega.{arith}
 use lib.ListN.{take, length-replicate}
 use Rattle.numbers.specs.Numbers.{zero64}
 use Rattle.numbers.specs.Column.{Column, zeros}
 use Rattle.panel_file.proofs.Reading.{square}
 use Rattle.crossing.proofs.Factors.{taken_count}
-use Rattle.why.specs.Why.{explain_solving}
-use Rattle.why_file.specs.Explaining.{in_solving, told_in, explain_loads}
+use Rattle.factors.specs.declared.Record.{Record}
+use Rattle.why.specs.Why.{told_solve, explain_solving}
+use Rattle.why_file.specs.Explaining.{in_solving, told_in, explain_loads, told_file}
 use Rattle.why_file.proofs.Filed.{zeros_front}
 use Rattle.why_file.proofs.why_loads.Goals as goal
 
@@ -24,12 +26,16 @@ slice_bounds-why_solve-end-2 c = taken_count c.args.told.rows c.args.readings.no
 pub slice_bounds-why_solve-end-3 : goal.slice_bounds-why_solve-end-3
 slice_bounds-why_solve-end-3 c = taken_count c.args.told.rows (zeros 64) (omega (arith, c.requires.0, length-replicate 64 zero64))
 
+-- the slice that the call was lent holds zeros
+lent : (told : Record) (a b : Column) (swaps : List ℕ) → told.rows ≤ 64
+    → explain_solving a swaps told b 1 (take told.rows (zeros 64)) ≡ explain_solving a swaps told b 1 (zeros told.rows)
+lent told a b swaps most = ap (explain_solving a swaps told b 1) (zeros_front told.rows 64 most)
+
+pub returns-in_err-reason : goal.returns-in_err-reason
+unfolding told_file told_solve explain_loads
+returns-in_err-reason c =
+    rw c.from_residual.ensures (ap (told_in in_solving) (c.in_err-reason.ensures.result_value ∙ lent _ _ _ _ c.requires.0))
+
 pub returns : goal.returns
 unfolding explain_loads
-returns c =
-    let g = c.args in
-    c.of_solving.ensures ∙ ap (told_in in_solving) c.why_solve.ensures.result_value
-    ∙ ap
-    (λ (x : Column). told_in in_solving
-    (explain_solving (take (g.told.rows * g.told.rows) g.matrix.now) g.swaps.now g.told (take g.told.rows g.readings.now) 1 x))
-    (zeros_front g.told.rows 64 c.requires.0)
+returns c = c.of_solving.ensures ∙ ap (told_in in_solving) (c.in_ok-reason.ensures.result_value ∙ lent _ _ _ _ c.requires.0)

@@ -1,14 +1,14 @@
 -- The front of each store. Assumes nothing.
-use mathlib.Core.Path.{ap, ◌∙◌}
-use Prim.Native.Nat.{◌*◌}
+use mathlib.Core.Path.{◌≡◌, ap, ◌∙◌}
+use Prim.Native.Nat.{ℕ, ◌*◌, ◌≤◌}
 use native.Mathlib.Omega.{arith}
 use lib.ListN.{take, replicate, length-replicate}
 use Rattle.numbers.specs.Numbers.{zero64}
 use Rattle.numbers.specs.Column.{Column, zeros}
 use Rattle.panel_file.proofs.Reading.{square}
 use Rattle.crossing.proofs.Factors.{taken_count}
-use Rattle.why.specs.Why.{explain_factoring}
-use Rattle.why_file.specs.Explaining.{in_factoring, told_in}
+use Rattle.why.specs.Why.{told_factor, explain_factoring}
+use Rattle.why_file.specs.Explaining.{in_factoring, told_in, told_file}
 use Rattle.why_file.proofs.Filed.{zeros_front}
 use Rattle.why_file.proofs.why_matrix.Goals as goal
 
@@ -24,9 +24,15 @@ slice_bounds-factors-end c = omega (arith, square c.args.n 64 c.requires.0)
 pub slice_bounds-why_factor-end-2 : goal.slice_bounds-why_factor-end-2
 slice_bounds-why_factor-end-2 c = taken_count _ (zeros 4096) (omega (arith, length-replicate 4096 zero64, square c.args.n 64 c.requires.0))
 
+-- the slice that the call was lent holds zeros
+lent : (n : ℕ) (a : Column) → n ≤ 64
+    → explain_factoring a n n (take (n * n) (zeros 4096)) (replicate 128 0) ≡ explain_factoring a n n (zeros (n * n)) (replicate 128 0)
+lent n a most = ap (λ (x : Column). explain_factoring a n n x (replicate 128 0)) (zeros_front (n * n) 4096 (square n 64 most))
+
+pub returns-in_err-reason : goal.returns-in_err-reason
+unfolding told_file told_factor
+returns-in_err-reason c =
+    rw c.from_residual.ensures (ap (told_in in_factoring) (c.in_err-reason.ensures.result_value ∙ lent _ _ c.requires.0))
+
 pub returns : goal.returns
-returns c =
-    let g = c.args in
-    c.of_factoring.ensures ∙ ap (told_in in_factoring) c.why_factor.ensures.result_value
-    ∙ ap (λ (x : Column). told_in in_factoring (explain_factoring (take (g.n * g.n) g.matrix.now) g.n g.n x (replicate 128 0)))
-    (zeros_front (g.n * g.n) 4096 (square g.n 64 c.requires.0))
+returns c = c.of_factoring.ensures ∙ ap (told_in in_factoring) (c.in_ok-reason.ensures.result_value ∙ lent _ _ c.requires.0)
