@@ -97,7 +97,8 @@ module _ (bytes : List ℕ) where
     module _ (M R : Column) (em : M ≡ (reading bytes (lent matrix readings)).left.matrix) (er : R ≡ (reading bytes (lent matrix readings)).left.readings) where
       read_told : (o : Outcome ℕ) → o ≡ (reading bytes (lent matrix readings)).answer → o ≡ tested (file_refusal bytes) refused (done n)
       read_told o m =
-          m ∙ ap (λ (c : Call ℕ Lent). c.answer) read_is ∙ tested_map (λ (c : Call ℕ Lent). c.answer) (file_refusal bytes) (leaving (lent matrix readings)) ready
+          m ∙ ap (λ (c : Call ℕ Lent). c.answer) read_is
+          ∙ tested_map (λ (c : Call ℕ Lent). c.answer) (file_refusal bytes) (leaving (lent matrix readings)) ready
 
       pub file_read : (k : ℕ) → done k ≡ (reading bytes (lent matrix readings)).answer → Read bytes matrix readings M R k
       file_read k t =

@@ -122,9 +122,10 @@ module _ (bytes : List ℕ) (pad : ℕ) where
   moving_early r answer out e a =
       let same : refused (number r) ≡ moves_of bytes pad = ap refused e ∙ sym (tested_some (moves_refusal bytes pad) refused _ (λ z. never_0 r (e ∙ z))) in
       let early : number r ≡ 7 → ⊥ = rw e (moves_among (λ j. j ≡ 7 → ⊥) (λ z. omega (arith, z)) (λ z. omega (arith, z)) (λ z. omega (arith, z))
-      (λ z. omega (arith, z)) (λ z. omega (arith, z))) in
-      (ap pads_ordered a ∙ ap (λ (o : Outcome Column). and_then o (λ _. done (n, toss_ups_in bytes))) same,
-      fronted_kept n (number r) out early ∙ ap (λ (o : Outcome Column). fronted n o out) same)
+      (λ z. omega (arith, z)) (λ z. omega (arith, z))) in (
+        ap pads_ordered a ∙ ap (λ (o : Outcome Column). and_then o (λ _. done (n, toss_ups_in bytes))) same,
+        fronted_kept n (number r) out early ∙ ap (λ (o : Outcome Column). fronted n o out) same,
+      )
 
   -- what the numbers are known by
   pub moves_known : (x : Column) → moves_of bytes pad ≡ done x → (n ≤ 64) × (all_finite x ≡ true)

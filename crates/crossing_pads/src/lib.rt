@@ -110,7 +110,11 @@ fn rank_loads(
 }
 
 // The whole answer for a panel file: its pads in rank order, with their loads in pad order.
-pub fn pad_order(file: &[u8], ranks: &mut [usize; 64], loads: &mut [f64; 64]) -> Result<Order, Refusal>
+pub fn pad_order(
+    file: &[u8],
+    ranks: &mut [usize; 64],
+    loads: &mut [f64; 64],
+) -> Result<Order, Refusal>
     ensures result_value { pads_ordered result ≡ (ordering file.now ranks.old loads.old).answer }
     ensures ranks_after { ranks.new ≡ (ordering file.now ranks.old loads.old).left.ranks }
     ensures loads_after { loads.new ≡ (ordering file.now ranks.old loads.old).left.loads }

@@ -102,7 +102,7 @@ told_solving pass j r =
     append_assoc (refused_text 7) (pass_word pass) (spot_text j r)
     ∙ ap (λ (t : List ℕ). t ++ (pass_word pass ++ spot_text j r)) (sym (append-nil (refused_text 7)))
 
--- the case that the answer is
-pub told_case : (bytes : List ℕ) (why case : Option WhyFile) → told_file why ≡ explain_file bytes → why ≡ case → reason_text (told_file case) ≡ why_text_of bytes
+-- what is printed of the case that the answer is
+pub case_text : (bytes : List ℕ) (case : Option WhyFile) → told_file case ≡ explain_file bytes → reason_text (told_file case) ≡ why_text_of bytes
 unfolding why_text_of
-told_case bytes why case e d = ap (λ (w : Option WhyFile). reason_text (told_file w)) (sym d) ∙ ap reason_text e
+case_text bytes case e = ap reason_text e
