@@ -1,171 +1,86 @@
-// The items of a slice: eight bytes each, the least first.
-ghost use Rattle.std.specs.Prelude.{◌<◌};
-ghost use Rattle.cases.specs.Counted.{Counted};
+// Reading the items of a slice: eight bytes each, the least first.
+ghost use Rattle.std.specs.Prelude.{◌<◌, IfOk};
 
-use crate::{LIMIT, SWAPS};
+use crate::BadCase;
+use std::num::f64_from_bits_with_nan;
 
-// Reads as many bytes as the slice has. Answers whether there were so many.
-pub fn fill(bytes: &mut [u8]) -> bool {
-    let got = io::read_full(0, bytes);
-    got == bytes.len()
+// The float that has these bytes; the NaN where they are a NaN's.
+pub fn float_of(bytes: [u8; 8]) -> f64 {
+    f64_from_bits_with_nan(u64::from_le_bytes(bytes))
 }
 
-// A byte as a number.
-fn wide(byte: u8) -> u64
-    ensures { result < 256 }
+// Reads as many bytes as the slice has.
+fn fill(bytes: &mut [u8]) -> Result<(), BadCase> {
+    if io::read_full(0, bytes) == bytes.len() {
+        Ok(())
+    } else {
+        Err(BadCase)
+    }
+}
+
+// Reads a number that stands by itself.
+pub fn read_whole() -> Result<usize, BadCase> {
+    let mut eight = [0; 8];
+    fill(&mut eight)?;
+    Ok(usize::from_le_bytes(eight))
+}
+
+// Reads a slice's count of items.
+fn read_count() -> Result<usize, BadCase>
+    ensures { IfOk result (λ count. count < 65536) }
 {
-    byte as u64
+    let mut two = [0; 2];
+    fill(&mut two)?;
+    Ok(usize::from(u16::from_le_bytes(two)))
 }
 
-// The number that four bytes make.
-fn four(b0: u8, b1: u8, b2: u8, b3: u8) -> u64
-    ensures { result < 0x1_0000_0000 }
+// Reads the bytes of a slice to the start of a room. Answers that part of it.
+pub fn read_bytes(room: &mut [u8]) -> Result<&mut [u8], BadCase> {
+    let length = 8 * read_count()?;
+    if room.len() < length {
+        return Err(BadCase);
+    }
+    let bytes = &mut room[..length];
+    fill(bytes)?;
+    Ok(bytes)
+}
+
+// Reads the items of a slice to the start of a room, by way of a room for their bytes. Answers that part of it.
+pub fn read_items<'s, T: Copy, F: Fn([u8; 8]) -> T>(
+    room: &'s mut [T],
+    bytes: &mut [u8],
+    item_of: F,
+) -> Result<&'s mut [T], BadCase>
+    requires { F.IsAlwaysCallable item_of }
 {
-    wide(b0) + 256 * (wide(b1) + 256 * (wide(b2) + 256 * wide(b3)))
-}
-
-// The 64 bits of item k; 0 where the bytes hold no such item.
-pub fn bits_of(bytes: &[u8], k: usize) -> u64 {
-    if bytes.len() / 8 <= k {
-        return 0;
+    let (eights, _) = read_bytes(bytes)?.as_chunks::<8>();
+    if room.len() < eights.len() {
+        return Err(BadCase);
     }
-    let at = 8 * k;
-    let low = four(bytes[at], bytes[at + 1], bytes[at + 2], bytes[at + 3]);
-    let high = four(bytes[at + 4], bytes[at + 5], bytes[at + 6], bytes[at + 7]);
-    low + 0x1_0000_0000 * high
-}
-
-// The float that has these bits; the NaN where they are a NaN's.
-pub fn float_of(bits: u64) -> f64 {
-    let magnitude = bits % 0x8000_0000_0000_0000;
-    if 0x7ff0_0000_0000_0000 < magnitude {
-        return 0.0 / 0.0;
+    let items = &mut room[..eights.len()];
+    for (item, &eight) in items.iter_mut().zip(eights) {
+        *item = item_of(eight);
     }
-    f64::from_bits(bits)
+    Ok(items)
 }
 
-// What was read of a slice: how many items it has, and whether they are all there.
-#[derive(Clone, Copy)]
-pub struct Items {
-    pub count: usize,
-    pub whole: bool,
+// The items, if there are so many.
+pub fn exactly<T>(count: usize, items: &mut [T]) -> Result<&mut [T], BadCase> {
+    if items.len() == count {
+        Ok(items)
+    } else {
+        Err(BadCase)
+    }
 }
 
-// Reads a slice's count.
-fn read_count() -> Items
-    ensures { result.count < 65536 }
+// Reads a slice that has exactly N items.
+pub fn read_array<const N: usize, T: Copy + Default, F: Fn([u8; 8]) -> T>(
+    bytes: &mut [u8],
+    item_of: F,
+) -> Result<[T; N], BadCase>
+    requires { F.IsAlwaysCallable item_of }
 {
-    let mut two = [0u8; 2];
-    let whole = fill(&mut two);
-    Items {
-        count: (wide(two[0]) + 256 * wide(two[1])) as usize,
-        whole,
-    }
-}
-
-// Reads a slice to the place of item `at`.
-pub fn read_items(at: usize, bytes: &mut [u8]) -> Items
-    requires { at < 65536 }
-{
-    let Items { count, whole } = read_count();
-    let from = 8 * at;
-    let to = from + 8 * count;
-    if LIMIT < count {
-        return Items {
-            count,
-            whole: false,
-        };
-    }
-    if bytes.len() < to {
-        return Items {
-            count,
-            whole: false,
-        };
-    }
-    let filled = fill(&mut bytes[from..to]);
-    Items {
-        count,
-        whole: whole & filled,
-    }
-}
-
-// The floats that the bytes hold.
-fn floats_of(bytes: &[u8], dst: &mut [f64]) {
-    for (k, number) in dst.iter_mut().enumerate() {
-        *number = float_of(bits_of(bytes, k));
-    }
-}
-
-// The whole numbers that the bytes hold.
-fn wholes_of(bytes: &[u8], dst: &mut [usize]) {
-    for (k, number) in dst.iter_mut().enumerate() {
-        *number = bits_of(bytes, k) as usize;
-    }
-}
-
-// Takes so many floats out of a room, to the start of dst. Answers how many there are.
-pub fn floats(bytes: &[u8], room: usize, count: usize, dst: &mut [f64]) -> usize
-    requires { room < 8 }
-    ensures { Counted result dst.new }
-{
-    let from = 8 * LIMIT * room;
-    if bytes.len() < from {
-        return 0;
-    }
-    if dst.len() < count {
-        return 0;
-    }
-    floats_of(&bytes[from..], &mut dst[..count]);
-    count
-}
-
-// Takes so many whole numbers out of a room, to the start of dst. Answers how many there are.
-pub fn wholes(bytes: &[u8], room: usize, count: usize, dst: &mut [usize]) -> usize
-    requires { room < 8 }
-    ensures { Counted result dst.new }
-{
-    let from = 8 * LIMIT * room;
-    if bytes.len() < from {
-        return 0;
-    }
-    if dst.len() < count {
-        return 0;
-    }
-    wholes_of(&bytes[from..], &mut dst[..count]);
-    count
-}
-
-// Whether the first `count` whole numbers that the bytes hold add to no more than `most`.
-fn add_within(bytes: &[u8], count: usize, most: usize) -> bool {
-    let mut left = most;
-    for k in 0..count {
-        let length = bits_of(bytes, k) as usize;
-        if left < length {
-            return false;
-        }
-        left -= length;
-    }
-    true
-}
-
-// Whether so many files, whose lengths stand in their room, have no more bytes than so many items.
-pub fn lengths_fit(bytes: &[u8], count: usize, items: usize) -> bool {
-    let from = 8 * LIMIT * SWAPS;
-    if bytes.len() < from {
-        return false;
-    }
-    if LIMIT < items {
-        return false;
-    }
-    add_within(&bytes[from..], count, 8 * items)
-}
-
-// How many of k bytes stand at the start of the store: k.
-pub fn bytes_within(bytes: &[u8], k: usize) -> usize
-    ensures { Counted result bytes.now }
-{
-    if bytes.len() < k {
-        return 0;
-    }
-    k
+    let mut items = [T::default(); N];
+    exactly(N, read_items(&mut items, bytes, item_of)?)?;
+    Ok(items)
 }

@@ -1,82 +1,115 @@
-// The ops that make factors or change them: each hands to its call exactly the slices of its case, and tells what the call
-// answered. a and b are read; x and swaps are written. The ops that read factors, and those that need none, are handed on.
+// The ops that make factors or change them: each hands to its call exactly the slices of its case, and puts the line of what the
+// call answered. a and b are read; x and swaps are written.
 #![tactic(auto)]
 
-use cases::Case;
+use cases::{Case, Making};
 use factors::Record;
 use from_factors_ops::record_of;
-use lines::{Line, NO, Parts};
+use lines::{Part, Text, put_line};
 use lu::Factored;
+use matrix_ops::{put_refused, told};
 use refusals::Refusal;
 use why::WhyFactor;
 
-// The line of a call that factors: pairs, factors, swaps, toss-ups, dead columns.
-fn factors_line(number: usize, pairs: usize, toss_ups: usize, dead: usize) -> Line {
-    lines::line_of(
-        number,
-        Parts(b'1', b'x', b's', b'2', b'3'),
-        pairs,
-        toss_ups,
-        dead,
-    )
+// Puts the line of a call that makes factors: pairs, factors, swaps, toss-ups, dead columns. `before` stands where it is refused.
+fn put_factors<'x>(
+    text: &mut Text,
+    answer: Result<Factored, Refusal>,
+    before: Record,
+    x: &'x [f64],
+    swaps: &'x [usize],
+) {
+    let held = Factored {
+        told: before,
+        toss_ups: 0,
+    };
+    let (number, now) = told(answer, held);
+    let parts = [
+        Part::Whole(now.told.pairs),
+        Part::Floats(x),
+        Part::Wholes(swaps),
+        Part::Whole(now.toss_ups),
+        Part::Whole(now.told.dead),
+    ];
+    put_line(text, number, &parts);
 }
 
-// The line of factoring's answer.
-fn factored_line(answer: Result<Factored, Refusal>) -> Line {
-    match answer {
-        Ok(Factored { told, toss_ups }) => factors_line(0, told.pairs, toss_ups, told.dead),
-        Err(refusal) => factors_line(usize::from(refusal), 0, 0, 0),
+// The record of a matrix that is not factored.
+fn no_factors(m: usize, n: usize) -> Record {
+    Record {
+        rows: m,
+        columns: n,
+        pairs: 0,
+        dead: 0,
     }
 }
 
-// Op 2.
-fn add_column(case: Case, b: &[f64], x: &mut [f64], swaps: &mut [usize]) -> Line {
+fn factor(text: &mut Text, case: Case, a: &[f64], x: &mut [f64], swaps: &mut [usize]) {
+    let Case { m, n, .. } = case;
+    let answer = lu::factor(a, m, n, x, swaps);
+    put_factors(text, answer, no_factors(m, n), x, swaps);
+}
+
+fn build_up(text: &mut Text, case: Case, a: &[f64], x: &mut [f64], swaps: &mut [usize]) {
+    let Case { m, n, .. } = case;
+    let answer = building_up::build_up(a, m, n, x, swaps);
+    put_factors(text, answer, no_factors(m, n), x, swaps);
+}
+
+fn add_column(text: &mut Text, case: Case, b: &[f64], x: &mut [f64], swaps: &mut [usize]) {
     let held = record_of(case);
-    match adding::add_column(x, b, swaps, held) {
-        Ok(Factored { told, toss_ups }) => factors_line(0, told.pairs, toss_ups, told.dead),
-        Err(refusal) => factors_line(usize::from(refusal), held.pairs, 0, held.dead),
-    }
+    let answer = adding::add_column(x, b, swaps, held);
+    put_factors(text, answer, held, x, swaps);
 }
 
-// The line of op 22: pairs, factors, swaps, dead columns.
-fn removed_line(number: usize, told: Record) -> Line {
-    lines::line_of(
-        number,
-        Parts(b'1', b'x', b's', b'2', NO),
-        told.pairs,
-        told.dead,
-        0,
-    )
+// Puts the line of a removed column: pairs, factors, swaps, dead columns.
+fn put_removed<'x>(
+    text: &mut Text,
+    (number, now): (usize, Record),
+    x: &'x [f64],
+    swaps: &'x [usize],
+) {
+    let parts = [
+        Part::Whole(now.pairs),
+        Part::Floats(x),
+        Part::Wholes(swaps),
+        Part::Whole(now.dead),
+    ];
+    put_line(text, number, &parts);
 }
 
-// Op 22.
-fn remove_column(case: Case, x: &mut [f64], swaps: &mut [usize]) -> Line {
+fn remove_column(text: &mut Text, case: Case, x: &mut [f64], swaps: &mut [usize]) {
     let held = record_of(case);
-    match removing::remove_column(x, swaps, held) {
-        Ok(told) => removed_line(0, told),
-        Err(refusal) => removed_line(usize::from(refusal), held),
+    let answer = removing::remove_column(x, swaps, held);
+    put_removed(text, told(answer, held), x, swaps);
+}
+
+// Its line: step, column and row of an overflow.
+fn why_factor(text: &mut Text, case: Case, a: &[f64], x: &mut [f64], swaps: &mut [usize]) {
+    match why::why_factor(a, case.m, case.n, x, swaps) {
+        None => put_line(text, 0, &[Part::Dash]),
+        Some(WhyFactor::Refused(refusal)) => put_refused(text, refusal),
+        Some(WhyFactor::Overflow { step, column, row }) => {
+            put_line(text, 7, &[Part::Wholes(&[step, column, row])])
+        }
     }
 }
 
-// The line of op 27: step, column and row of an overflow.
-fn why_factor_line(reason: Option<WhyFactor>) -> Line {
-    match reason {
-        None => lines::dash_line(0),
-        Some(WhyFactor::Refused(refusal)) => lines::dash_line(usize::from(refusal)),
-        Some(WhyFactor::Overflow { step, column, row }) => lines::place_line(7, step, column, row),
-    }
-}
-
-// Runs the op of a case on its slices.
-pub fn run(case: Case, a: &[f64], b: &[f64], x: &mut [f64], swaps: &mut [usize]) -> Line {
-    let op = case.op;
+// Runs an op, and puts its line.
+pub fn run(
+    text: &mut Text,
+    op: Making,
+    case: Case,
+    a: &[f64],
+    b: &[f64],
+    x: &mut [f64],
+    swaps: &mut [usize],
+) {
     match op {
-        1 => factored_line(lu::factor(a, case.m, case.n, x, swaps)),
-        2 => add_column(case, b, x, swaps),
-        3 | 4 | 5 | 6 | 7 | 8 | 25 | 28 | 30 => from_factors_ops::run(case, a, swaps, b, x),
-        22 => remove_column(case, x, swaps),
-        27 => why_factor_line(why::why_factor(a, case.m, case.n, x, swaps)),
-        35 => factored_line(building_up::build_up(a, case.m, case.n, x, swaps)),
-        _ => matrix_ops::run(case, a, b, x, swaps),
+        Making::Factor => factor(text, case, a, x, swaps),
+        Making::AddColumn => add_column(text, case, b, x, swaps),
+        Making::RemoveColumn => remove_column(text, case, x, swaps),
+        Making::WhyFactor => why_factor(text, case, a, x, swaps),
+        Making::BuildUp => build_up(text, case, a, x, swaps),
     }
 }

@@ -2,69 +2,50 @@
 // what every lent slice holds afterwards.
 #![tactic(auto)]
 
-use cases::{Case, Next};
+use cases::{BadCase, Case, Op, Slices, Store, read_case};
+use lines::Text;
 
-// The text that is collected before it is written out.
-type Text = [u8; 65536];
-
-// The store for the bytes of a case.
-type Bytes = [u8; cases::BYTES];
-
-// The place behind the text, and whether the list goes on.
-#[derive(Clone, Copy)]
-struct Place {
-    at: usize,
-    going: bool,
+// Runs the op of a case on its slices, and puts its line.
+fn run(text: &mut Text, case: Case, slices: Slices<'_>) {
+    let Slices {
+        a,
+        b,
+        x,
+        swaps,
+        bytes,
+    } = slices;
+    match case.op {
+        Op::Making(op) => factor_ops::run(text, op, case, a, b, x, swaps),
+        Op::OfFactors(op) => from_factors_ops::run(text, op, case, a, swaps, b, x),
+        Op::Triangle(op) => matrix_ops::solve(text, op, case, a, b, x),
+        Op::Permuting(op) => matrix_ops::permute(text, op, case, swaps, x),
+        Op::AppendPermutation => matrix_ops::append(text, case, swaps),
+        Op::Rank => matrix_ops::rank(text, case, a, swaps),
+        Op::FindPivot => matrix_ops::find_pivot(text, case, a),
+        Op::OfFile(op) => file_ops::run(text, op, case, a, b, bytes),
+        Op::FourPads => four_ops::of_numbers(text, a, b),
+        Op::FourPadsOfFile => four_ops::of_file(text, bytes),
+        Op::Season => season_ops::run(text, swaps, bytes),
+    }
+    text.put(b'\n');
 }
 
-// Puts the line of a case.
-fn one_case(text: &mut Text, at: usize, case: Case, bytes: &mut Bytes) -> usize {
-    if (case.op == 32) | (case.op == 33) {
-        return four_ops::run(text, at, case, bytes);
-    }
-    if case.op == 34 {
-        return season_ops::run(text, at, case, bytes);
-    }
-    if case.on_file {
-        return file_ops::run(text, at, case, bytes);
-    }
-    slice_ops::run(text, at, case, bytes)
-}
-
-// Puts what ends a line, and tells the place behind it.
-fn ended(text: &mut Text, at: usize, end: &[u8], going: bool) -> Place {
-    Place {
-        at: lines::put_word(text, at, end),
-        going,
-    }
-}
-
-// Reads and runs the next case.
-fn next_case(text: &mut Text, at: usize, bytes: &mut Bytes) -> Place {
-    match cases::read_case(bytes) {
-        Next::Whole(case) => {
-            let end = one_case(text, at, case, bytes);
-            ended(text, end, b"\n", true)
-        }
-        Next::Bad => ended(text, at, b"bad case\n", false),
-        Next::End => Place { at, going: false },
-    }
-}
-
-// Runs case after case, and writes out the text. Nothing says that an input ends, so the loop has more turns than any run uses up.
-fn all_cases(text: &mut Text, bytes: &mut Bytes) {
-    let mut place = Place { at: 0, going: true };
+// Runs case after case. Nothing says that an input ends, so the loop has more turns than any run uses up.
+fn run_all(text: &mut Text, store: &mut Store) -> Result<(), BadCase> {
     for _ in 0..u64::MAX {
-        place = next_case(text, place.at, bytes);
-        if !place.going {
+        let Some((case, slices)) = read_case(store)? else {
             break;
-        }
+        };
+        run(text, case, slices);
     }
-    lines::flush(text, place.at);
+    Ok(())
 }
 
 fn main() {
-    let mut text = [0; 65536];
-    let mut bytes = [0; cases::BYTES];
-    all_cases(&mut text, &mut bytes);
+    let mut text = Text::new();
+    let mut store = Store::new();
+    if run_all(&mut text, &mut store).is_err() {
+        text.put_word(b"bad case\n");
+    }
+    text.flush();
 }
