@@ -9,7 +9,8 @@ use lib.Seq.{take_all}
 use Rattle.numbers.specs.Column.{Column}
 use Rattle.store.specs.Columns.{columns}
 use Rattle.store.specs.Steps.{column}
-use Rattle.store.proofs.Columns.{part_column}
+use Rattle.numbers.proofs.Each.{turns_begin, turns_next, turns_done}
+use Rattle.store.proofs.Columns.{part_column, sized, column_within, column_length}
 use Rattle.triangular_passes.specs.declared.Pass.{Pass}
 use Rattle.triangular_passes.specs.declared.Pass.TheVariants.{Lower, Upper, GivenDiagonal, CorrectedDiagonal}
 use Rattle.triangular_passes.specs.declared.Pass.TheVariants.{TransposedLower, TransposedUpper, TransposedUnitLower}
@@ -50,3 +51,8 @@ pub turn_done : (pass : Pass) (n k i : ℕ) (t b c : Column) → i ≡ row_at pa
 unfolding turn
 turn_done pass n k i t b c row h made =
     made ∙ ap (λ (l : Column). solved_row pass l i b) (part_column n n i t h) ∙ ap (λ (r : ℕ). solved_row pass (column (columns n n t) r) r b) row
+
+-- what one turn needs, and what a loop over the turns does
+pub ruleset turn_laws = (turns_most, turn_row, turn_done, column_within, column_length, sized)
+
+pub ruleset loop_laws = (turns_begin, turns_next, turns_done)

@@ -98,6 +98,7 @@ fn kept_row(d: f64, col: &[f64], b: &mut [f64], i: usize)
 }
 
 // Row i less the dot product of the rows below it.
+#[tactic(auto, using(crate::proofs::Turns::rest_part))]
 fn less_below(col: &[f64], b: &[f64], i: usize) -> f64
     requires { (i < length col.now) × (i < length b.now) }
     ensures { result ≡ less_below col.now i b.now }
@@ -153,6 +154,7 @@ fn solve_row(pass: Pass, col: &[f64], b: &mut [f64], i: usize)
 }
 
 // Turn k on a right-hand column.
+#[tactic(auto, using(crate::proofs::Turns::turn_laws))]
 fn take_turn(pass: Pass, t: &[f64], n: usize, b: &mut [f64], k: usize)
     requires { (is_matrix t.now n n ≡ true) × (length b.old ≡ n) × (k < turns_of pass n) }
     ensures { b.new ≡ turn pass n (columns n n t.now) k b.old }
@@ -181,6 +183,7 @@ pub fn solve_turn(pass: Pass, t: &[f64], n: usize, b: &mut [f64], k: usize)
 }
 
 // Solves one right-hand column in place.
+#[tactic(auto, unfolding(crate::specs::Triangular::solved_column), using(crate::proofs::Turns::loop_laws))]
 fn solve_column(pass: Pass, t: &[f64], n: usize, b: &mut [f64])
     requires { (is_matrix t.now n n ≡ true) × (length b.old ≡ n) }
     ensures { b.new ≡ solved_column pass n (columns n n t.now) b.old }
