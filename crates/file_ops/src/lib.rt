@@ -3,7 +3,6 @@
 
 use cases::{Case, OfFile};
 use lines::{Part, Text, put_line, put_parts};
-use refusals::Refusal;
 
 // The digit of the refusal number in what a program prints, 0 where it prints pads or no reason.
 fn digit_of(printed: &[u8]) -> u8 {
@@ -13,7 +12,7 @@ fn digit_of(printed: &[u8]) -> u8 {
     }
 }
 
-// Puts the line of what a program prints on a file.
+// Puts the line of what a program prints on a file, which ops 20 and 29 ask of one text and the other.
 fn put_printed<F: FnOnce(&[u8], &mut [u8; 1288]) -> usize>(text: &mut Text, file: &[u8], print: F)
     requires { F.IsAlwaysCallable print }
 {
@@ -24,11 +23,6 @@ fn put_printed<F: FnOnce(&[u8], &mut [u8; 1288]) -> usize>(text: &mut Text, file
     put_parts(text, &[Part::Shown(printed)]);
 }
 
-// Puts the line of a refused call that would have answered a number.
-fn put_refused(text: &mut Text, refusal: Refusal) {
-    put_line(text, usize::from(refusal), &[Part::Dash]);
-}
-
 fn moves(text: &mut Text, pad: usize, file: &[u8]) {
     let mut numbers = [0.0f64; 64];
     match crossing_pads::moves(file, pad, &mut numbers) {
@@ -36,7 +30,7 @@ fn moves(text: &mut Text, pad: usize, file: &[u8]) {
             let moves = numbers.get(..order.pads).unwrap_or(&[]);
             put_line(text, 0, &[Part::Floats(moves)]);
         }
-        Err(refusal) => put_refused(text, refusal),
+        Err(refusal) => put_line(text, usize::from(refusal), &[Part::Dash]),
     }
 }
 

@@ -3,7 +3,8 @@ ghost use Rattle.std.specs.Prelude.{◌≤◌};
 
 const LENGTH: usize = 65536;
 
-// It has no Drop, so that no text is left unwritten: who makes one must flush it.
+// It has no Drop, so that no text is left unwritten: who makes one must flush it. By hand and not by `write!`, whose Result each
+// call would have to handle though no text can fail.
 pub struct Text {
     buffer: [u8; LENGTH],
     // The place behind what was put.
@@ -43,14 +44,14 @@ impl Text {
     }
 
     // Puts a whole number in decimal.
-    pub fn put_whole(&mut self, number: usize) {
+    pub(crate) fn put_whole(&mut self, number: usize) {
         let mut digits = [0u8; 20];
         let n = io::decimal(number as u64, &mut digits);
         self.put_word(&digits[..n]);
     }
 
     // Puts the 16 small hex digits of a float's bits, or nan.
-    pub fn put_float(&mut self, number: f64) {
+    pub(crate) fn put_float(&mut self, number: f64) {
         if number.is_nan() {
             self.put_word(b"nan");
             return;
@@ -61,7 +62,7 @@ impl Text {
     }
 
     // Puts a number in decimal, with a minus before a negative one.
-    pub fn put_signed(&mut self, number: i32) {
+    pub(crate) fn put_signed(&mut self, number: i32) {
         if number < 0 {
             self.put(b'-');
         }
@@ -69,7 +70,7 @@ impl Text {
     }
 
     // Puts the items of a part, with a space between two.
-    pub fn put_all<T, F: Fn(&mut Text, &T)>(&mut self, items: &[T], put_item: F)
+    pub(crate) fn put_all<T, F: Fn(&mut Text, &T)>(&mut self, items: &[T], put_item: F)
         requires { F.IsAlwaysCallable put_item }
     {
         for (k, item) in items.iter().enumerate() {
@@ -81,7 +82,7 @@ impl Text {
     }
 
     // Puts bytes as two small hex digits each, with nothing between.
-    pub fn put_hex(&mut self, bytes: &[u8]) {
+    pub(crate) fn put_hex(&mut self, bytes: &[u8]) {
         for &byte in bytes {
             let mut digits = [0u8; 16];
             let n = io::hex(u64::from(byte), 2, &mut digits);
@@ -90,7 +91,7 @@ impl Text {
     }
 
     // Puts what a program prints, on one line: a newline shows as a slash between spaces.
-    pub fn put_shown(&mut self, printed: &[u8]) {
+    pub(crate) fn put_shown(&mut self, printed: &[u8]) {
         for &byte in printed {
             match byte {
                 b'\n' => self.put_word(b" / "),

@@ -2,6 +2,9 @@
 // what the call answered. a and b are read; x and swaps are written.
 #![tactic(auto)]
 
+ghost use Rattle.std.specs.Prelude.{◌≡◌, OnErr};
+ghost use Rattle.refusals.specs.Outcome.{outcome, number_of};
+
 use cases::{Case, Permuting, Slices, Triangle};
 use lines::{Part, Text, put_line};
 use refusals::{Refusal, number_of};
@@ -17,7 +20,10 @@ pub fn put_refused(text: &mut Text, refusal: Refusal) {
 }
 
 // The refusal number of a call, 0 for none, and what it tells: what it answered, or if it is refused what there was before.
-pub fn told<T: Copy>(answer: Result<T, Refusal>, before: T) -> (usize, T) {
+pub fn told<T: Copy>(answer: Result<T, Refusal>, before: T) -> (usize, T)
+    ensures number { result.0 ≡ number_of (outcome answer) }
+    ensures before { OnErr answer (result.1 ≡ before) }
+{
     match answer {
         Ok(now) => (0, now),
         Err(refusal) => (usize::from(refusal), before),

@@ -5,7 +5,8 @@
 use cases::{BadCase, Case, Op, Slices, Store, read_case};
 use lines::Text;
 
-// Runs the op of a case on its slices, and puts its line.
+// Runs the op of a case, and puts its line. The borrow checker covers no call that hands on a parameter with `&mut` slices in it,
+// nor two of them lent through a `&mut`: so the slices go on one by one.
 fn run(text: &mut Text, case: Case, slices: Slices<'_>) {
     let Slices {
         a,
