@@ -242,7 +242,8 @@ fours x = on_columns x.1.0 x.1.1.0 (four_stepped x.1.0 x.0.0 x.0.1) x.1.1.1
 
 pub four_steps_not_idle : TwoShutOut fours (λ x. x.1.1.1)
 unfolding Runs
-four_steps_not_idle = two fours (λ x. x.1.1.1) ((0, 4), (4, (5, five_before))) ((0, 4), (4, (5, five_before))) ((0, 4), (4, (5, five_still))) five_differ still_five
+four_steps_not_idle =
+    two fours (λ x. x.1.1.1) ((0, 4), (4, (5, five_before))) ((0, 4), (4, (5, five_before))) ((0, 4), (4, (5, five_still))) five_differ still_five
 
 -- the steps on every column from that one on: a sixth column, like the fifth, would change with it
 abbrev sixth : Column → Column

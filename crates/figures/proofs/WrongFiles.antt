@@ -19,7 +19,7 @@ use Rattle.elimination.specs.TossUps.{toss_at, toss_from, toss_ups}
 use Rattle.finite.proofs.Finite.{finite_zeros}
 use Rattle.std.proofs.Common.{Err}
 use Rattle.refusals.specs.declared.Refusal.TheVariants.{Size, Length}
-use Rattle.refusals.specs.Outcome.{Outcome, done, refused, number_of, first_holding, tested, and_then, Call}
+use Rattle.refusals.specs.Outcome.{Outcome, done, refused, number_of, first_holding, tested, Call}
 use Rattle.refusals.specs.Refusals.{outside}
 use Rattle.refusals.proofs.Strength.{ShutsOut, shut_out, BothShutOut, both, Strong, strong, Keeps, StrongBy, strong_by, done_refused}
 use Rattle.panel_file.specs.File.{little_endian, field_at, headed, pads_of, number_at}

@@ -5,7 +5,7 @@ use mathlib.Core.Bool.{true}
 use mathlib.Core.List.{List}
 use Prim.Native.Nat.{ℕ}
 use lib.ListN.{take}
-use Rattle.refusals.specs.Outcome.{refused, and_then}
+use Rattle.refusals.specs.Outcome.{refused}
 use Rattle.refusals.proofs.Outcomes.{tested_some}
 use Rattle.refusals.proofs.Cases.{first_behind}
 use Rattle.panel_file.specs.Reading.{file_tests, file_refusal}

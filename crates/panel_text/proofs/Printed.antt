@@ -24,7 +24,7 @@ use Rattle.crossing_pads.specs.Ordering.{ranks_left, Ranks, ordering, pads_order
 use Rattle.crossing_pads.specs.Moving.{moves_of, moving}
 use Rattle.crossing.proofs.Loads.{loads_known, front_done}
 use Rattle.crossing_pads.proofs.Moving.{moves_known}
-use Rattle.panel_text.specs.Text.{written, pads_text, moves_text, scaled_text, refused_text}
+use Rattle.panel_text.specs.Text.{pads_text, moves_text, scaled_text, refused_text}
 use Rattle.panel_text.specs.Printed.{order_text, text_of, change_text, moves_text_of, check_text, stiffness_text_of}
 
 zeros_count : length (zeros 64) ≡ 64

@@ -18,8 +18,8 @@ ghost use Rattle.why.specs.Why.{told_number};
 ghost use Rattle.why_file.specs.Explaining.{told_file};
 
 use crossing_pads::Order;
-use scaled_determinant::Scaled;
 use refusals::Refusal;
+use scaled_determinant::Scaled;
 use why_file::WhyFile;
 
 // The character of a digit below 16.
@@ -132,10 +132,12 @@ pub fn text(file: &[u8], out: &mut [u8; 1288]) -> usize
     let mut ranks = [0usize; 64];
     let mut loads = [0.0f64; 64];
     match crossing_pads::pad_order(file, &mut ranks, &mut loads) {
-        Ok(Order {
-            pads: n,
-            toss_ups: _,
-        }) => put_pads(out, n, &ranks[..n], &loads[..n]),
+        Ok(
+            Order {
+                pads: n,
+                toss_ups: _,
+            },
+        ) => put_pads(out, n, &ranks[..n], &loads[..n]),
         Err(refusal) => put_refusal(out, refusal),
     }
 }
@@ -161,10 +163,12 @@ pub fn moves_text(file: &[u8], pad: usize, out: &mut [u8; 1288]) -> usize
 {
     let mut moves = [0.0f64; 64];
     match crossing_pads::moves(file, pad, &mut moves) {
-        Ok(Order {
-            pads: n,
-            toss_ups: _,
-        }) => put_moves(out, &moves[..n]),
+        Ok(
+            Order {
+                pads: n,
+                toss_ups: _,
+            },
+        ) => put_moves(out, &moves[..n]),
         Err(refusal) => put_refusal(out, refusal),
     }
 }
