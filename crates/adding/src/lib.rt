@@ -152,6 +152,7 @@ fn add_tested(
 
 // Adds the raw column c to the factors in s, which has room for it behind its columns. Answers the new record, and 0 or 1 for a toss-up of the column's own
 // pivot; a caller who is refused still holds the record before.
+#[tactic(auto, using(crate::proofs::Adds::ready))]
 pub fn add_column(
     s: &mut [f64],
     c: &[f64],

@@ -46,8 +46,8 @@ slotted m o = record { answer = o.answer; left = slices (o.left.factors ++ zeros
 abbrev pub slot_off : ℕ → ℕ → Factoring → Factoring
 slot_off m n o = record { answer = o.answer; left = slices (take (n * m) o.left.factors) o.left.store }
 
-slot_off_lem : (m n : ℕ) (o : Factoring) → length o.left.factors ≡ n * m → slot_off m n (slotted m o) ≡ o
-slot_off_lem m n o len = λ i. record { answer = o.answer; left = slices (take_at o.left.factors (zeros m) (n * m) len i) o.left.store }
+slot_taken_off : (m n : ℕ) (o : Factoring) → length o.left.factors ≡ n * m → slot_off m n (slotted m o) ≡ o
+slot_taken_off m n o len = λ i. record { answer = o.answer; left = slices (take_at o.left.factors (zeros m) (n * m) len i) o.left.store }
 
 module _ (m n : ℕ) (a out : Column) (store : List ℕ) (told : Record) (good : (factoring a m (n + 1) out store).answer ≡ done told) where
   abbrev given : Given m (n + 1) a out store told
@@ -194,7 +194,7 @@ module _ (m n : ℕ) (a out : Column) (store : List ℕ) (told : Record) (good :
       let none' = no_refusal m n front out' store' both.0 in
       let len : length left.left.factors ≡ n * m =
       ap (λ (q : Factoring). length q.left.factors) (accepted_is m n front out' store' none' both.0).0 ∙ size_f m n front out' store' none' in
-      (both.0, ap (slot_off m n) both.1 ∙ slot_off_lem m n left len)
+      (both.0, ap (slot_off m n) both.1 ∙ slot_taken_off m n left len)
 
 -- THEOREM. Where a column was added to what an accepted factoring gave, taking it off restores record, older columns and swap store; the slot holds zeros.
 pub removing_added : (m n : ℕ) (a out : Column) (store : List ℕ) (told : Record) → (factoring a m n out store).answer ≡ done told

@@ -14,13 +14,13 @@ use Rattle.finite.specs.Finite.{all_finite}
 use Rattle.numbers.proofs.Choice.{cond_cases, test_cases}
 use Rattle.store.specs.Columns.{columns, flat}
 use Rattle.store.proofs.Columns.{is_matrix_lem, same_matrix}
-use Rattle.refusals.specs.Outcome.{Outcome, done, refused, number_of, first_holding, tested, and_then, Call, leaving, outcome}
+use Rattle.refusals.specs.Outcome.{Outcome, done, refused, first_holding, tested, and_then, Call, leaving}
 use Rattle.refusals.specs.Refusals.{seventh}
-use Rattle.refusals.specs.declared.Answer.{Answer}
+use Rattle.std.proofs.Common.{Result}
+use Rattle.refusals.specs.declared.Refusal.{Refusal}
 use Rattle.refusals.proofs.Outcomes.{tested_none, tested_some}
 use Rattle.factors.specs.declared.Record.{Record}
 use Rattle.lu.specs.declared.Factored.{Factored}
-use Rattle.lu.specs.declared.Factored.TheVariants.{Accepted, Refused}
 use Rattle.factors.specs.declared.Asks.{Asks}
 use Rattle.factors.specs.Factors.{Factors as Eliminated, numbers_of, store_of, slices, Factoring}
 use Rattle.factors.specs.Held.{held_refusal}
@@ -29,22 +29,11 @@ use Rattle.lu.specs.Factoring.{settled, factoring, factored, with_toss_ups, fact
 use Rattle.lu.proofs.Told.{passes, worked}
 use Rattle.from_factors.specs.Solving.{Way, solved, tr_solved, solve_asks, solved_by, solving_by, solving, tr_solving}
 use Rattle.refusals.proofs.Cases.{done_same, refused_same, never_both}
-use Rattle.crossing.specs.declared.Held.{Held}
-use Rattle.crossing.specs.declared.Held.TheVariants.{Factors, Refused as NotHeld}
 use Rattle.crossing.specs.Below.{Packed, factors_of, toss_ups_of, system_of, solution_by}
 use Rattle.crossing.specs.Factors.{settled_in, swaps_left}
 
 empty_store : length {A = ℕ} (replicate 128 0) ≡ 128
 empty_store = length-replicate {A = ℕ} 128 0
-
--- what factoring's answer is taken for
-abbrev pub held_for : Factored → Held
-held_for (Accepted told tossed) = Factors told tossed
-held_for (Refused number) = NotHeld number
-
-held_answer : (r : Factored) → factored (held_for r) ≡ factored r
-held_answer (Accepted told tossed) = refl
-held_answer (Refused number) = refl
 
 -- ---- factoring a good matrix where it lies: done, or refused with 7
 
@@ -83,12 +72,10 @@ module _ (n : ℕ) (a : Column) where
         made : Eliminated
         made = eliminate n (columns n n a)
 
-    factored_told : (s : List ℕ) → length s ≡ 128 → (r : Factored) → factored r ≡ factoring_answer a n n a s
-        → factored (held_for r) ≡ and_then (factors_of a n) (λ p. done (p.told, toss_ups_of a n))
+    factored_told : (s : List ℕ) → length s ≡ 128 → factoring_answer a n n a s ≡ and_then (factors_of a n) (λ p. done (p.told, toss_ups_of a n))
     unfolding factoring_answer with_toss_ups
-    factored_told s l r e =
-        held_answer r ∙ e
-        ∙ factored_cases (λ o f. with_toss_ups (toss_ups_of a n) f.answer ≡ and_then o (λ p. done (p.told, toss_ups_of a n))) (λ p _. refl) refl s l
+    factored_told s l =
+        factored_cases (λ o f. with_toss_ups (toss_ups_of a n) f.answer ≡ and_then o (λ p. done (p.told, toss_ups_of a n))) (λ p _. refl) refl s l
 
     factored_matrix : (s : List ℕ) → length s ≡ 128 → (factoring a n n a s).left.factors ≡ settled_in (and_then (factors_of a n) (λ p. done p.factors)) a
     unfolding settled_in
@@ -100,14 +87,11 @@ module _ (n : ℕ) (a : Column) where
     factored_swaps s l = factored_cases (λ o f. f.left.store ≡ swaps_left o s) (λ p _. refl) refl s l
 
     -- what the call ensures
-    pub factored_call : (s : List ℕ) → length s ≡ 128 → (made : Factored) (a₁ : Column) (s₁ : List ℕ)
+    pub factored_call : (s : List ℕ) → length s ≡ 128 → (made : Result Factored Refusal) (a₁ : Column) (s₁ : List ℕ)
         → (factored made ≡ factoring_answer a n n a s) × ((a₁ ≡ (factoring a n n a s).left.factors) × (s₁ ≡ (factoring a n n a s).left.store))
-        → (held : Held) → held_for made ≡ held
-        → (factored held ≡ and_then (factors_of a n) (λ p. done (p.told, toss_ups_of a n)))
+        → (factored made ≡ and_then (factors_of a n) (λ p. done (p.told, toss_ups_of a n)))
         × ((a₁ ≡ settled_in (and_then (factors_of a n) (λ p. done p.factors)) a) × (s₁ ≡ swaps_left (factors_of a n) s))
-    factored_call s l made a₁ s₁ e held h =
-        let told = ap factored (sym h) ∙ factored_told s l made e.0 in
-        (told, (e.1.0 ∙ factored_matrix s l, e.1.1 ∙ factored_swaps s l))
+    factored_call s l made a₁ s₁ e = (e.0 ∙ factored_told s l, (e.1.0 ∙ factored_matrix s l, e.1.1 ∙ factored_swaps s l))
 
     pub factored_rows : (p : Packed) → factors_of a n ≡ done p → p.told.rows ≡ n
     factored_rows p =
@@ -175,13 +159,9 @@ module _ (b was : Column) (P : Outcome Column → Call (Unit {0}) Column → Typ
   solution_cases false p = solving_cases solved p.told p.factors p.swaps
 
 module _ (t : Bool) (p : Packed) (b : Column) where
-  pub solved_answer : {A : Type 0} (was : Column) → length was ≡ p.told.rows → (answer : Answer) (number : ℕ) (n : A) → number ≡ number_of (outcome answer)
-      → outcome answer ≡ (system_of t p.factors p.swaps p.told b 1 was).answer
-      → tested number refused (done n) ≡ and_then (solution_by t p b) (λ _. done n)
-  solved_answer was l answer number n d e =
-      rw (d ∙ ap number_of e)
-      (solution_cases b was (λ o f. tested (number_of f.answer) refused (done n) ≡ and_then o (λ _. done n)) (λ x _. tested_none 0 refused (done n) refl)
-      (λ k z _. tested_some k refused (done n) z) (λ m. tested_some 7 refused (done n) (λ z. omega (arith, z))) t p l)
+  pub solved_answer : (was : Column) → length was ≡ p.told.rows
+      → (system_of t p.factors p.swaps p.told b 1 was).answer ≡ and_then (solution_by t p b) (λ _. done tt)
+  solved_answer was l = solution_cases b was (λ o f. f.answer ≡ and_then o (λ _. done tt)) (λ x _. refl) (λ k z _. refl) (λ m. refl) t p l
 
   pub solved_left : (was x : Column) → length was ≡ p.told.rows → x ≡ (system_of t p.factors p.swaps p.told b 1 was).left → length x ≡ length was
       → x ≡ settled_in (solution_by t p b) was

@@ -13,20 +13,19 @@ use Rattle.finite.specs.Finite.{all_finite}
 use Rattle.numbers.proofs.Each.{length_list}
 use Rattle.finite.proofs.Finite.{finite_append}
 use Rattle.numbers.proofs.Choice.{and_both, and_first}
-use Rattle.refusals.specs.Outcome.{Outcome, done, refused, tested, and_then, Call, leaving, outcome}
-use Rattle.refusals.proofs.Outcomes.{tested_none, tested_some, tested_map}
+use Rattle.std.proofs.Common.{Result, Ok, Err}
+use Rattle.std.specs.Result.{IsErrAnd}
+use Rattle.refusals.specs.declared.Refusal.{Refusal}
+use Rattle.refusals.specs.Outcome.{Outcome, done, refused, number, tested, and_then, Call, leaving}
+use Rattle.refusals.proofs.Outcomes.{handed_on, tested_none, tested_some, tested_map}
 use Rattle.factors.specs.declared.Record.{Record}
-use Rattle.scaled_determinant.specs.declared.ScaledDet.{ScaledDet}
-use Rattle.scaled_determinant.specs.declared.ScaledDet.TheVariants.{Refused as NoNumber}
-use Rattle.panel_file.specs.declared.Panel.{Panel}
-use Rattle.panel_file.specs.declared.Panel.TheVariants.{Pads, Refused as NotRead}
+use Rattle.scaled_determinant.specs.declared.Scaled.{Scaled}
 use Rattle.panel_file.specs.File.{pads_of, matrix_of, readings_of}
 use Rattle.panel_file.specs.Reading.{file_refusal, Stores as Lent, stores as lent, filled, reading}
 use Rattle.refusals.proofs.Cases.{done_same, never_both, tested_done, tested_refused, then_done, then_refused}
 use Rattle.panel_file.proofs.Reading.{square, file_whole, file_among, reading_fit}
 use Rattle.panel_file.proofs.Files.{numbers_parts}
-use Rattle.crossing.specs.declared.Held.{Held}
-use Rattle.crossing.specs.declared.Held.TheVariants.{Factors, Refused}
+use Rattle.lu.specs.declared.Factored.{Factored}
 use Rattle.crossing.specs.Below.{Packed, packed_in, factors_of, toss_ups_of, scaled_by}
 use Rattle.lu.specs.Factoring.{factored}
 use Rattle.crossing.specs.Factors.{factors_in, toss_ups_in, tosses_given, stiffness, settled_in, fronted, swaps_left, Stores, stores, holding}
@@ -95,15 +94,15 @@ module _ (bytes : List ℕ) where
     read_is : reading bytes (lent matrix readings) ≡ tested (file_refusal bytes) (leaving (lent matrix readings)) ready
     read_is = reading_fit bytes (lent matrix readings) (and_both _ _ (eq-eqb _ _ lm) (eq-eqb _ _ lr))
 
-    read_told : (made : Panel) → outcome made ≡ (reading bytes (lent matrix readings)).answer → outcome made ≡ tested (file_refusal bytes) refused (done n)
-    read_told made m =
-        m ∙ ap (λ (o : Call ℕ Lent). o.answer) read_is ∙ tested_map (λ (o : Call ℕ Lent). o.answer) (file_refusal bytes) (leaving (lent matrix readings)) ready
+    module _ (M R : Column) (em : M ≡ (reading bytes (lent matrix readings)).left.matrix) (er : R ≡ (reading bytes (lent matrix readings)).left.readings) where
+      read_told : (o : Outcome ℕ) → o ≡ (reading bytes (lent matrix readings)).answer → o ≡ tested (file_refusal bytes) refused (done n)
+      read_told o m =
+          m ∙ ap (λ (c : Call ℕ Lent). c.answer) read_is
+          ∙ tested_map (λ (c : Call ℕ Lent). c.answer) (file_refusal bytes) (leaving (lent matrix readings)) ready
 
-    module _ (made : Panel) (M R : Column) (m : outcome made ≡ (reading bytes (lent matrix readings)).answer)
-        (em : M ≡ (reading bytes (lent matrix readings)).left.matrix) (er : R ≡ (reading bytes (lent matrix readings)).left.readings) where
-      pub file_read : (k : ℕ) → made ≡ Pads k → Read bytes matrix readings M R k
+      pub file_read : (k : ℕ) → done k ≡ (reading bytes (lent matrix readings)).answer → Read bytes matrix readings M R k
       file_read k t =
-          let told = tested_done (file_refusal bytes) (done n) k (sym (read_told made m) ∙ ap outcome t) in
+          let told = tested_done (file_refusal bytes) (done n) k (sym (read_told (done k) t)) in
           let same : k ≡ n = done_same k n (sym told.1) in
           let is = read_is ∙ tested_none (file_refusal bytes) (leaving (lent matrix readings)) ready told.0 in
           let whole : M ≡ matrix_of n bytes ++ drop (n * n) matrix = em ∙ ap (λ (o : Call ℕ Lent). o.left.matrix) is in
@@ -120,15 +119,17 @@ module _ (bytes : List ℕ) where
             is_readings = er ∙ ap (λ (o : Call ℕ Lent). o.left.readings) is;
           }
 
-      pub held_refused : (k : ℕ) → made ≡ NotRead k
-          → (factored (Refused k) ≡ (holding bytes (stores matrix readings swaps)).answer)
+      pub held_refused : (r : Refusal) (answer : Result Factored Refusal) → refused (number r) ≡ (reading bytes (lent matrix readings)).answer
+          → IsErrAnd answer (λ e. e ≡ r)
+          → (factored answer ≡ (holding bytes (stores matrix readings swaps)).answer)
           × (stores M R swaps ≡ (holding bytes (stores matrix readings swaps)).left)
       unfolding holding swaps_left
-      held_refused k t =
-          tested_refused (file_refusal bytes) (done n) k (sym (read_told made m) ∙ ap outcome t) (λ z e. never_both n k e)
+      held_refused r answer t h =
+          tested_refused (file_refusal bytes) (done n) (number r) (sym (read_told (refused (number r)) t)) (λ z e. never_both n (number r) e)
           (λ some e.
           let is = read_is ∙ tested_some (file_refusal bytes) (leaving (lent matrix readings)) ready some in
           rw (
+            handed_on r answer h,
             factors_refused some,
             tested_some (file_refusal bytes) (λ _. readings) (readings_of n bytes ++ drop n readings) some,
             ne_eqb (file_refusal bytes) 7 not_seven,
@@ -138,7 +139,7 @@ module _ (bytes : List ℕ) where
                 ((er ∙ ap (λ (o : Call ℕ Lent). o.left.readings) is) i) swaps),
           ))
 
-    pub held_read : (M R : Column) (k : ℕ) → Read bytes matrix readings M R k → (held : Held) (A : Column) (S : List ℕ)
+    pub held_read : (M R : Column) (k : ℕ) → Read bytes matrix readings M R k → (held : Result Factored Refusal) (A : Column) (S : List ℕ)
         → factored held ≡ and_then (factors_of (take (k * k) M) k) (λ p. done (p.told, toss_ups_of (take (k * k) M) k))
         → A ≡ settled_in (and_then (factors_of (take (k * k) M) k) (λ p. done p.factors)) (take (k * k) M)
         → S ≡ swaps_left (factors_of (take (k * k) M) k) swaps
@@ -161,7 +162,7 @@ module _ (bytes : List ℕ) where
         (h ∙ ap₂ (λ (o : Outcome Packed) (t : ℕ). and_then o (λ p. done (p.told, t))) all tossed, (λ i. stores (front i ++ w.rest i) (read i) (swapped i)))
 
     -- ---- what a caller knows
-    module _ (held : Held) (M R : Column) (S : List ℕ) (h : factored held ≡ (holding bytes (stores matrix readings swaps)).answer)
+    module _ (held : Result Factored Refusal) (M R : Column) (S : List ℕ) (h : factored held ≡ (holding bytes (stores matrix readings swaps)).answer)
         (l : stores M R S ≡ (holding bytes (stores matrix readings swaps)).left) where
       ready_by : (told : Record) (p : Packed) → factors_in bytes ≡ done p → p.told ≡ told → length M ≡ 4096 → Ready bytes M R S told
       unfolding holding factors_in settled_in swaps_left
@@ -187,42 +188,42 @@ module _ (bytes : List ℕ) where
             is_readings = ap (λ (k : ℕ). take k R) rows ∙ ap (take n) readings-left ∙ take_at (readings_of n bytes) (drop n readings) n (length_list n _);
           }
 
-      held_factors : (told : Record) (tossed : ℕ) → held ≡ Factors told tossed → length M ≡ 4096 → Ready bytes M R S told × (tossed ≡ toss_ups_in bytes)
+      held_factors : (f : Factored) → held ≡ Ok f → length M ≡ 4096 → Ready bytes M R S f.told × (f.toss_ups ≡ toss_ups_in bytes)
       unfolding holding
-      held_factors told tossed t count =
-          then_done (factors_in bytes) (λ p. done (p.told, toss_ups_in bytes)) (told, tossed) (sym h ∙ ap factored t)
+      held_factors f t count =
+          then_done (factors_in bytes) (λ p. done (p.told, toss_ups_in bytes)) (f.told, f.toss_ups) (sym h ∙ ap factored t)
           (λ p e d.
-          let same = done_same (p.told, toss_ups_in bytes) (told, tossed) d in
-          (ready_by told p e (ap (λ (x : Record × ℕ). x.0) same) count, sym (ap (λ (x : Record × ℕ). x.1) same)))
+          let same = done_same (p.told, toss_ups_in bytes) (f.told, f.toss_ups) d in
+          (ready_by f.told p e (ap (λ (x : Record × ℕ). x.0) same) count, sym (ap (λ (x : Record × ℕ). x.1) same)))
 
-      not_held : (k : ℕ) → held ≡ Refused k → factors_in bytes ≡ refused k
+      not_held : (r : Refusal) → held ≡ Err r → factors_in bytes ≡ refused (number r)
       unfolding holding
-      not_held k t =
-          then_refused (factors_in bytes) (λ p. done (p.told, toss_ups_in bytes)) k (sym h ∙ ap factored t) (λ e. e)
-          (λ p e d. never_both (p.told, toss_ups_in bytes) k d)
+      not_held r t =
+          then_refused (factors_in bytes) (λ p. done (p.told, toss_ups_in bytes)) (number r) (sym h ∙ ap factored t) (λ e. e)
+          (λ p e d. never_both (p.told, toss_ups_in bytes) (number r) d)
 
   -- what `factor_file` ensures where its stores held zeros
-  abbrev pub Filed : Held → Column → Column → List ℕ → Type 0
+  abbrev pub Filed : Result Factored Refusal → Column → Column → List ℕ → Type 0
   Filed held M R S =
       (factored held ≡ (holding bytes (stores (zeros 4096) (zeros 64) (replicate 128 0))).answer)
       × ((stores M R S ≡ (holding bytes (stores (zeros 4096) (zeros 64) (replicate 128 0))).left)
       × ((length M ≡ 4096) × (length R ≡ 64) × (length S ≡ 128)))
 
-  module _ (held : Held) (M R : Column) (S : List ℕ) (e : Filed held M R S) where
-    filed : (told : Record) (tossed : ℕ) → held ≡ Factors told tossed → Ready bytes M R S told × (tossed ≡ toss_ups_in bytes)
-    filed told tossed t =
+  module _ (held : Result Factored Refusal) (M R : Column) (S : List ℕ) (e : Filed held M R S) where
+    filed : (f : Factored) → held ≡ Ok f → Ready bytes M R S f.told × (f.toss_ups ≡ toss_ups_in bytes)
+    filed f t =
         held_factors (zeros 4096) (zeros 64) (replicate 128 0) (length-replicate 4096 zero64) (length-replicate 64 zero64) held M R S e.0 e.1.0
-        told tossed t e.1.1.0
+        f t e.1.1.0
 
-    pub filed_ready : (told : Record) (tossed : ℕ) → held ≡ Factors told tossed → Ready bytes M R S told
-    filed_ready told tossed t = (filed told tossed t).0
+    pub filed_ready : (f : Factored) → held ≡ Ok f → Ready bytes M R S f.told
+    filed_ready f t = (filed f t).0
 
-    pub filed_tossed : (told : Record) (tossed : ℕ) → held ≡ Factors told tossed → tossed ≡ toss_ups_in bytes
-    filed_tossed told tossed t = (filed told tossed t).1
+    pub filed_tossed : (f : Factored) → held ≡ Ok f → f.toss_ups ≡ toss_ups_in bytes
+    filed_tossed f t = (filed f t).1
 
-    pub filed_refused : (k : ℕ) → held ≡ Refused k → factors_in bytes ≡ refused k
-    filed_refused k t =
-        not_held (zeros 4096) (zeros 64) (replicate 128 0) (length-replicate 4096 zero64) (length-replicate 64 zero64) held M R S e.0 e.1.0 k t
+    pub filed_refused : (r : Refusal) → held ≡ Err r → factors_in bytes ≡ refused (number r)
+    filed_refused r t =
+        not_held (zeros 4096) (zeros 64) (replicate 128 0) (length-replicate 4096 zero64) (length-replicate 64 zero64) held M R S e.0 e.1.0 r t
 
   -- ---- a refusal's number has one digit; by 7 the file is one of at most 64 pads
 
@@ -245,12 +246,11 @@ module _ (bytes : List ℕ) where
       (g.least, g.most)
 
   -- ---- the stiffness
-  pub stiffness_held : (p : Packed) (answer : ScaledDet) → factors_in bytes ≡ done p → outcome answer ≡ scaled_by p → outcome answer
-      ≡ stiffness bytes
+  pub stiffness_held : (p : Packed) (o : Outcome Scaled) → factors_in bytes ≡ done p → o ≡ scaled_by p → o ≡ stiffness bytes
   unfolding stiffness
-  stiffness_held p answer e d = d ∙ ap (λ (o : Outcome Packed). and_then o scaled_by) (sym e)
+  stiffness_held p o e d = d ∙ ap (λ (q : Outcome Packed). and_then q scaled_by) (sym e)
 
-  pub stiffness_refused : (k : ℕ) → factors_in bytes ≡ refused k → outcome (NoNumber k) ≡ stiffness bytes
+  pub stiffness_refused : (k : ℕ) → factors_in bytes ≡ refused k → refused k ≡ stiffness bytes
   unfolding stiffness
   stiffness_refused k e = ap (λ (o : Outcome Packed). and_then o scaled_by) (sym e)
 

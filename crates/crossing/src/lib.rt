@@ -32,7 +32,12 @@ fn factor_pads(n: usize, a: &mut [f64], swaps: &mut [usize]) -> Result<Factored,
 }
 
 // The same for the matrix of a file, in stores of 4096, 64 and 128.
-fn factor_read(file: &[u8], matrix: &mut [f64], readings: &mut [f64], swaps: &mut [usize]) -> Result<Factored, Refusal>
+fn factor_read(
+    file: &[u8],
+    matrix: &mut [f64],
+    readings: &mut [f64],
+    swaps: &mut [usize],
+) -> Result<Factored, Refusal>
     requires { (length matrix.old ≡ 4096) × (length readings.old ≡ 64) × (length swaps.old ≡ 128) }
     ensures result_value { factored result ≡ (holding file.now (stores matrix.old readings.old swaps.old)).answer }
     ensures swaps_after { stores matrix.new readings.new swaps.new

@@ -1,7 +1,7 @@
 -- How a pad's load moves as the code puts it together: the pad's number after the file's tests, then the factors and the transposed solve of its unit
 -- column; and what is known of the numbers. By the case of the outcome. Assumes nothing.
 use mathlib.Core.Path.{◌≡◌, refl, sym, ap, ◌∙◌}
-use mathlib.Core.Bool.{true, false, not, cond}
+use mathlib.Core.Bool.{Bool, true, false}
 use mathlib.Core.List.{List, [], ◌∷◌}
 use Prim.Native.Nat.{ℕ, zero, suc, ◌-◌, ◌≤◌, ◌<◌}
 use native.Mathlib.Nat.{le_of_suc-le-suc, not-suc-le-zero}
@@ -14,23 +14,24 @@ use Rattle.numbers.specs.Numbers.{zero64, one64}
 use Rattle.numbers.specs.Column.{Column}
 use Rattle.finite.specs.Finite.{all_finite}
 use Rattle.numbers.proofs.Choice.{test_cases}
-use Rattle.refusals.specs.Outcome.{Outcome, done, refused, first_holding, tested, and_then}
-use Rattle.refusals.proofs.Outcomes.{tested_some, tested_cases}
+use Rattle.std.proofs.Common.{Result, Err}
+use Rattle.refusals.specs.declared.Refusal.{Refusal}
+use Rattle.refusals.specs.Outcome.{Outcome, done, refused, number, first_holding, tested, and_then}
+use Rattle.refusals.proofs.Outcomes.{never_0, tested_some, tested_cases}
 use Rattle.refusals.proofs.Tests.{neither}
 use Rattle.factors.specs.declared.Record.{Record}
 use Rattle.from_factors.specs.Solving.{unit_column}
 use Rattle.panel_file.specs.File.{pads_of}
 use Rattle.panel_file.specs.Reading.{file_tests, file_refusal}
-use Rattle.refusals.proofs.Cases.{first_among, first_behind, tested_done, tested_refused, then_done, then_refused}
+use Rattle.refusals.proofs.Cases.{first_among, first_behind, refused_before, passed_before, tested_done, tested_refused, then_done, then_refused}
 use Rattle.panel_file.proofs.Reading.{file_numbered}
 use Rattle.crossing_pads.specs.declared.Order.{Order}
-use Rattle.crossing_pads.specs.declared.Order.TheVariants.{Refused}
 use Rattle.crossing.specs.Below.{Packed, packed_in, solution_by}
 use Rattle.crossing.specs.Factors.{factors_in, toss_ups_in, fronted}
 use Rattle.crossing_pads.specs.Ordering.{pads_ordered}
 use Rattle.crossing_pads.specs.Moving.{no_pad, moves_refusal, moves_of, moving}
 use Rattle.crossing.proofs.Below.{solution_finite, solution_few}
-use Rattle.crossing.proofs.Factors.{factors_few, factors_size}
+use Rattle.crossing.proofs.Factors.{fronted_kept, factors_few, factors_size}
 
 -- ---- the pad's number and its unit column
 
@@ -85,7 +86,7 @@ module _ (bytes : List ℕ) (pad : ℕ) where
 
     module _ (out : Column) where
       pub moving_held : (told : Record) (M : Column) (S : List ℕ) → factors_in bytes ≡ done (packed_in M S told) → told.rows ≡ n → (tossed : ℕ)
-          → tossed ≡ toss_ups_in bytes → (answer : Order) (x : Column)
+          → tossed ≡ toss_ups_in bytes → (answer : Result Order Refusal) (x : Column)
           → pads_ordered answer ≡ and_then (solution_by true (packed_in M S told) (unit_column told.rows (pad - 1))) (λ _. done (told.rows, tossed))
           → x ≡ fronted told.rows (solution_by true (packed_in M S told) (unit_column told.rows (pad - 1))) out
           → (pads_ordered answer ≡ (moving bytes pad out).answer) × (x ≡ (moving bytes pad out).left)
@@ -96,42 +97,35 @@ module _ (bytes : List ℕ) (pad : ℕ) where
           ∙ sym moves_are in
           (p ∙ (λ i. and_then (same i) (λ _. done (d i, t i))), f ∙ (λ i. fronted (d i) (same i) out))
 
-      pub moving_refused : (k m : ℕ) (answer : Order) (x : Column) → factors_in bytes ≡ refused k → m ≡ n → answer ≡ Refused k → x ≡ fronted m (refused k) out
+      pub moving_refused : (r : Refusal) (m : ℕ) (answer : Result Order Refusal) (x : Column) → factors_in bytes ≡ refused (number r) → m ≡ n
+          → answer ≡ Err r → x ≡ fronted m (refused (number r)) out
           → (pads_ordered answer ≡ (moving bytes pad out).answer) × (x ≡ (moving bytes pad out).left)
-      unfolding moving pads_ordered
-      moving_refused k m answer x e d a f =
-          let same : refused k ≡ moves_of bytes pad = ap (λ (o : Outcome Packed). and_then o next) (sym e) ∙ sym moves_are in
+      unfolding moving
+      moving_refused r m answer x e d a f =
+          let same : refused (number r) ≡ moves_of bytes pad = ap (λ (o : Outcome Packed). and_then o next) (sym e) ∙ sym moves_are in
           (ap pads_ordered a ∙ ap (λ (o : Outcome Column). and_then o (λ _. done (n, toss_ups_in bytes))) same, f ∙ (λ i. fronted (d i) (same i) out))
 
   -- no such pad: the file's refusal, else 1
-  module _ (number k : ℕ) (nowhere : no_pad n pad ≡ true) (e : number ≡ file_refusal bytes) (d : k ≡ cond (not (eqb number 0)) number 1) where
-    none : number ≡ 0 → k ≡ 1
-    none z = d ∙ rw (eq-eqb number 0 z)
+  pub refused_by_file : (r : Refusal) → number r ≡ file_refusal bytes → number r ≡ moves_refusal bytes pad
+  unfolding moves_refusal file_refusal
+  refused_by_file r e = refused_before (file_tests true bytes) ((1, no_pad n pad) ∷ []) r e
 
-    given : (number ≡ 0 → ⊥) → k ≡ number
-    given h = d ∙ rw (ne_eqb number 0 h)
+  pub refused_by_pad : no_pad n pad ≡ true → 0 ≡ file_refusal bytes → 1 ≡ moves_refusal bytes pad
+  unfolding moves_refusal file_refusal first_holding
+  refused_by_pad nowhere e =
+      ap (λ (t : Bool). first_holding ((1, t) ∷ [])) (sym nowhere)
+      ∙ passed_before (file_tests true bytes) ((1, no_pad n pad) ∷ []) (file_numbered true bytes) e
 
-    is : moves_refusal bytes pad ≡ k
-    unfolding first_holding
-    is =
-        behind ∙ rw nowhere
-        (tested_cases (file_refusal bytes) (λ k. k) 1 (λ x. x ≡ k) (λ z. sym (none (e ∙ z))) (λ h. sym (given (λ z. h (sym e ∙ z)) ∙ e)))
-
-    some : k ≡ 0 → ⊥
-    some z =
-        test_cases (eqb number 0) (λ t. omega (arith, z, none (eqb-true number 0 t))) (λ t. eqb-false number 0 t (sym (given (eqb-false number 0 t)) ∙ z))
-
-    pub nowhere_early : k ≡ 7 → ⊥
-    nowhere_early z =
-        moves_among (λ j. j ≡ 7 → ⊥) (λ z. omega (arith, z)) (λ z. omega (arith, z)) (λ z. omega (arith, z)) (λ z. omega (arith, z)) (λ z. omega (arith, z))
-        (is ∙ z)
-
-    pub moving_nowhere : (out : Column) (m : ℕ) (answer : Order) (x : Column) → m ≡ n → answer ≡ Refused k → x ≡ fronted m (refused k) out
-        → (pads_ordered answer ≡ (moving bytes pad out).answer) × (x ≡ (moving bytes pad out).left)
-    unfolding moving moves_of pads_ordered
-    moving_nowhere out m answer x c a f =
-        let same : refused k ≡ moves_of bytes pad = ap refused (sym is) ∙ sym (tested_some (moves_refusal bytes pad) refused _ (λ z. some (sym is ∙ z))) in
-        (ap pads_ordered a ∙ ap (λ (o : Outcome Column). and_then o (λ _. done (n, toss_ups_in bytes))) same, f ∙ (λ i. fronted (c i) (same i) out))
+  pub moving_early : (r : Refusal) (answer : Result Order Refusal) (out : Column) → number r ≡ moves_refusal bytes pad → answer ≡ Err r
+      → (pads_ordered answer ≡ (moving bytes pad out).answer) × (out ≡ (moving bytes pad out).left)
+  unfolding moving moves_of
+  moving_early r answer out e a =
+      let same : refused (number r) ≡ moves_of bytes pad = ap refused e ∙ sym (tested_some (moves_refusal bytes pad) refused _ (λ z. never_0 r (e ∙ z))) in
+      let early : number r ≡ 7 → ⊥ = rw e (moves_among (λ j. j ≡ 7 → ⊥) (λ z. omega (arith, z)) (λ z. omega (arith, z)) (λ z. omega (arith, z))
+      (λ z. omega (arith, z)) (λ z. omega (arith, z))) in (
+        ap pads_ordered a ∙ ap (λ (o : Outcome Column). and_then o (λ _. done (n, toss_ups_in bytes))) same,
+        fronted_kept n (number r) out early ∙ ap (λ (o : Outcome Column). fronted n o out) same,
+      )
 
   -- what the numbers are known by
   pub moves_known : (x : Column) → moves_of bytes pad ≡ done x → (n ≤ 64) × (all_finite x ≡ true)

@@ -76,7 +76,8 @@ fn refuse(refusal: Refusal, n: usize, out: &mut [f64]) -> Result<Order, Refusal>
     ensures value { result ≡ Err refusal }
     ensures out_after { out.new ≡ fronted n (refused (number refusal)) out.old }
 {
-    if refusal == Refusal::Overflow {
+    let overflown = refusal == Refusal::Overflow;
+    if overflown {
         blas::fill_zero(&mut out[..n]);
     }
     Err(refusal)
@@ -109,7 +110,11 @@ fn rank_loads(
 }
 
 // The whole answer for a panel file: its pads in rank order, with their loads in pad order.
-pub fn pad_order(file: &[u8], ranks: &mut [usize; 64], loads: &mut [f64; 64]) -> Result<Order, Refusal>
+pub fn pad_order(
+    file: &[u8],
+    ranks: &mut [usize; 64],
+    loads: &mut [f64; 64],
+) -> Result<Order, Refusal>
     ensures result_value { pads_ordered result ≡ (ordering file.now ranks.old loads.old).answer }
     ensures ranks_after { ranks.new ≡ (ordering file.now ranks.old loads.old).left.ranks }
     ensures loads_after { loads.new ≡ (ordering file.now ranks.old loads.old).left.loads }
@@ -158,7 +163,8 @@ pub fn moves(file: &[u8], pad: usize, out: &mut [f64; 64]) -> Result<Order, Refu
     ensures out_len { length out.new ≡ 64 }
 {
     let n = panel_file::pads_of(file);
-    if (pad == 0) | (n < pad) {
+    let nowhere = (pad == 0) | (n < pad);
+    if nowhere {
         panel_file::test_file(file)?;
         return Err(Refusal::Size);
     }

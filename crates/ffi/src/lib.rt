@@ -27,6 +27,7 @@ use refusals::Refusal;
 use season::Season;
 
 // Tells factors' record and their toss-ups, or none, through pointers. Answers the refusal's number.
+#[tactic(auto, unfolding(lu::specs::Factoring::pairs_in, lu::specs::Factoring::dead_columns_in, lu::specs::Factoring::tossed_in))]
 pub fn tell_factored(
     answer: Result<Factored, Refusal>,
     pairs: &mut usize,
@@ -79,6 +80,7 @@ pub fn wejdarox_factor(
 }
 
 // Adds a raw column to m by n factors with *pairs swaps and *dead dead columns. Refused: both as they were, and no toss-ups.
+#[tactic(auto, unfolding(lu::specs::Factoring::tossed_in))]
 pub fn wejdarox_add_column(
     factors: &mut [f64],
     column: &[f64],
@@ -114,17 +116,17 @@ pub fn wejdarox_add_column(
     };
     match adding::add_column(factors, column, swaps, held) {
         Ok(Factored {
-            told,
+            told: grown,
             toss_ups: tossed,
         }) => {
-            *pairs = told.pairs;
-            *dead = told.dead;
+            *pairs = grown.pairs;
+            *dead = grown.dead;
             *toss_ups = tossed;
             0
         }
-        Err(refusal) => {
+        Err(refused) => {
             *toss_ups = 0;
-            usize::from(refusal)
+            usize::from(refused)
         }
     }
 }
@@ -311,6 +313,7 @@ pub fn wejdarox_rank_all(loads: &[f64], n: usize, ranks: &mut [usize], count: &m
 }
 
 // Tells the numbers of pads and of toss-ups, or none, through pointers. Answers the refusal's number.
+#[tactic(auto, unfolding(lu::specs::Factoring::tossed_in))]
 pub fn tell_order(
     answer: Result<Order, Refusal>,
     pads: &mut usize,

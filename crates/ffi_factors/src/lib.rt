@@ -13,6 +13,7 @@ ghost use Rattle.from_factors.specs.Solving.{tr_solving};
 use factors::Record;
 
 // Takes the last column off m by n factors with *pairs swaps and *dead dead columns. Refused: both as they were.
+#[tactic(auto, unfolding(factors::specs::Factors::record_after))]
 pub fn wejdarox_remove_column(
     factors: &mut [f64],
     swaps: &mut [usize],

@@ -162,9 +162,9 @@ solve_one =
 abbrev zero_there : ℕ × Column → Bool
 zero_there x = zero_on_diagonal x.1 x.0
 
-pub zero_on_diagonal_lem : Strong zero_there (ShutsOut zero_there (λ x. is_zero (entry x.1 0)))
+pub zero_on_diagonal_not_first_alone : Strong zero_there (ShutsOut zero_there (λ x. is_zero (entry x.1 0)))
 unfolding Solves
-zero_on_diagonal_lem =
+zero_on_diagonal_not_first_alone =
     strong zero_there (1, n0 ∷ []) (1, n1 ∷ []) (λ d. let z : ◌≡◌ {A = ℕ} 0 1 = cc in omega arith)
     (shut_out zero_there (λ x. is_zero (entry x.1 0)) (2, n1 ∷ n0 ∷ n0 ∷ n0 ∷ []) (λ d. let z : ◌≡◌ {A = ℕ} 0 1 = cc in omega arith))
 
@@ -260,9 +260,9 @@ asks = record { square = true; solves = false; sizes = true; lengths = true; lis
 abbrev store_unread : Asks × Held → ℕ
 store_unread x = held_refusal x.1.1.0 (store_of []) x.1.0 x.0
 
-pub held_refusal_lem : Strong refusal_by (ShutsOut refusal_by store_unread)
+pub held_refusal_not_unread : Strong refusal_by (ShutsOut refusal_by store_unread)
 unfolding Triangles
-held_refusal_lem =
+held_refusal_not_unread =
     strong refusal_by (asks, packed) (asks, no_rows) (λ d. omega (arith, d))
     (shut_out refusal_by store_unread (asks, (record_of 2 2 1 0, (n2 ∷ n0 ∷ n0 ∷ n1 ∷ [], store_of ((0, 1) ∷ [])))) (λ d. omega (arith, d)))
 

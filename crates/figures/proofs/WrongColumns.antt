@@ -23,8 +23,9 @@ use Rattle.store.specs.Columns.{columns, flat, is_matrix, on_columns}
 use Rattle.store.specs.Steps.{column, swap_in_all, rows_swapped, columns_swapped}
 use Rattle.one_step.specs.OneStep.{step_column, step_columns, eliminated}
 use Rattle.four_steps.specs.FourSteps.{step_by, four_steps, four_stepped, four_stepped_on}
-use Rattle.refusals.specs.declared.Answer.{Answer}
-use Rattle.refusals.specs.declared.Answer.TheVariants.{Done, Refused}
+use Rattle.std.proofs.Common.{Result, Ok, Err}
+use Rattle.refusals.specs.declared.Refusal.{Refusal}
+use Rattle.refusals.specs.declared.Refusal.TheVariants.{Overflow}
 use Rattle.refusals.specs.Outcome.{Outcome, done, refused, number_of, first_holding, tested, Call, outcome}
 use Rattle.refusals.specs.Refusals.{outside, seventh}
 use Rattle.refusals.proofs.Strength.{ShutsOut, shut_out, TwoShutOut, two, done_refused}
@@ -37,8 +38,7 @@ unfolding add sub mul div neg eq lt of_bits each_from turns_from is_zero magnitu
     add_block
     eight_sums pair_sums dot_of columns flat is_matrix on_columns swap_in_all rows_swapped step_column step_columns eliminated step_by four_steps
     four_stepped four_stepped_on
-    first_holding outside tested
-    outcome number_of seventh
+    first_holding outside tested seventh
 Runs = Unit {0}
 
 abbrev -n1 : Float
@@ -67,9 +67,9 @@ first_differs d = let z : ◌≡◌ {A = ℕ} 0 1 = cc in omega arith
 -- ---- single numbers and columns
 
 -- every number not above zero
-pub is_zero_lem : TwoShutOut is_zero (λ x. not (lt n0 x))
+pub is_zero_not_below_zero : TwoShutOut is_zero (λ x. not (lt n0 x))
 unfolding Runs
-is_zero_lem = two is_zero (λ x. not (lt n0 x)) -n1 n0 n1 false_true true_false
+is_zero_not_below_zero = two is_zero (λ x. not (lt n0 x)) -n1 n0 n1 false_true true_false
 
 -- the number itself
 pub magnitude_call : TwoShutOut magnitude (λ x. x)
@@ -131,9 +131,9 @@ unfolding Runs
 fill_zero = two fills (λ c. c) (n1 ∷ []) (n1 ∷ []) (n1 ∷ n1 ∷ []) first_differs (λ d. omega (arith, ap length d))
 
 -- the first number alone tested
-pub all_finite_lem : TwoShutOut all_finite (λ c. finite (entry c 0))
+pub all_finite_not_first_alone : TwoShutOut all_finite (λ c. finite (entry c 0))
 unfolding Runs
-all_finite_lem = two all_finite (λ c. finite (entry c 0)) (n1 ∷ nan ∷ []) (n1 ∷ []) (nan ∷ []) false_true true_false
+all_finite_not_first_alone = two all_finite (λ c. finite (entry c 0)) (n1 ∷ nan ∷ []) (n1 ∷ []) (nan ∷ []) false_true true_false
 
 -- every number taken for finite that equals itself, as infinities do
 pub is_finite : TwoShutOut finite (λ x. eq x x)
@@ -161,9 +161,9 @@ min_call = two least (λ x. x.0) (1, 0) (0, 0) (1, 1) (λ d. omega (arith, d)) (
 abbrev fits : ℕ × (ℕ × Column) → Bool
 fits x = is_matrix x.1.1 x.0 x.1.0
 
-pub is_matrix_lem : TwoShutOut fits (λ x. ltb 0 (length x.1.1))
+pub is_matrix_not_any_filled : TwoShutOut fits (λ x. ltb 0 (length x.1.1))
 unfolding Runs
-is_matrix_lem = two fits (λ x. ltb 0 (length x.1.1)) (2, (1, n1 ∷ [])) (1, (1, n1 ∷ [])) (1, (1, [])) false_true true_false
+is_matrix_not_any_filled = two fits (λ x. ltb 0 (length x.1.1)) (2, (1, n1 ∷ [])) (1, (1, n1 ∷ [])) (1, (1, [])) false_true true_false
 
 -- the slice as it was
 abbrev Sized : Type 0
@@ -172,9 +172,9 @@ Sized = ℕ × (ℕ × Column)
 abbrev rows : (ℕ × (ℕ × (ℕ × ℕ))) × Sized → Column
 rows x = on_columns x.1.0 x.1.1.0 (rows_swapped x.0.0 x.0.1.0 x.0.1.1.0 x.0.1.1.1) x.1.1.1
 
-pub swap_rows_lem : TwoShutOut rows (λ x. x.1.1.1)
+pub swap_rows_not_idle : TwoShutOut rows (λ x. x.1.1.1)
 unfolding Runs
-swap_rows_lem =
+swap_rows_not_idle =
     two rows (λ x. x.1.1.1) ((0, (1, (0, 1))), (2, (1, n1 ∷ n2 ∷ []))) ((0, (1, (0, 1))), (2, (1, n1 ∷ n2 ∷ []))) ((0, (1, (0, 1))), (2, (1, n2 ∷ n1 ∷ [])))
     two_one two_one
 
@@ -240,9 +240,9 @@ five_differ d = let z : ◌≡◌ {A = ℕ} 0 1 = cc in omega arith
 abbrev fours : (ℕ × ℕ) × Sized → Column
 fours x = on_columns x.1.0 x.1.1.0 (four_stepped x.1.0 x.0.0 x.0.1) x.1.1.1
 
-pub four_steps_lem : TwoShutOut fours (λ x. x.1.1.1)
+pub four_steps_not_idle : TwoShutOut fours (λ x. x.1.1.1)
 unfolding Runs
-four_steps_lem = two fours (λ x. x.1.1.1) ((0, 4), (4, (5, five_before))) ((0, 4), (4, (5, five_before))) ((0, 4), (4, (5, five_still))) five_differ still_five
+four_steps_not_idle = two fours (λ x. x.1.1.1) ((0, 4), (4, (5, five_before))) ((0, 4), (4, (5, five_before))) ((0, 4), (4, (5, five_still))) five_differ still_five
 
 -- the steps on every column from that one on: a sixth column, like the fifth, would change with it
 abbrev sixth : Column → Column
@@ -287,16 +287,16 @@ unfolding Runs
 answer_for = two answers_for refused 0 0 1 done_refused done_refused
 
 -- 1 for every refusal
-abbrev numbers : Answer → ℕ
+abbrev numbers : Result (Unit {0}) Refusal → ℕ
 numbers answer = number_of (outcome answer)
 
-abbrev told_one : Answer → ℕ
-told_one Done = 0
-told_one (Refused number) = 1
+abbrev told_one : Result (Unit {0}) Refusal → ℕ
+told_one (Ok made) = 0
+told_one (Err refusal) = 1
 
-pub number_of_lem : TwoShutOut numbers told_one
+pub number_of_not_always_one : TwoShutOut numbers told_one
 unfolding Runs
-number_of_lem = two numbers told_one (Refused 7) (Refused 7) Done (λ d. omega (arith, d)) (λ d. omega (arith, d))
+number_of_not_always_one = two numbers told_one (Err Overflow) (Err Overflow) (Ok tt) (λ d. omega (arith, d)) (λ d. omega (arith, d))
 
 -- accepted always, the slice as it was
 pub settle : TwoShutOut seventh leaves

@@ -17,13 +17,14 @@ use Rattle.numbers.specs.Column.{Column, entry, zeros}
 use Rattle.min_max.specs.TossUp.{shared_from, toss_up}
 use Rattle.elimination.specs.TossUps.{toss_at, toss_from, toss_ups}
 use Rattle.finite.proofs.Finite.{finite_zeros}
+use Rattle.std.proofs.Common.{Err}
+use Rattle.refusals.specs.declared.Refusal.TheVariants.{Size, Length}
 use Rattle.refusals.specs.Outcome.{Outcome, done, refused, number_of, first_holding, tested, and_then, Call}
 use Rattle.refusals.specs.Refusals.{outside}
 use Rattle.refusals.proofs.Strength.{ShutsOut, shut_out, BothShutOut, both, Strong, strong, Keeps, StrongBy, strong_by, done_refused}
 use Rattle.panel_file.specs.File.{little_endian, field_at, headed, pads_of, number_at}
 use Rattle.panel_file.specs.Reading.{file_tests, file_refusal, Stores, stores, reading_refusal, filled, reading, sized_refusal, reading_sized}
-use Rattle.panel_file_writer.specs.Writing.{writing_refusal, bytes_written, written, Writing}
-use Rattle.panel_file_writer.specs.declared.Written.TheVariants.{Refused as NotWritten}
+use Rattle.panel_file_writer.specs.Writing.{writing_refusal, written, Writing}
 use Rattle.panel_file_writer.proofs.Writing.{Fit, not_refused, write_refused}
 use Rattle.panel_file_writer.proofs.Crossings.{one_writing}
 use Rattle.ranking.specs.Ranking.{ahead, insert_pad, ranked, pads_to}
@@ -136,12 +137,12 @@ abbrev idle : (Crossing → Outcome ℕ) → Crossing → Call ℕ (List ℕ)
 idle answer x = record { answer = answer x; left = x.out }
 
 pub write : StrongBy Writes ((answer : Crossing → Outcome ℕ) → Keeps Writes (idle answer) → ⊥)
-unfolding Answers writing_refusal bytes_written
+unfolding Answers writing_refusal
 write =
     strong_by Writes (λ x o q a b. one_writing x.n x.matrix x.readings x.out o q a b)
-    none no_numbers (written (NotWritten 1) []) (written (NotWritten 3) [])
-    (write_refused 0 [] [] [] 1 refl (λ d. omega (arith, d)))
-    (write_refused 1 [] [] [] 3 refl (λ d. omega (arith, d)))
+    none no_numbers (written (Err Size) []) (written (Err Length) [])
+    (write_refused 0 [] [] [] Size (Err Size) refl refl)
+    (write_refused 1 [] [] [] Length (Err Length) refl refl)
     (λ d. omega (arith, ap (λ (o : Call ℕ (List ℕ)). number_of o.answer) d))
     (λ answer keeps. not_idle (answer one_pad) (keeps one_pad))
   where

@@ -28,7 +28,7 @@ use Rattle.figures.proofs.WrongFiles.{zero_one}
 Profiles : Type 0
 unfolding Computes little_endian field_at headed number_at file_tests file_refusal factors_of solution_by factors_in loads_of general_path profile_of
     four_of general_path_in
-    four_pads_in number_of
+    four_pads_in
 Profiles = Unit {0}
 
 -- ---- a matrix and readings

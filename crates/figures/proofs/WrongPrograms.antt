@@ -51,12 +51,12 @@ a = n0 ∷ n2 ∷ n1 ∷ n0 ∷ []
 abbrev given : Factoring
 given = accepted (record_of 2 2 1 0) (n2 ∷ n0 ∷ n0 ∷ n1 ∷ []) ((0, 1) ∷ [])
 
-first_line_lem : factoring a 2 2 (ones 4) (replicate 128 1) ≡ given
-first_line_lem = let e = ap (λ l. get_or l 0 (determinant (done n0))) every_line in cc
+first_line_factored : factoring a 2 2 (ones 4) (replicate 128 1) ≡ given
+first_line_factored = let e = ap (λ l. get_or l 0 (determinant (done n0))) every_line in cc
 
 module _ (p : Program) (meets : Meets p) where
   there : p 2 2 a (ones 4) (replicate 128 1) ≡ given
-  there = meets 2 2 a (ones 4) (replicate 128 1) ∙ first_line_lem
+  there = meets 2 2 a (ones 4) (replicate 128 1) ∙ first_line_factored
 
   pub not_always_seven : ((m n : ℕ) (a out : Column) (store : List ℕ) → (p m n a out store).answer ≡ refused 7) → ⊥
   not_always_seven all = done_refused (sym (ap (λ (o : Factoring). o.answer) there) ∙ all 2 2 a (ones 4) (replicate 128 1))
@@ -154,9 +154,9 @@ no_rows_back x =
     let unswapped = take ((x.0.columns - 1) * x.0.rows) x.1.0 ++ zeros x.0.rows in
     record { answer = (removes x).answer; left = slices unswapped (removes x).left.store }
 
-pub remove_column_lem : TwoShutOut removes no_rows_back
+pub remove_column_not_unswapped : TwoShutOut removes no_rows_back
 unfolding Computes
-remove_column_lem =
+remove_column_not_unswapped =
     shut-out-two removes no_rows_back exchanged_rows exchanged_rows no_columns
     (λ d.
     let e : ◌≡◌ {A = Column} (n4 ∷ half ∷ n0 ∷ n0 ∷ n0 ∷ n0 ∷ []) (n4 ∷ n0 ∷ half ∷ n0 ∷ n0 ∷ n0 ∷ []) =
@@ -172,8 +172,8 @@ tosses x = toss_ups x.0 x.1
 abbrev swaps_recorded : ℕ × Matrix → ℕ
 swaps_recorded x = length (eliminate x.0 x.1).swaps
 
-pub toss_ups_lem : TwoShutOut tosses swaps_recorded
+pub toss_ups_not_swaps : TwoShutOut tosses swaps_recorded
 unfolding Computes shared_from toss_up toss_at toss_from toss_ups
-toss_ups_lem =
+toss_ups_not_swaps =
     shut-out-two tosses swaps_recorded (2, (n1 ∷ n1 ∷ []) ∷ []) (2, (n1 ∷ n1 ∷ []) ∷ []) (2, (n1 ∷ n0 ∷ []) ∷ [])
     (λ d. omega (arith, d)) (λ d. omega (arith, d))

@@ -37,9 +37,9 @@ unsigned_alone s = map (λ v. cond (is_minus v) n1 v) s
 abbrev plus_alone : ℕ × (ℕ × Column) → ℕ
 plus_alone x = dead_of (unsigned_alone x.1.1) x.0 x.1.0
 
-pub dead_of_lem : Strong counts (ShutsOut counts plus_alone)
+pub dead_of_not_plus_alone : Strong counts (ShutsOut counts plus_alone)
 unfolding Computes
-dead_of_lem =
+dead_of_not_plus_alone =
     strong counts (1, (1, n0 ∷ [])) (1, (1, n1 ∷ [])) (λ d. omega (arith, d))
     (shut_out counts plus_alone (1, (1, -n0 ∷ [])) (λ d. omega (arith, d)))
 
@@ -47,9 +47,9 @@ dead_of_lem =
 abbrev counts_at : ℕ × Column → ℕ
 counts_at x = dead_at x.0 x.1
 
-pub dead_at_lem : Strong counts_at (ShutsOut counts_at (λ x. dead_at 0 x.1))
+pub dead_at_not_first_number : Strong counts_at (ShutsOut counts_at (λ x. dead_at 0 x.1))
 unfolding Computes
-dead_at_lem =
+dead_at_not_first_number =
     strong counts_at (0, n0 ∷ []) (0, n1 ∷ []) (λ d. omega (arith, d))
     (shut_out counts_at (λ x. dead_at 0 x.1) (1, n0 ∷ n1 ∷ []) (λ d. omega (arith, d)))
 

@@ -89,9 +89,9 @@ refusal x = permuting_refusal (slice x.1) x.1.0 x.1.1.0 x.1.1.1.1.0 x.1.1.1.0 x.
 abbrev list_untested : ℕ × Permuted → ℕ
 list_untested x = permuting_refusal (slice x.1) x.1.0 x.1.1.0 x.1.1.1.1.0 0 x.0
 
-pub permuting_refusal_lem : Strong refusal (ShutsOut refusal list_untested)
+pub permuting_refusal_not_untested : Strong refusal (ShutsOut refusal list_untested)
 unfolding Applies
-permuting_refusal_lem =
+permuting_refusal_not_untested =
     strong refusal (2, two_rows) (1, two_rows) (λ d. omega (arith, d))
     (shut_out refusal list_untested (1, two_rows) (λ d. omega (arith, d)))
 

@@ -37,6 +37,7 @@ fn lower_columns(out: &mut [f64], m: usize, n: usize, k: usize, factors: &[f64])
 }
 
 // The lower triangular matrix of the factors, m by min(m, n).
+#[tactic(auto, unfolding(crate::specs::Triangles::lowering, refusals::specs::Outcome::tested))]
 pub fn l(factors: &[f64], swaps: &[usize], told: Record, out: &mut [f64]) -> Result<(), Refusal>
     ensures result_value { outcome result ≡ (lowering factors.now swaps.now told out.old).answer }
     ensures out_after { out.new ≡ (lowering factors.now swaps.now told out.old).left }
@@ -86,6 +87,7 @@ fn upper_columns(out: &mut [f64], m: usize, n: usize, k: usize, factors: &[f64])
 }
 
 // The upper triangular matrix of the factors, min(m, n) by n.
+#[tactic(auto, unfolding(crate::specs::Triangles::uppering, refusals::specs::Outcome::tested))]
 pub fn u(factors: &[f64], swaps: &[usize], told: Record, out: &mut [f64]) -> Result<(), Refusal>
     ensures result_value { outcome result ≡ (uppering factors.now swaps.now told out.old).answer }
     ensures out_after { out.new ≡ (uppering factors.now swaps.now told out.old).left }
@@ -156,6 +158,7 @@ fn solve_mut_by(
 }
 
 // Solves for the k right-hand columns b, into x, by the system or by the transposed one.
+#[tactic(auto, unfolding(refusals::specs::Outcome::tested))]
 fn solve_by(
     transposed: bool,
     factors: &[f64],
@@ -238,6 +241,7 @@ fn fill_with_identity(x: &mut [f64], n: usize)
 }
 
 // The inverse, into x: solve with the identity.
+#[tactic(auto, unfolding(crate::specs::Solving::inverting, refusals::specs::Outcome::tested))]
 pub fn inverse(factors: &[f64], swaps: &[usize], told: Record, x: &mut [f64]) -> Result<(), Refusal>
     ensures result_value { outcome result ≡ (inverting factors.now swaps.now told x.old).answer }
     ensures x_after { x.new ≡ (inverting factors.now swaps.now told x.old).left }
@@ -273,6 +277,7 @@ fn diagonal_product(factors: &[f64], n: usize) -> f64
 }
 
 // The product of the diagonal, or the refusal before the work.
+#[tactic(auto, unfolding(crate::specs::Determinant::producing, refusals::specs::Outcome::tested))]
 fn product(factors: &[f64], swaps: &[usize], told: Record) -> Result<f64, Refusal>
     ensures { outcome result ≡ producing factors.now swaps.now told }
 {
@@ -289,6 +294,7 @@ fn product(factors: &[f64], swaps: &[usize], told: Record) -> Result<f64, Refusa
 }
 
 // A finite number, or refusal 7.
+#[tactic(auto, unfolding(crate::specs::Determinant::number_or7))]
 fn number_or_7(x: f64) -> Result<f64, Refusal>
     ensures { outcome result ≡ number_or7 x }
 {
@@ -300,14 +306,19 @@ fn number_or_7(x: f64) -> Result<f64, Refusal>
 }
 
 // The determinant of the factored matrix.
+#[tactic(auto, unfolding(crate::specs::Determinant::determining))]
 pub fn determinant(factors: &[f64], swaps: &[usize], told: Record) -> Result<f64, Refusal>
     ensures { outcome result ≡ determining factors.now swaps.now told }
 {
-    let res = product(factors, swaps, told)?;
+    let answer = product(factors, swaps, told);
+    let Ok(res) = answer else {
+        return answer;
+    };
     number_or_7(res * permutation_sequence::determinant(told.pairs))
 }
 
 // Whether the factored matrix is invertible: no dead column.
+#[tactic(auto, unfolding(crate::specs::Determinant::inverse_test, refusals::specs::Outcome::tested))]
 pub fn is_invertible(factors: &[f64], swaps: &[usize], told: Record) -> Result<bool, Refusal>
     ensures { outcome result ≡ inverse_test factors.now swaps.now told }
 {

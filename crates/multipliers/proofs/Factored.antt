@@ -19,6 +19,7 @@ use Rattle.store.specs.Columns.{columns, HasRows}
 use Rattle.store.specs.Steps.{Matrix, column}
 use Rattle.store.proofs.Columns.{length_columns}
 use Rattle.store.proofs.Lasting.{column_finite}
+use Rattle.std.proofs.Common.{Ok}
 use Rattle.refusals.specs.Outcome.{done}
 use Rattle.factors.specs.declared.Record.{Record}
 use Rattle.factors.specs.Factors.{Factoring}
@@ -26,8 +27,8 @@ use Rattle.elimination.specs.Elimination.{eliminate}
 use Rattle.elimination.specs.Reason.{finite_in}
 use Rattle.elimination.specs.TossUps.{toss_ups}
 use Rattle.elimination.proofs.Step.{length_eliminate, rows_eliminate}
-use Rattle.lu.specs.declared.Factored.TheVariants.{Accepted}
-use Rattle.lu.specs.Factoring.{factoring, factored, factoring_answer}
+use Rattle.lu.specs.declared.Factored.{Factored}
+use Rattle.lu.specs.Factoring.{factoring, factoring_answer}
 use Rattle.lu.proofs.Told.{told_accepted, Promise}
 use Rattle.lu.proofs.Shape.{shape}
 use Rattle.adding.specs.Adding.{adding}
@@ -97,12 +98,12 @@ module _ (m n : ℕ) (a out : Column) (store : List ℕ) (told : Record) (ok : (
       (factored_growth units room j j jn rows (omega (arith, steps))))
 
 -- THEOREM. So it is by the contract of `factor`, of `factor_mut` and of `build_up`, which is one: where the answer is accepted, of the slice that is left.
-pub promised_within_one : (m n : ℕ) (a out : Column) (store : List ℕ) (told : Record) (tossed : ℕ) (s : Column) (store' : List ℕ)
-    → Promise m n a out store (Accepted told tossed) s store' → WithinOne most_units m n (columns m n s)
+pub promised_within_one : (m n : ℕ) (a out : Column) (store : List ℕ) (made : Factored) (s : Column) (store' : List ℕ)
+    → Promise m n a out store (Ok made) s store' → WithinOne most_units m n (columns m n s)
 unfolding factoring_answer
-promised_within_one m n a out store told tossed s store' kept =
-    let took = told_accepted (toss_ups m (columns m n a)) (factoring a m n out store).answer told tossed kept.0 in
-    rw kept.1.0 (factored_within_one m n a out store told took.0)
+promised_within_one m n a out store made s store' kept =
+    let took = told_accepted (toss_ups m (columns m n a)) (factoring a m n out store).answer made.told made.toss_ups kept.0 in
+    rw kept.1.0 (factored_within_one m n a out store made.told took.0)
 
 -- ---- whatever an accepted factoring and any mix of accepted adding and taking off led to
 module _ (m n : ℕ) (a : Column) (r : Record) (o : Factoring) (how : Reached m n a r o) where

@@ -1,12 +1,12 @@
 -- How the elimination of a panel file's matrix went.
-use Rattle.std.specs.Prelude.{◌≡◌, List, ℕ, Float, length}
+use Rattle.std.specs.Prelude.{◌≡◌, List, ℕ, Float, length, Result, Ok, Err}
 use Rattle.numbers.specs.Column.{Column}
-use Rattle.refusals.specs.Outcome.{Outcome, done, refused}
+use Rattle.refusals.specs.declared.Refusal.{Refusal}
+use Rattle.refusals.specs.Outcome.{Outcome, done, refused, number}
 use Rattle.panel_file.specs.File.{pads_of, matrix_of}
 use Rattle.crossing.specs.Below.{Packed}
 use Rattle.crossing.specs.Factors.{toss_ups_in}
 use Rattle.panel_pivots.specs.declared.Pivots.{Pivots}
-use Rattle.panel_pivots.specs.declared.Pivots.TheVariants.{Told, Refused}
 use Rattle.panel_pivots.specs.Outermost.{Greatest, Least, diagonal_of}
 
 -- g and l are the greatest and the least magnitude on the diagonal of the n by n factors t
@@ -16,19 +16,18 @@ pub record Spans (t : Column) (n : ℕ) (g l : Float) : Type 0 where
 
 -- an answer that says so, beside what was known already
 pub record Spanned (t : Column) (n : ℕ) (tossed : ℕ) (most : Float) (r : Pivots) : Type 0 where
-  pub g : Float
-  pub l : Float
-  pub is : r ≡ Told tossed most g l
-  pub spans : Spans t n g l
+  pub toss_ups : r.toss_ups ≡ tossed
+  pub matrix : r.matrix ≡ most
+  pub spans : Spans t n r.greatest r.least
 
 -- the whole answer for a file whose factors are these, or that is refused
-pub record Measured (bytes : List ℕ) (f : Packed) (tossed : ℕ) (most g l : Float) : Type 0 where
-  pub toss_ups : tossed ≡ toss_ups_in bytes
-  pub matrix : Greatest (matrix_of (pads_of bytes) bytes) (length (matrix_of (pads_of bytes) bytes)) most
-  pub spans : Spans f.factors (pads_of bytes) g l
+pub record Measured (bytes : List ℕ) (f : Packed) (r : Pivots) : Type 0 where
+  pub toss_ups : r.toss_ups ≡ toss_ups_in bytes
+  pub matrix : Greatest (matrix_of (pads_of bytes) bytes) (length (matrix_of (pads_of bytes) bytes)) r.matrix
+  pub spans : Spans f.factors (pads_of bytes) r.greatest r.least
 
-unfoldable pub MeasuredAs : List ℕ → Outcome Packed → Pivots → Type 0
-MeasuredAs bytes (done f) (Told tossed most g l) = Measured bytes f tossed most g l
-MeasuredAs bytes (done f) (Refused number) = ⊥
-MeasuredAs bytes (refused k) (Told tossed most g l) = ⊥
-MeasuredAs bytes (refused k) (Refused number) = number ≡ k
+unfoldable pub MeasuredAs : List ℕ → Outcome Packed → Result Pivots Refusal → Type 0
+MeasuredAs bytes (done f) (Ok r) = Measured bytes f r
+MeasuredAs bytes (done f) (Err refusal) = ⊥
+MeasuredAs bytes (refused k) (Ok r) = ⊥
+MeasuredAs bytes (refused k) (Err refusal) = number refusal ≡ k

@@ -109,8 +109,12 @@ fn pivots_of(file: &[u8]) -> Result<Pivots, Refusal>
     let mut matrix = [0.0f64; 4096];
     let mut readings = [0.0f64; 64];
     let mut swaps = [0usize; 128];
-    let Factored { told, toss_ups } =
-        crossing::factor_file(file, &mut matrix, &mut readings, &mut swaps)?;
+    let Factored { told, toss_ups } = crossing::factor_file(
+        file,
+        &mut matrix,
+        &mut readings,
+        &mut swaps,
+    )?;
     Ok(span_front(toss_ups, most, &matrix, told.rows))
 }
 
@@ -133,12 +137,14 @@ fn print_count(word: &[u8], number: usize) {
 // Prints what a file comes to.
 fn print_pivots(file: &[u8]) {
     match pivots_of(file) {
-        Ok(Pivots {
-            toss_ups,
-            matrix,
-            greatest,
-            least,
-        }) => {
+        Ok(
+            Pivots {
+                toss_ups,
+                matrix,
+                greatest,
+                least,
+            },
+        ) => {
             print_count(b"toss-ups ", toss_ups);
             print_bits(b"matrix ", matrix);
             print_bits(b"greatest ", greatest);

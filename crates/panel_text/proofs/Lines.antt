@@ -82,9 +82,9 @@ pub record FirstLine (word : List ℕ) (n : ℕ) (s s2 : List ℕ) (end : ℕ) :
   pub count : end + 1 ≡ length (first_line word n)
   pub is : set s2 end 10 ≡ written 0 (first_line word n) s
 
-pub first_line_lem : (word : List ℕ) (n : ℕ) (s s1 s2 : List ℕ) (at end : ℕ) → length word + 3 ≤ length s → s1 ≡ written 0 word s → at ≡ 0 + length word
+pub first_line_written : (word : List ℕ) (n : ℕ) (s s1 s2 : List ℕ) (at end : ℕ) → length word + 3 ≤ length s → s1 ≡ written 0 word s → at ≡ 0 + length word
     → s2 ≡ written at (decimal n) s1 → end ≡ at + length (decimal n) → FirstLine word n s s2 end
-first_line_lem word n s s1 s2 at end h e d f g =
+first_line_written word n s s1 s2 at end h e d f g =
     let few = (length_decimal n).1 in
     let l1 : length (word ++ decimal n) ≡ length word + length (decimal n) = length-append word (decimal n) in
     let l2 : length (first_line word n) ≡ length (word ++ decimal n) + 1 = length-append (word ++ decimal n) (10 ∷ []) in

@@ -21,9 +21,9 @@ use Rattle.why_file.specs.Explaining.{explain_factors, explained_by, explain_fil
 
 -- what is printed of a file that its own tests refuse
 module _ (bytes : List ℕ) (some : file_refusal bytes ≡ 0 → ⊥) where
-  refused_text_lem : text_of bytes ≡ refused_text (file_refusal bytes)
+  refused_order : text_of bytes ≡ refused_text (file_refusal bytes)
   unfolding text_of order_text loads_of factors_in
-  refused_text_lem = rw (tested_some (file_refusal bytes) refused _ some)
+  refused_order = rw (tested_some (file_refusal bytes) refused _ some)
 
   moves_number : (pad : ℕ) → moves_refusal bytes pad ≡ file_refusal bytes
   unfolding moves_refusal file_refusal
@@ -45,7 +45,7 @@ module _ (bytes : List ℕ) (some : file_refusal bytes ≡ 0 → ⊥) where
 
 -- THEOREM. What `panel_order` prints of the at most 33,287 bytes that it reads is what the whole input asks for, however long it is.
 pub longer_text : (bytes : List ℕ) → text_of (take 33287 bytes) ≡ text_of bytes
-longer_text = any_longer text_of refused_text refused_text_lem
+longer_text = any_longer text_of refused_text refused_order
 
 -- THEOREM. The same of `panel_moves`, for any pad number, of `panel_stiffness` and of `panel_why`.
 pub longer_moves : (bytes : List ℕ) (pad : ℕ) → moves_text_of (take 33287 bytes) pad ≡ moves_text_of bytes pad

@@ -7,11 +7,13 @@ use native.Mathlib.Omega.{arith}
 use borrow.Author.Tests.{eq-eqb, ne_eqb}
 use lib.Dec.{eqb}
 use lib.ListN.{length, length-append}
-use Rattle.io.specs.Counts.{IsPrefixLen}
+use Rattle.std.specs.Prelude.{Option, Some, None}
 use Rattle.numbers.proofs.Choice.{cond_cases}
-use Rattle.why.specs.Why.{told_number}
+use Rattle.refusals.specs.declared.Refusal.{Refusal}
+use Rattle.refusals.specs.Outcome.{number}
+use Rattle.refusals.proofs.Outcomes.{never_0}
 use Rattle.why_file.specs.declared.WhyFile.{WhyFile}
-use Rattle.why_file.specs.declared.WhyFile.TheVariants.{Factoring, Singular, Solving}
+use Rattle.why_file.specs.declared.WhyFile.TheVariants.{Refused, Factoring, Singular, Solving}
 use Rattle.why_file.specs.Explaining.{explain_file, told_file}
 use Rattle.panel_text.specs.Text.{written, refused_text}
 use Rattle.panel_text.specs.Why.{
@@ -31,7 +33,6 @@ use Rattle.panel_text.specs.Why.{
   why_text_of,
 }
 use Rattle.panel_text.proofs.Writing.{length_written, written_more, length_decimal}
-use Rattle.panel_text.proofs.Printed.{text_counts}
 
 pub record Put (at : ℕ) (s t now : List ℕ) (end : ℕ) : Type 0 where
   pub size : length now ≡ length s
@@ -65,13 +66,13 @@ unfolding spot_text
 length_spot column row = simp length-append (omega (arith, length_place column_part column, length_place row_part row))
 
 -- ---- what each case prints
-pub told_none : (number : ℕ) → number ≡ 0 → no_reason_line ≡ reason_text (told_number number)
-unfolding reason_text
-told_none number e = rw (eq-eqb number 0 e)
+pub told_none : no_reason_line ≡ reason_text (told_file None)
+unfolding reason_text told_file
+told_none = refl
 
-pub told_some : (number : ℕ) → (number ≡ 0 → ⊥) → refused_text number ≡ reason_text (told_number number)
-unfolding reason_text column_line stage_line
-told_some number h = rw (ne_eqb number 0 h, append-nil, append-nil)
+pub told_refused : (refusal : Refusal) → refused_text (number refusal) ≡ reason_text (told_file (Some (Refused refusal)))
+unfolding reason_text told_file column_line stage_line
+told_refused refusal = rw (ne_eqb (number refusal) 0 (never_0 refusal), append-nil, append-nil)
 
 pub pass_lower : (pass : ℕ) → pass ≡ 1 → lower_word ≡ pass_word pass
 unfolding pass_word
@@ -85,31 +86,23 @@ pub length_pass : (pass : ℕ) → length (pass_word pass) ≡ 19
 unfolding pass_word
 length_pass pass = cond_cases (λ (w : List ℕ). length w ≡ 19) (eqb pass 1) (λ _. refl) (λ _. refl)
 
-pub told_factoring : (i j r : ℕ) → refused_text 7 ++ place_text step_word i ++ spot_text j r ≡ reason_text (told_file (Factoring i j r))
+pub told_factoring : (i j r : ℕ) → refused_text 7 ++ place_text step_word i ++ spot_text j r ≡ reason_text (told_file (Some (Factoring i j r)))
 unfolding reason_text told_file column_line stage_line
 told_factoring i j r =
     append_assoc (refused_text 7) (place_text step_word i) (spot_text j r)
     ∙ ap (λ (t : List ℕ). t ++ (place_text step_word i ++ spot_text j r)) (sym (append-nil (refused_text 7)))
 
-pub told_singular : (j : ℕ) → refused_text 6 ++ place_text column_word j ++ 10 ∷ [] ≡ reason_text (told_file (Singular j))
+pub told_singular : (j : ℕ) → refused_text 6 ++ place_text column_word j ++ 10 ∷ [] ≡ reason_text (told_file (Some (Singular j)))
 unfolding reason_text told_file column_line stage_line
 told_singular j = append_assoc (refused_text 6) (place_text column_word j) (10 ∷ []) ∙ sym (append-nil _)
 
-pub told_solving : (pass j r : ℕ) → refused_text 7 ++ pass_word pass ++ spot_text j r ≡ reason_text (told_file (Solving pass j r))
+pub told_solving : (pass j r : ℕ) → refused_text 7 ++ pass_word pass ++ spot_text j r ≡ reason_text (told_file (Some (Solving pass j r)))
 unfolding reason_text told_file column_line stage_line
 told_solving pass j r =
     append_assoc (refused_text 7) (pass_word pass) (spot_text j r)
     ∙ ap (λ (t : List ℕ). t ++ (pass_word pass ++ spot_text j r)) (sym (append-nil (refused_text 7)))
 
--- the case that the answer is
-pub told_case : (bytes : List ℕ) (why case : WhyFile) → told_file why ≡ explain_file bytes → why ≡ case → reason_text (told_file case) ≡ why_text_of bytes
+-- what is printed of the case that the answer is
+pub case_text : (bytes : List ℕ) (case : Option WhyFile) → told_file case ≡ explain_file bytes → reason_text (told_file case) ≡ why_text_of bytes
 unfolding why_text_of
-told_case bytes why case e d = ap (λ (w : WhyFile). reason_text (told_file w)) (sym d) ∙ ap reason_text e
-
--- a text that the call wrote for that case
-pub text_told : (bytes text : List ℕ) (r : ℕ) (s now : List ℕ) → text ≡ why_text_of bytes → r ≡ length text → now ≡ written 0 text s
-    → IsPrefixLen r now × ((r ≡ length (why_text_of bytes)) × (now ≡ written 0 (why_text_of bytes) s))
-text_told bytes text r s now t e d =
-    let r' = e ∙ ap length t in
-    let o = d ∙ ap (λ (l : List ℕ). written 0 l s) t in
-    (text_counts r (why_text_of bytes) s now r' o, (r', o))
+case_text bytes case e = ap reason_text e

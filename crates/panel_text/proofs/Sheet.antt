@@ -268,10 +268,10 @@ module _ (bytes : List ℕ) (out : Column) (fits : length out ≡ pads_of bytes)
   loads_ranked ranks lr (refused k) e = refl
 
   -- the file's factors, however they were made, print its sheet
-  sheet_by_lem : (ranks : List ℕ) → length ranks ≡ pads_of bytes → (held : Outcome Packed) → held ≡ factors_in bytes → sheet_by bytes held out ranks
+  sheet_printed : (ranks : List ℕ) → length ranks ≡ pads_of bytes → (held : Outcome Packed) → held ≡ factors_in bytes → sheet_by bytes held out ranks
       ≡ text_of bytes
   unfolding text_of loads_of
-  sheet_by_lem ranks lr held e =
+  sheet_printed ranks lr held e =
       let n = pads_of bytes in
       let line : Column → Outcome (List ℕ) = λ x. lined_up n x (ranking every_pad x n ranks) in
       ap (λ (h : Outcome Packed). sheet_by bytes h out ranks) e
@@ -279,10 +279,10 @@ module _ (bytes : List ℕ) (out : Column) (fits : length out ≡ pads_of bytes)
       ∙ loads_ranked ranks lr (loads_of bytes) refl
 
   -- and its moves, of a pad of the crossing
-  moves_by_lem : (held : Outcome Packed) → held ≡ factors_in bytes → (pad : ℕ) → moves_refusal bytes pad ≡ 0 → moves_by bytes held pad out
+  moves_printed : (held : Outcome Packed) → held ≡ factors_in bytes → (pad : ℕ) → moves_refusal bytes pad ≡ 0 → moves_by bytes held pad out
       ≡ moves_text_of bytes pad
   unfolding moves_text_of moves_of
-  moves_by_lem held e pad none =
+  moves_printed held e pad none =
       let b = unit_column (pads_of bytes) (pad - 1) in
       ap (λ (h : Outcome Packed). moves_by bytes h pad out) e
       ∙ ap change_text (solves true b ∙ sym (tested_none (moves_refusal bytes pad) refused (and_then (factors_in bytes) (λ p. solution_by true p b)) none))
@@ -369,24 +369,24 @@ module _ (bytes : List ℕ) (taken : file_refusal bytes ≡ 0) where
     -- prints exactly the sheet that `panel_order` prints of the file: the same order and loads, bit for bit, or the same refusal.
     pub sheet_by_adding : (older z : Column) (store : List ℕ) → length older ≡ (pads - 1) * pads → length store ≡ 128 → length z ≡ pads
         → sheet_by bytes (by_adding bytes older store z) out ranks ≡ text_of bytes
-    sheet_by_adding older z store lo ls lz = sheet_by_lem bytes out fits ranks room _ (factors_by_adding older z store lo ls lz)
+    sheet_by_adding older z store lo ls lz = sheet_printed bytes out fits ranks room _ (factors_by_adding older z store lo ls lz)
 
     -- THEOREM. The same where the last pad is added to whatever was reached with the columns of the others.
     pub sheet_added : (r : Record) (o : Factoring) → Reached pads (pads - 1) (older_columns bytes) r o → (z : Column) → length z ≡ pads
         → sheet_by bytes (held_in (adding (o.left.factors ++ z) (last_column bytes) o.left.store r)) out ranks ≡ text_of bytes
-    sheet_added r o how z lz = sheet_by_lem bytes out fits ranks room _ (factors_added r o how z lz)
+    sheet_added r o how z lz = sheet_printed bytes out fits ranks room _ (factors_added r o how z lz)
 
     -- THEOREM. The same after any mix of adds and removes that ends at the file's columns.
     pub sheet_reached : (r : Record) (o : Factoring) → Reached pads pads matrix r o → sheet_by bytes (held_in o) out ranks ≡ text_of bytes
-    sheet_reached r o how = sheet_by_lem bytes out fits ranks room (held_in o) (factors_reached r o how)
+    sheet_reached r o how = sheet_printed bytes out fits ranks room (held_in o) (factors_reached r o how)
 
   -- ---- how a pad's load moves with each reading
   module _ (out : Column) (fits : length out ≡ pads) (pad : ℕ) (least : 1 ≤ pad) (most : pad ≤ pads) where
     -- THEOREM. The transposed solve by the factors after the last pad is added prints what `panel_moves` prints of the file and the pad.
     pub moves_by_adding : (older z : Column) (store : List ℕ) → length older ≡ (pads - 1) * pads → length store ≡ 128 → length z ≡ pads
         → moves_by bytes (by_adding bytes older store z) pad out ≡ moves_text_of bytes pad
-    moves_by_adding older z store lo ls lz = moves_by_lem bytes out fits _ (factors_by_adding older z store lo ls lz) pad (pad_taken pad least most)
+    moves_by_adding older z store lo ls lz = moves_printed bytes out fits _ (factors_by_adding older z store lo ls lz) pad (pad_taken pad least most)
 
     -- THEOREM. The same after any mix of adds and removes that ends at the file's columns.
     pub moves_reached : (r : Record) (o : Factoring) → Reached pads pads matrix r o → moves_by bytes (held_in o) pad out ≡ moves_text_of bytes pad
-    moves_reached r o how = moves_by_lem bytes out fits (held_in o) (factors_reached r o how) pad (pad_taken pad least most)
+    moves_reached r o how = moves_printed bytes out fits (held_in o) (factors_reached r o how) pad (pad_taken pad least most)

@@ -11,6 +11,7 @@ use borrow.Author.Tests.{lt-ltb, le-ltb}
 use lib.Dec.{ltb}
 use lib.Ieee.{Float, binary64, to_bits}
 use Rattle.numbers.proofs.Choice.{cond_cases}
+use Rattle.io.specs.Counts.{IsPrefixLen}
 use Rattle.io.specs.Digits.{last_digits, hex_digit_ascii}
 use Rattle.panel_text.specs.Text.{written, decimal, line_of}
 
@@ -145,3 +146,17 @@ line_written at pad load s s1 s2 space h e d f =
     let w2 : s2 ≡ written at a2 s = written_more at (space + 1) a1 hex s _ s2 w1 (omega arith) f (omega arith) in
     let z2 : length s2 ≡ length s = ap length w2 ∙ length_written at a2 s (omega arith) in
     (omega arith, written_more at (space + 1 + 16) a2 (10 ∷ []) s s2 _ w2 (omega arith) (written_byte (space + 1 + 16) 10 s2 (omega arith)) (omega arith))
+
+-- ---- what a call promises of the text that it prints: the bytes that count, how many, and that they stand in front
+abbrev pub Prints : (text : List ℕ) (count : ℕ) (was now : List ℕ) → Type 0
+Prints text count was now = IsPrefixLen count now × ((count ≡ length text) × (now ≡ written 0 text was))
+
+-- a text that stands in front of what was there, under another name
+pub prints : (text named : List ℕ) (count : ℕ) (was now : List ℕ) → text ≡ named → count ≡ length text → now ≡ written 0 text was → Prints named count was now
+unfolding written
+prints text named count was now same e d =
+    let count_is : count ≡ length named = e ∙ ap length same in
+    let is : now ≡ written 0 named was = d ∙ ap (λ (l : List ℕ). written 0 l was) same in
+    let long : length now ≡ length named + length (drop (0 + length named) was) = ap length is ∙ length-append named (drop (0 + length named) was) in
+    let within : count ≤ length now = omega arith in
+    ((within, sym (length-take-le count now within)), (count_is, is))

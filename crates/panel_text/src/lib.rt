@@ -98,6 +98,7 @@ fn put_lines(out: &mut [u8], from: usize, ranks: &[usize], loads: &[f64]) -> usi
 }
 
 // Writes the text of a refusal. Answers how many bytes it has.
+#[tactic(auto, using(refusals::proofs::Cases::at_most_ten))]
 fn put_refusal(out: &mut [u8], refusal: Refusal) -> usize
     requires { length out.old ≡ 1288 }
     ensures value { result ≡ length (refused_text (number refusal)) }

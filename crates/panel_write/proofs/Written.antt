@@ -7,20 +7,16 @@ use native.Mathlib.Omega.{arith}
 use lib.ListN.{length, take, drop, length-drop}
 use lib.Seq.{take_all}
 use Rattle.numbers.specs.Column.{Column}
-use Rattle.refusals.specs.Outcome.{done, Call, leaving}
+use Rattle.std.proofs.Common.{Ok, Err}
+use Rattle.refusals.specs.declared.Refusal.TheVariants.{Length}
+use Rattle.refusals.specs.Outcome.{done, Call}
 use Rattle.refusals.specs.Refusals.{outside}
 use Rattle.refusals.proofs.Cases.{done_same, never_both, tested_done}
 use Rattle.refusals.proofs.Tests.{inside}
-use Rattle.panel_file_writer.specs.declared.Written.TheVariants.{Bytes, Refused}
 use Rattle.panel_file.specs.File.{file_length}
-use Rattle.panel_file_writer.specs.Writing.{Writing, written, bytes_written, writing_refusal}
+use Rattle.panel_file_writer.specs.Writing.{Writing, written, writing_refusal}
 use Rattle.panel_file_writer.proofs.Writing.{small}
 use Rattle.panel_write.specs.Text.{AreLines, numbers_in, LinesWritten, whole, other, head_in, TextWritten, size, lines}
-
--- a refusal leaves the slice as it was
-pub refusal_left : (number : ℕ) (out : List ℕ) → written (Refused number) out ≡ leaving out number
-unfolding bytes_written
-refusal_left number out = refl
 
 -- the lines for n pads, m and r numbers being as many as the matrix and the readings have
 module _ (n : ℕ) (ls out : List ℕ) (m r : ℕ) (asks : length ls ≡ 17 * (n * n + n)) (is_m : m ≡ n * n) (is-r : r ≡ n) where
@@ -30,9 +26,9 @@ module _ (n : ℕ) (ls out : List ℕ) (m r : ℕ) (asks : length ls ≡ 17 * (n
       whole (asks, (subst (AreLines ls 0) is_m a, subst (AreLines ls (n * n)) is-r b))
       (rw (e ∙ ap (numbers_in ls 0) is_m, f ∙ ap (numbers_in ls (n * n)) is-r) at w)
 
-  pub lines_refused : (AreLines ls 0 m → AreLines ls (n * n) r → ⊥) → LinesWritten n ls out (written (Refused 3) out)
+  pub lines_refused : (AreLines ls 0 m → AreLines ls (n * n) r → ⊥) → LinesWritten n ls out (written (Err Length) out)
   lines_refused none =
-      other (λ l. none (subst (AreLines ls 0) (sym is_m) l.1.0) (subst (AreLines ls (n * n)) (sym is-r) l.1.1)) (refusal_left 3 out)
+      other (λ l. none (subst (AreLines ls 0) (sym is_m) l.1.0) (subst (AreLines ls (n * n)) (sym is-r) l.1.1)) refl
 
 -- the lines behind the first, which begin at a place within the text
 pub text_lines : (text out : List ℕ) (n at : ℕ) (made : Call ℕ (List ℕ)) → n ≡ (head_in text).0 → at ≡ (head_in text).1 → outside 1 n ≡ false
@@ -43,13 +39,11 @@ text_lines text out n at made is-n is_at t w =
 
 -- ---- how many bytes there are
 
-writing_count : (n : ℕ) (M R : Column) (out left : List ℕ) (count : ℕ) → Writing n M R out (written (Bytes count) left) → count ≡ file_length n
-unfolding bytes_written
+writing_count : (n : ℕ) (M R : Column) (out left : List ℕ) (count : ℕ) → Writing n M R out (written (Ok count) left) → count ≡ file_length n
 writing_count n M R out left count w =
     sym (done_same _ count (tested_done (writing_refusal n M R (length out)) (done (file_length n)) count (sym w.answers)).1)
 
-pub text_fits : (text out left : List ℕ) (count : ℕ) → TextWritten text out (written (Bytes count) left) → count ≤ 33286
-unfolding bytes_written
+pub text_fits : (text out left : List ℕ) (count : ℕ) → TextWritten text out (written (Ok count) left) → count ≤ 33286
 text_fits text out left count (size _ e) = absurd (never_both count 1 (ap (λ (m : Call ℕ (List ℕ)). m.answer) e))
 text_fits text out left count (lines _ (other _ e)) = absurd (never_both count 3 (ap (λ (m : Call ℕ (List ℕ)). m.answer) e))
 text_fits text out left count (lines t (whole _ w)) =

@@ -3,11 +3,23 @@
 use mathlib.Core.Path.{◌≡◌, refl, sym, ap}
 use mathlib.Core.Bool.{Bool, true, false}
 use mathlib.Core.List.{List, [], ◌∷◌, ◌++◌}
-use Prim.Native.Nat.{ℕ}
+use Prim.Native.Nat.{ℕ, ◌≤◌}
 use native.Mathlib.Omega.{arith}
 use Rattle.numbers.proofs.Choice.{cond_cases}
 use Rattle.std.proofs.Common.{Result, Ok, Err}
 use Rattle.refusals.specs.declared.Refusal.{Refusal}
+use Rattle.refusals.specs.declared.Refusal.TheVariants.{
+  Size,
+  NotSquare,
+  Length,
+  SwapList,
+  NotFinite,
+  Singular,
+  Overflow,
+  NotAPanelFile,
+  DeadColumns,
+  SeasonFull,
+}
 use Rattle.refusals.specs.Outcome.{Outcome, done, refused, outcome, number, first_holding, tested, and_then}
 use Rattle.refusals.proofs.Outcomes.{Numbered, never_0, same_kind, tested_none, tested_some, tested_cases}
 
@@ -43,6 +55,19 @@ unfolding first_holding
 passed_before [] us n e = refl
 passed_before ((k, true) ∷ ts) us n e = absurd (n.0 (sym e))
 passed_before ((k, false) ∷ ts) us n e = passed_before ts us n.1 e
+
+-- ---- the kinds count from 1 to 10
+pub at_most_ten : (refusal : Refusal) → number refusal ≤ 10
+at_most_ten Size = omega arith
+at_most_ten NotSquare = omega arith
+at_most_ten Length = omega arith
+at_most_ten SwapList = omega arith
+at_most_ten NotFinite = omega arith
+at_most_ten Singular = omega arith
+at_most_ten Overflow = omega arith
+at_most_ten NotAPanelFile = omega arith
+at_most_ten DeadColumns = omega arith
+at_most_ten SeasonFull = omega arith
 
 -- ---- done, or refused, is one of the two and holds one value
 module _ {A : Type 0} where

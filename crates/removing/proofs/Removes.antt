@@ -16,15 +16,13 @@ use Rattle.store.specs.Steps.{Matrix, swap_in_all, rows_swapped}
 use Rattle.store.proofs.Columns.{sized, column_within, same_matrix, length_columns, column_length, flat_columns, flat_snoc}
 use Rattle.dead_columns.specs.Dead.{dead_at, dead_in}
 use Rattle.dead_columns.proofs.Dead.{dead_snoc, dead_swapped}
-use Rattle.std.proofs.Common.{Result, Ok}
-use Rattle.std.specs.Result.{IsErrAnd}
-use Rattle.refusals.specs.declared.Refusal.{Refusal}
-use Rattle.refusals.specs.Outcome.{done, refused, number, first_holding, leaving}
-use Rattle.refusals.proofs.Outcomes.{tested_none, tested_some, never_0, handed_on}
+use Rattle.std.proofs.Common.{Ok}
+use Rattle.refusals.specs.Outcome.{done, number, first_holding}
+use Rattle.refusals.proofs.Outcomes.{tested_none}
 use Rattle.swap_list.specs.SwapList.{Swaps, pairs_of, with_pair, good_list}
 use Rattle.swap_list.proofs.SwapList.{length_pairs, good}
 use Rattle.factors.specs.declared.Record.{Record}
-use Rattle.factors.specs.Factors.{record_of, factors_in, slices, record_after}
+use Rattle.factors.specs.Factors.{record_of, factors_in, record_after}
 use Rattle.factors.specs.Held.{held_refusal}
 use Rattle.factors.proofs.Held.{passed}
 use Rattle.elimination.specs.Removing.{last_pair, undoes, pairs_before, remove_column}
@@ -103,15 +101,6 @@ module _ (r : Record) (s : Column) (store : List ℕ) where
         undoing = p.list_asked;
         dead = p.dead;
       }
-
-  pub refused_by : (refusal : Refusal) (answer : Result Record Refusal) → number refusal ≡ removing_refusal s store r → IsErrAnd answer (λ e. e ≡ refusal)
-      → RemovedFrom s store r answer s store
-  unfolding removing record_after
-  refused_by refusal answer e h =
-      let made = removing_made store r (factors_in s m r.columns store r.pairs) in
-      let on = handed_on refusal answer h in
-      let w = tested_some (removing_refusal s store r) (leaving (slices s store)) made (λ z. never_0 refusal (e ∙ z)) in
-      record { answer = rw (on, w) (ap refused e); told = rw (on, w) refl; factors = rw w refl; pairs = rw w refl }
 
   module _ (go : Ready s store r) where
     pub worked : removing s store r ≡ removing_made store r (factors_in s m r.columns store r.pairs)

@@ -60,6 +60,7 @@ fn is_good_to_remove(swaps: &[usize], told: Record) -> bool
 }
 
 // Refuses what removing refuses.
+#[tactic(auto, using(crate::proofs::Removes::refusal_found))]
 fn test_removing(s: &[f64], swaps: &[usize], told: Record) -> Result<(), Refusal>
     ensures { number_of (outcome result) ≡ removing_refusal s.now swaps.now told }
 {
@@ -118,6 +119,7 @@ fn remove_tested(s: &mut [f64], swaps: &mut [usize], told: Record) -> Record
 
 // Takes the last column off the factors in s: the factors before it was added, its slot zero. Answers the new record; a caller who is refused still holds
 // the one before.
+#[tactic(auto, using(crate::proofs::Removes::ready), unfolding(crate::specs::Removing::removing, refusals::specs::Outcome::tested))]
 pub fn remove_column(s: &mut [f64], swaps: &mut [usize], told: Record) -> Result<Record, Refusal>
     ensures result_value { outcome result ≡ (removing s.old swaps.old told).answer }
     ensures record_value { record_after told (outcome result) ≡ record_after told (removing s.old swaps.old told).answer }

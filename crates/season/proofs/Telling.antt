@@ -1,23 +1,21 @@
 -- What a file brings to a season, as the code puts it together; and what is known of it: a refusal is one of 1 to 9 and the one that the answer for the file
 -- gives, an accepted file lists at most 64 pads and is in one of the five bands. By the cases of the outcomes. Assumes nothing.
-use Rattle.std.proofs.Common.{◌≡◌, ℕ, zero, suc, ◌+◌, ◌*◌, ◌<◌, ◌≤◌, true, false, T, List, [], ◌∷◌, length, take, replicate, sym, refl, ap, ◌∙◌, arith}
-use lib.ListN.{length-replicate}
+use Rattle.std.proofs.Common.{◌≡◌, ℕ, ◌+◌, ◌*◌, ◌<◌, ◌≤◌, true, false, T, List, [], ◌∷◌, length, take, replicate, sym, refl, ap, ◌∙◌, arith, Result, Ok, Err}
 use lib.Ieee.{nan, binary64, fits}
 use lib.Ieee.Scale.{finite}
-use Rattle.numbers.specs.Numbers.{zero64, magnitude}
+use Rattle.numbers.specs.Numbers.{magnitude}
 use Rattle.numbers.specs.Column.{Column, zeros}
 use Rattle.finite.specs.Finite.{all_finite}
 use Rattle.numbers.proofs.Choice.{cond_cases}
 use Rattle.finite.proofs.Finite.{finite_entry}
 use Rattle.store.specs.Columns.{columns, is_matrix}
 use Rattle.store.proofs.Columns.{sized, column_within, entry_at}
-use Rattle.refusals.specs.Outcome.{Outcome, done, refused, number_of, tested, and_then, Call, outcome}
-use Rattle.refusals.specs.declared.Answer.{Answer}
-use Rattle.refusals.specs.declared.Answer.TheVariants.{Done, Refused as NotDone}
-use Rattle.refusals.proofs.Outcomes.{tested_some, tested_cases, none_given}
+use Rattle.std.specs.Result.{IsErrAnd, result_unwrap_or}
+use Rattle.refusals.specs.declared.Refusal.{Refusal}
+use Rattle.refusals.specs.Outcome.{Outcome, done, refused, outcome, number, number_of, and_then, Call, leaving}
+use Rattle.refusals.specs.Refusals.{seventh}
+use Rattle.refusals.proofs.Outcomes.{handed_on, tested_some, tested_cases, none_given}
 use Rattle.refusals.proofs.Cases.{done_same, refused_same, never_both, tested_done, tested_refused, then_done, then_refused}
-use Rattle.ranking.specs.declared.Listed.{Listed}
-use Rattle.ranking.specs.declared.Listed.TheVariants.{Pads, Refused as NotListed}
 use Rattle.ranking.specs.Ranking.{Choice, loaded, pads_to, chosen, listing, ranking}
 use Rattle.ranking.proofs.Calls.{not_refused, ranking_accepted}
 use Rattle.ranking.proofs.Inserting.{length_ranked}
@@ -36,17 +34,11 @@ use Rattle.bands.proofs.Banded.{banded}
 use Rattle.bands.proofs.Least.{diagonal_at, least_is, finite_magnitude}
 use Rattle.crossing.specs.Below.{Packed, packed, packed_in, factors_of, solution_by, solution_in}
 use Rattle.crossing.specs.Factors.{factors_in, loads_of}
-use Rattle.crossing.proofs.Below.{factored_rows, factored_seven, solved_answer, solution_few}
+use Rattle.crossing.proofs.Below.{factored_rows, factored_seven, solution_few}
 use Rattle.crossing.proofs.Factors.{file_good, factors_few}
-use Rattle.season.specs.declared.Told.{Told}
-use Rattle.season.specs.declared.Told.TheVariants.{Crossing, Refused}
+use Rattle.season.specs.declared.Crossing.{Crossing}
 use Rattle.season.specs.Telling.{Share, share_of, telling, share_told}
 use Rattle.season.proofs.Doubles.{factor_double, magnitude_double, exponent_most}
-
--- ---- the solve for the readings, by the number of its refusal
-
-number_tested : (number : ℕ) → number_of {A = Unit {0}} (tested number refused (done tt)) ≡ number
-number_tested number = tested_cases number refused (done tt) (λ o. number_of o ≡ number) (λ z. sym z) (λ z. refl)
 
 number_then : {A B : Type 0} (o : Outcome A) (f : A → B) → number_of (and_then o (λ a. done (f a))) ≡ number_of o
 number_then (done a) f = refl
@@ -57,78 +49,57 @@ same_number : {A B C : Type 0} (o : Outcome A) (f : A → Outcome B) (g : A → 
 same_number (done a) f g h = h a
 same_number (refused k) f g h = refl
 
-any_answer : {Q : Type 0} (o : Outcome (Unit {0})) → ((a : Answer) → outcome a ≡ o → Q) → Q
-any_answer (done tt) f = f Done refl
-any_answer (refused k) f = f (NotDone k) refl
+-- ---- the solve for the readings: no refusal's number is 0
 
--- an outcome that was tested by its number is not refused with 0
-never_zero : (number : ℕ) (o : Outcome Column) → ◌≡◌ {A = Outcome (Unit {0})} (tested number refused (done tt)) (and_then o (λ _. done tt))
-    → (k : ℕ) → o ≡ refused k → k ≡ 0 → ⊥
-never_zero number (done x) same k e z = never_both x k e
-never_zero number (refused j) same k e z =
-    tested_refused {A = Unit {0}} number (done tt) j same (λ _ f. never_both {A = Unit {0}} tt j f)
-    (λ some f. some (f ∙ refused_same {A = Column} j k e ∙ z))
+some_seventh : (made : Column) (k : ℕ) → (seventh made).answer ≡ refused k → k ≡ 0 → ⊥
+unfolding seventh
+some_seventh made k =
+    cond_cases (λ (o : Call (Unit {0}) Column). o.answer ≡ refused k → k ≡ 0 → ⊥) (all_finite made) (λ _ d _. never_both tt k d)
+    (λ _ d z. let seven : 7 ≡ k = refused_same 7 k d in omega arith)
 
-module _ (p : Packed) (b : Column) where
-  pub solve_number : (was : Column) → length was ≡ p.told.rows → (a : Answer) (number : ℕ) → number ≡ number_of (outcome a)
-      → outcome a ≡ (solving p.factors p.swaps p.told b 1 was).answer → number ≡ number_of (solution_by false p b)
-  solve_number was l a number e d =
-      sym (number_tested number) ∙ ap number_of (solved_answer false p b was l a number tt e d) ∙ number_then (solution_by false p b) (λ _. tt)
-
-  -- no refusal's number is 0
-  solve_some : (k : ℕ) → solution_by false p b ≡ refused k → k ≡ 0 → ⊥
-  solve_some k e z =
-      let was = zeros p.told.rows in
-      any_answer (solving p.factors p.swaps p.told b 1 was).answer
-      (λ a d. never_zero (number_of (outcome a)) (solution_by false p b)
-      (solved_answer false p b was (length-replicate p.told.rows zero64) a (number_of (outcome a)) tt refl d) k e z)
+solve_some : (p : Packed) (b : Column) (k : ℕ) → solution_by false p b ≡ refused k → k ≡ 0 → ⊥
+unfolding solution_by solving
+solve_some p b k e z =
+    let call = solving p.factors p.swaps p.told b 1 (zeros p.told.rows) in
+    then_refused call.answer (λ _. done call.left) k e
+    (λ d. tested_cases _ (leaving (zeros p.told.rows)) _ (λ (o : Call (Unit {0}) Column). o.answer ≡ refused k → k ≡ 0 → ⊥) (λ _. some_seventh _ k)
+    (λ some f y. some (refused_same _ k f ∙ y)) d z)
+    (λ _ _ f. never_both call.left k f)
 
 -- ---- the pads that are listed: the ranking of finite loads is not refused
-module _ (n : ℕ) (loads : Column) (was : List ℕ) (least : 1 ≤ n) (most : n ≤ 64) (size : length loads ≡ n) (room : length was ≡ n)
-    (numbers : all_finite loads ≡ true) (r : Listed) (is : outcome r ≡ (ranking (loaded loads) loads n was).answer) where
-  listed_is : outcome r ≡ done (length (listing (loaded loads) loads n))
-  listed_is =
-      is ∙ ap (λ (o : Call ℕ (List ℕ)). o.answer)
-      (ranking_accepted (loaded loads) n loads was
-      (not_refused n loads was
-      (record { size = record { at_least = least; at_most = most }; loads_length = size; ranks_length = room; finite = numbers })))
 
-  pub listed_pads : (count : ℕ) → r ≡ Pads count → count ≡ length (listing (loaded loads) loads n)
-  listed_pads count e = done_same count _ (sym (ap outcome e) ∙ listed_is)
+unwrapped : (r : Result ℕ Refusal) (k default : ℕ) → outcome r ≡ done k → result_unwrap_or r default ≡ k
+unwrapped (Ok j) k default e = done_same j k e
+unwrapped (Err x) k default e = never_both k (number x) (sym e)
 
-  pub listed_never : {Q : Type 0} (k : ℕ) → r ≡ NotListed k → Q
-  listed_never k e = never_both (length (listing (loaded loads) loads n)) k (sym listed_is ∙ ap outcome e)
+pub listed_pads : (n : ℕ) (loads : Column) (was : List ℕ) → (1 ≤ n) × (n ≤ 64) × (length loads ≡ n) × (all_finite loads ≡ true) → length was ≡ n
+    → (r : Result ℕ Refusal) → outcome r ≡ (ranking (loaded loads) loads n was).answer → result_unwrap_or r 0 ≡ length (listing (loaded loads) loads n)
+listed_pads n loads was known room r is =
+    unwrapped r (length (listing (loaded loads) loads n)) 0
+    (is ∙ ap (λ (o : Call ℕ (List ℕ)). o.answer)
+    (ranking_accepted (loaded loads) n loads was
+    (not_refused n loads was
+    (record { size = record { at_least = known.0; at_most = known.1 }; loads_length = known.2; ranks_length = room; finite = known.3 }))))
 
 -- ---- a crossing's share, o being what the solve came to
 
-pub told_refused : (o : Outcome Column) (number : ℕ) (f : Column → Outcome Share) → number ≡ number_of o → (number ≡ 0 → ⊥)
-    → share_told (Refused number) ≡ and_then o f
-unfolding share_told
-told_refused (done x) number f e h = absurd (h e)
-told_refused (refused k) number f e h = ap refused e
+pub told_refused : (o : Outcome Column) (r : Refusal) (answer : Result Crossing Refusal) (f : Column → Outcome Share)
+    → refused (number r) ≡ and_then o (λ _. done (tt {0})) → IsErrAnd answer (λ e. e ≡ r) → share_told answer ≡ and_then o f
+told_refused (done x) r answer f e h = never_both (tt {0}) (number r) (sym e)
+told_refused (refused k) r answer f e h = rw (handed_on r answer h) (ap refused (refused_same (number r) k e))
 
--- what is not refused with 0 has another number
-pub some_number : (told : Told) (number : ℕ) → (share_told told ≡ refused 0 → ⊥) → told ≡ Refused number → 1 ≤ number
-unfolding share_told
-some_number told zero h e = absurd (h (ap share_told e))
-some_number told (suc k) h e = omega arith
-
--- the loads, where the number is 0
+-- the loads, where it is not refused
 pub record Loads (o : Outcome Column) : Type 0 where
   pub x : Column
   pub is : o ≡ done x
 
-none_refused : (o : Outcome Column) → number_of o ≡ 0 → ((k : ℕ) → o ≡ refused k → k ≡ 0 → ⊥) → Loads o
-none_refused (done x) e some = record { x = x; is = refl }
-none_refused (refused k) e some = absurd (some k refl e)
-
-pub loads_of_lem : (p : Packed) (b : Column) (number : ℕ) → number ≡ number_of (solution_by false p b) → number ≡ 0 → Loads (solution_by false p b)
-loads_of_lem p b number e z = none_refused (solution_by false p b) (sym e ∙ z) (solve_some p b)
+pub loads_in : (o : Outcome Column) (none : Unit {0}) → done none ≡ and_then o (λ _. done tt) → Loads o
+loads_in (done x) none e = record { x = x; is = refl }
+loads_in (refused k) none e = never_both none k e
 
 pub told_share : (o : Outcome Column) (l : Loads o) (p : Packed) (front : Column) (pads band : ℕ) → front ≡ l.x
     → pads ≡ length (listing (loaded front) front p.told.rows) → band ≡ band_on p.factors p.told.rows
-    → share_told (Crossing pads band) ≡ and_then o (λ x. done (share_of p x))
-unfolding share_told
+    → share_told (Ok (record { pads = pads; band = band })) ≡ and_then o (λ x. done (share_of p x))
 told_share o l p front pads band same a b =
     let count = a ∙ ap (λ (x : Column). length (listing (loaded x) x p.told.rows)) same in
     (λ i. done (record { pads = count i; band = b i })) ∙ ap (λ (q : Outcome Column). and_then q (λ x. done (share_of p x))) (sym l.is)
@@ -145,10 +116,12 @@ module _ (bytes : List ℕ) where
       ap (λ (b : Column). and_then (solution_by false (packed_in M S told) b) (λ x. done (share_of (packed_in M S told) x))) r
       ∙ ap (λ (o : Outcome Packed). and_then o (λ f. and_then (solution_by false f (readings_of n bytes)) (λ x. done (share_of f x)))) (sym e)
 
-  pub telling_refused : (k : ℕ) → factors_in bytes ≡ refused k → share_told (Refused k) ≡ telling bytes
-  unfolding telling share_told
-  telling_refused k e =
-      ap (λ (o : Outcome Packed). and_then o (λ f. and_then (solution_by false f (readings_of n bytes)) (λ x. done (share_of f x)))) (sym e)
+  pub telling_refused : (r : Refusal) (answer : Result Crossing Refusal) → factors_in bytes ≡ refused (number r) → IsErrAnd answer (λ e. e ≡ r)
+      → share_told answer ≡ telling bytes
+  unfolding telling
+  telling_refused r answer e h =
+      ap share_told (handed_on r answer h)
+      ∙ ap (λ (o : Outcome Packed). and_then o (λ f. and_then (solution_by false f (readings_of n bytes)) (λ x. done (share_of f x)))) (sym e)
 
   -- ---- THEOREM. A file is refused by a season exactly as the answer for it is, and with the same number.
   pub telling_number : number_of (telling bytes) ≡ number_of (loads_of bytes)

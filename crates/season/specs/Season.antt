@@ -1,5 +1,6 @@
 -- Document 02, request 13: the counts of a season over the files handed over, and the call that hands over one more.
-use Rattle.std.specs.Prelude.{ℕ, suc, ◌+◌, ◌-◌, ◌%◌, ◌^◌, Bool, true, false, cond, List, [], ◌∷◌, ◌++◌, length, ◌==◌, nat_le, slice_index, slice_set, Result, Ok, Err}
+use Rattle.std.specs.Prelude.{ℕ, suc, ◌+◌, ◌-◌, ◌%◌, ◌^◌, Bool, true, false, cond, List, [], ◌∷◌, ◌++◌, length, ◌==◌, nat_le, slice_index, slice_set}
+use Rattle.std.specs.Prelude.{Result, Ok, Err}
 use Rattle.numbers.specs.Each.{list_of}
 use Rattle.refusals.specs.Outcome.{Outcome, done, refused, number, first_holding, tested, Call, leaving}
 use Rattle.season.specs.declared.Season.{Season}

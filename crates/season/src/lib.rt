@@ -83,14 +83,18 @@ fn tell(file: &[u8]) -> Result<Crossing, Refusal>
     let mut matrix = [0.0f64; 4096];
     let mut readings = [0.0f64; 64];
     let mut swaps = [0usize; 128];
-    let Factored { told, toss_ups: _ } =
-        crossing::factor_file(file, &mut matrix, &mut readings, &mut swaps)?;
+    let Factored { told, toss_ups: _ } = crossing::factor_file(
+        file,
+        &mut matrix,
+        &mut readings,
+        &mut swaps,
+    )?;
     tell_crossing(&matrix, &swaps, told, &readings)
 }
 
 // One more at place i, where there is such a place.
 fn one_more<const N: usize>(mut a: [usize; N], i: usize) -> [usize; N]
-    ensures { result ≡ one_more_at i a }
+    ensures { result ≡ one_more_at i a.entry }
 {
     if i < N {
         a[i] = std::num::wrapping_add_usize(a[i], 1);
@@ -123,6 +127,7 @@ impl Season {
     }
 
     // The season with a file that brought this.
+    #[tactic(auto, unfolding(crate::specs::Season::counted))]
     fn counted(self, told: Result<Crossing, Refusal>) -> Self
         ensures { result ≡ counted self (share_told told) }
     {
@@ -148,6 +153,7 @@ impl Season {
     }
 
     // The season with one file more; refused where there are 4,000, and then the caller still holds the season before.
+    #[tactic(auto, unfolding(crate::specs::Season::handing, refusals::specs::Outcome::tested, refusals::specs::Outcome::first_holding))]
     pub fn with_file(self, file: &[u8]) -> Result<Self, Refusal>
         ensures { handed self result ≡ handing self file.now }
     {

@@ -1,6 +1,6 @@
 -- Document 02, request 8, for a panel file: why its answer is refused. By the reader or by factoring, where those refuse it; else by the solve.
 use Rattle.std.specs.Prelude.{List, ℕ, ◌*◌, replicate, Option as Maybe, Some, None}
-use Rattle.std.proofs.Math.Option.{Option, map, some, none}
+use Rattle.std.proofs.Math.Option.{map, some, none}
 use Rattle.numbers.specs.Column.{Column, zeros}
 use Rattle.refusals.specs.Outcome.{Outcome, done, refused, number, tested}
 use Rattle.elimination.specs.Reason.{Place}

@@ -44,11 +44,11 @@ returns-in_default c =
     c.add_column.ensures.swaps_after _ c.in_default.is)
 
 pub overflow_add-tossed : goal.overflow_add-tossed
-overflow_add-tossed c = omega (arith, c.loop-k.invariant.few, (grown c).at_most_one, (ok _ _ _ _ _ c.requires.swaps_value).cols.at_most)
+overflow_add-tossed c = omega (arith, c.loop-k.invariant.few, (grown (goal.at.overflow_add-tossed c).In-Ok).at_most_one, (ok _ _ _ _ _ c.requires.swaps_value).cols.at_most)
 
 pub loop-k-preserved : goal.loop-k-preserved
 loop-k-preserved c =
-    let next = grown c in
+    let next = grown (goal.at.loop-k-preserved c).In-Ok in
     record {
       whole = c.loop-k.invariant.whole;
       long = length_front c.loop-k.out c.add_column.new.s (c.loop-k.k * c.args.m + c.args.m) c.add_column.auto.s ∙ c.loop-k.invariant.long;

@@ -1,9 +1,6 @@
--- The determinant's answer, taken apart and handed on. Assumes nothing.
-use mathlib.Core.Path.{sym, ap, ◌∙◌, subst}
+-- The determinant by the front of the store. Assumes nothing.
 use native.Mathlib.Omega.{arith}
 use Rattle.panel_file.proofs.Reading.{square}
-use Rattle.refusals.specs.Outcome.{outcome}
-use Rattle.scaled_determinant.specs.Range.{AnswerRanged}
 use Rattle.crossing.specs.Below.{scaled_by}
 use Rattle.crossing.proofs.Factors.{taken_count}
 use Rattle.crossing.proofs.determinant_of.Goals as goal
@@ -14,15 +11,6 @@ overflow_mul-entries c = omega (arith, square c.args.told.rows 64 c.requires.0)
 pub slice_bounds-scaled_determinant-end : goal.slice_bounds-scaled_determinant-end
 slice_bounds-scaled_determinant-end c = taken_count _ c.args.matrix.now (omega (arith, c.requires.1, square c.args.told.rows 64 c.requires.0))
 
-pub returns-in_default : goal.returns-in_default
-unfolding scaled_by
-returns-in_default c =
-    record { result_value = c.scaled_determinant-answer.ensures.result_value; answer_ranged = c.scaled_determinant-answer.ensures.answer_ranged }
-
 pub returns : goal.returns
 unfolding scaled_by
-returns c =
-    record {
-      result_value = ap outcome (sym c.in-Number.is) ∙ c.scaled_determinant-answer.ensures.result_value;
-      answer_ranged = subst AnswerRanged c.in-Number.is c.scaled_determinant-answer.ensures.answer_ranged;
-    }
+returns c = record { result_value = c.scaled_determinant.ensures.result_value; answer_ranged = c.scaled_determinant.ensures.answer_ranged }

@@ -3,14 +3,19 @@ use mathlib.Core.Path.{sym}
 use native.Mathlib.Omega.{arith}
 use borrow.Author.Rules.{rules}
 use Rattle.crossing.proofs.Factors.{Read, file_read, held_read, held_refused}
-use Rattle.crossing.proofs.factor_read.Goals.{In-Pads}
+use Rattle.crossing.proofs.factor_read.Goals.{In_ok-n}
 use Rattle.crossing.proofs.factor_read.Goals as goal
 
-read_at : (c : In-Pads) → let g = c.args in
-    Read g.file.now g.matrix.now g.readings.now c.read.new.matrix c.read.new.readings c.in-Pads.n
+pub returns-in_err-n : goal.returns-in_err-n
+returns-in_err-n c =
+    let whole = held_refused c.args.file.now c.args.matrix.now c.args.readings.now c.args.swaps.now c.requires.0 c.requires.1 _ _
+    c.read.ensures.matrix_after c.read.ensures.readings_after _ _ c.in_err-n.ensures.result_value c.from_residual.ensures.1 in
+    record { result_value = whole.0; swaps_after = whole.1 }
+
+read_at : (c : In_ok-n) → let g = c.args in Read g.file.now g.matrix.now g.readings.now c.read.new.matrix c.read.new.readings c.in_ok-n.n
 read_at c =
-    file_read c.args.file.now c.args.matrix.now c.args.readings.now c.args.swaps.now c.requires.0 c.requires.1 c.read.result _ _
-    c.read.ensures.result_value c.read.ensures.matrix_after c.read.ensures.readings_after _ c.in-Pads.is
+    file_read c.args.file.now c.args.matrix.now c.args.readings.now c.args.swaps.now c.requires.0 c.requires.1 _ _
+    c.read.ensures.matrix_after c.read.ensures.readings_after _ c.in_ok-n.ensures.result_value
 
 pub overflow_mul-entries : goal.overflow_mul-entries
 overflow_mul-entries c = omega (arith, (read_at c).entries)
@@ -18,23 +23,17 @@ overflow_mul-entries c = omega (arith, (read_at c).entries)
 pub slice_bounds-factor_pads-end : goal.slice_bounds-factor_pads-end
 slice_bounds-factor_pads-end c = omega (arith, (read_at c).entries, c.requires.0, c.read.auto.matrix)
 
-pub slice_bounds-factor_pads-end-in-Pads : goal.slice_bounds-factor_pads-end-in-Pads
-slice_bounds-factor_pads-end-in-Pads c = sym (read_at (goal.at.slice_bounds-factor_pads-end-in-Pads c).In-Pads).good.size
+pub slice_bounds-factor_pads-end-2 : goal.slice_bounds-factor_pads-end-2
+slice_bounds-factor_pads-end-2 c = sym (read_at (goal.at.slice_bounds-factor_pads-end-2 c).In_ok-n).good.size
 
 pub factor_pads-requires : goal.factor_pads-requires
 factor_pads-requires c =
-    let w = (read_at (goal.at.factor_pads-requires c).In-Pads).good in
+    let w = (read_at (goal.at.factor_pads-requires c).In_ok-n).good in
     (w.least, w.most, w.size, w.finite, search rules)
 
-pub returns-in-Pads : goal.returns-in-Pads
-returns-in-Pads c =
+pub returns : goal.returns
+returns c =
     let whole = held_read c.args.file.now c.args.matrix.now c.args.readings.now c.args.swaps.now c.requires.0 c.requires.1 _ _ _
-    (read_at (goal.at.returns-in-Pads c).In-Pads) _ _ _
+    (read_at (goal.at.returns c).In_ok-n) _ _ _
     c.factor_pads.ensures.result_value c.factor_pads.ensures.a_after c.factor_pads.ensures.swaps_after in
-    record { result_value = whole.0; swaps_after = whole.1 }
-
-pub returns-in-Refused : goal.returns-in-Refused
-returns-in-Refused c =
-    let whole = held_refused c.args.file.now c.args.matrix.now c.args.readings.now c.args.swaps.now c.requires.0 c.requires.1 c.read.result _ _
-    c.read.ensures.result_value c.read.ensures.matrix_after c.read.ensures.readings_after _ c.in-Refused.is in
     record { result_value = whole.0; swaps_after = whole.1 }

@@ -1,64 +1,63 @@
 -- The pad's number, then the factors and the transposed solve. Assumes nothing.
 use mathlib.Core.Bool.{true, false}
-use mathlib.Core.Path.{◌≡◌}
+use mathlib.Core.Path.{◌≡◌, refl}
 use native.Mathlib.Omega.{arith}
 use borrow.Author.Rules.{rules}
+use Rattle.std.proofs.Common.{Err}
+use Rattle.refusals.specs.declared.Refusal.TheVariants.{Size}
+use Rattle.refusals.proofs.Outcomes.{handed_on}
 use Rattle.panel_file.specs.File.{pads_of}
 use Rattle.crossing_pads.specs.Moving.{no_pad}
-use Rattle.crossing.proofs.Factors.{filed_ready, filed_tossed, filed_refused, factors_seven}
-use Rattle.crossing_pads.proofs.Moving.{pad_inside, moving_held, moving_refused, nowhere_early, moving_nowhere}
-use Rattle.crossing_pads.proofs.moves.Goals.{After-swaps-1, Then-pad-n}
+use Rattle.crossing.proofs.Factors.{Filed, filed_ready, filed_tossed, filed_refused, factors_seven}
+use Rattle.crossing_pads.proofs.Moving.{pad_inside, moving_held, moving_refused, refused_by_file, refused_by_pad, moving_early}
+use Rattle.crossing_pads.proofs.moves.Goals.{After-factor_file}
 use Rattle.crossing_pads.proofs.moves.Goals as goal
 
-nowhere : (c : Then-pad-n) → let g = c.args in no_pad (pads_of g.file.now) g.pad ≡ true
-nowhere c = rw (← c.pads_of-n.ensures.0) c.if-pad-n.true
+pub returns-in_err-test_file : goal.returns-in_err-test_file
+returns-in_err-test_file c =
+    let g = c.args in
+    let o = moving_early g.file.now g.pad _ _ g.out.now (refused_by_file g.file.now g.pad _ c.in_err-test_file.ensures)
+    (handed_on _ _ c.from_residual.ensures.1) in
+    record { result_value = o.0; out_after = o.1; out_len = search rules }
+
+pub returns-then-nowhere : goal.returns-then-nowhere
+returns-then-nowhere c =
+    let g = c.args in
+    let o = moving_early g.file.now g.pad Size (Err Size) g.out.now (refused_by_pad g.file.now g.pad (rw (← c.pads_of-n.ensures.0) c.if-nowhere.true)
+    c.in_ok-test_file.ensures) refl in
+    record { result_value = o.0; out_after = o.1; out_len = search rules }
 
 -- past the pad's test
-there : (c : After-swaps-1) → let g = c.args in no_pad (pads_of g.file.now) g.pad ≡ false
-there c = rw (← c.pads_of-n.ensures.0) c.if-pad-n.false
+there : (c : After-factor_file) → let g = c.args in no_pad (pads_of g.file.now) g.pad ≡ false
+there c = rw (← c.pads_of-n.ensures.0) c.if-nowhere.false
 
-pub refuse-requires : goal.refuse-requires
-refuse-requires c =
-    let g = c.args in (
-      (λ seven. absurd (nowhere_early g.file.now g.pad _ _ (nowhere (goal.at.refuse-requires c).Then-pad-n) c.file_refusal-number.ensures
-          c.first.ensures seven)),
-      search rules,
-    )
-
-pub returns-then-pad-n : goal.returns-then-pad-n
-returns-then-pad-n c =
-    let g = c.args in
-    let o = moving_nowhere g.file.now g.pad _ _ (nowhere (goal.at.returns-then-pad-n c).Then-pad-n) c.file_refusal-number.ensures c.first.ensures
-    g.out.now _ _ _ c.pads_of-n.ensures.0 c.refuse.ensures.value c.refuse.ensures.out_after in
-    record { result_value = o.0; out_after = o.1; out_len = search rules }
+-- what the stores hold
+filed : (c : After-factor_file) → let s = c.factor_file.new in Filed c.args.file.now c.factor_file.result s.matrix s.readings s.swaps
+filed c = (c.factor_file.ensures.result_value, (c.factor_file.ensures.swaps_after, c.factor_file.ensures.matrix_len))
 
 pub move_pad-requires : goal.move_pad-requires
 move_pad-requires c =
-    let w = filed_ready _ _ _ _ _ (c.factor_file.ensures.result_value, (c.factor_file.ensures.swaps_after, c.factor_file.ensures.matrix_len)) _ _
-    c.in-Factors.is in
-    let p = pad_inside _ _ (there (goal.at.move_pad-requires c).After-swaps-1) in
+    let at = (goal.at.move_pad-requires c).After-factor_file in
+    let w = filed_ready _ _ _ _ _ (filed at) _ c.in-Ok.is in
+    let p = pad_inside _ _ (there at) in
     (p.0, omega (arith, p.1, w.pads), w.most, search rules, search rules)
 
-pub refuse-requires-in-Refused : goal.refuse-requires-in-Refused
-refuse-requires-in-Refused c =
-    let d = filed_refused _ _ _ _ _ (c.factor_file.ensures.result_value, (c.factor_file.ensures.swaps_after, c.factor_file.ensures.matrix_len)) _
-    c.in-Refused.is in
-    ((λ seven. omega (arith, c.pads_of-n.ensures.0, factors_seven _ _ d seven)), search rules)
+pub refuse-requires : goal.refuse-requires
+refuse-requires c =
+    let e = filed_refused _ _ _ _ _ (filed (goal.at.refuse-requires c).After-factor_file) _ c.in-Err.is in
+    ((λ seven. omega (arith, c.pads_of-n.ensures.0, factors_seven _ _ e seven)), search rules)
 
-pub returns-in-Factors : goal.returns-in-Factors
-returns-in-Factors c =
-    let w = filed_ready _ _ _ _ _ (c.factor_file.ensures.result_value, (c.factor_file.ensures.swaps_after, c.factor_file.ensures.matrix_len)) _ _
-    c.in-Factors.is in
-    let t = filed_tossed _ _ _ _ _ (c.factor_file.ensures.result_value, (c.factor_file.ensures.swaps_after, c.factor_file.ensures.matrix_len)) _ _
-    c.in-Factors.is in
-    let o = moving_held _ _ (there (goal.at.returns-in-Factors c).After-swaps-1) _ _ _ _ w.factors w.pads _ t _ _ c.move_pad.ensures.result_value
+pub returns-in-Ok : goal.returns-in-Ok
+returns-in-Ok c =
+    let at = (goal.at.returns-in-Ok c).After-factor_file in
+    let w = filed_ready _ _ _ _ _ (filed at) _ c.in-Ok.is in
+    let o = moving_held _ _ (there at) _ _ _ _ w.factors w.pads _ (filed_tossed _ _ _ _ _ (filed at) _ c.in-Ok.is) _ _ c.move_pad.ensures.result_value
     c.move_pad.ensures.out_after in
     record { result_value = o.0; out_after = o.1; out_len = omega (arith, c.move_pad.auto.out) }
 
-pub returns-in-Refused : goal.returns-in-Refused
-returns-in-Refused c =
-    let d = filed_refused _ _ _ _ _ (c.factor_file.ensures.result_value, (c.factor_file.ensures.swaps_after, c.factor_file.ensures.matrix_len)) _
-    c.in-Refused.is in
-    let o = moving_refused _ _ (there (goal.at.returns-in-Refused c).After-swaps-1) _ _ _ _ _ d c.pads_of-n.ensures.0 c.refuse-in-Refused.ensures.value
-    c.refuse-in-Refused.ensures.out_after in
+pub returns-in-Err : goal.returns-in-Err
+returns-in-Err c =
+    let at = (goal.at.returns-in-Err c).After-factor_file in
+    let o = moving_refused _ _ (there at) _ _ _ _ _ (filed_refused _ _ _ _ _ (filed at) _ c.in-Err.is) c.pads_of-n.ensures.0 c.refuse.ensures.value
+    c.refuse.ensures.out_after in
     record { result_value = o.0; out_after = o.1; out_len = search rules }

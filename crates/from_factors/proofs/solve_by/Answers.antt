@@ -1,4 +1,4 @@
--- Refused by the tests, or the solved copy of the right-hand sides, settled. Assumes nothing.
+-- Past the tests the copy of the right-hand sides is solved and settled. Assumes nothing.
 use mathlib.Core.Path.{◌≡◌, refl, sym, ap, ◌∙◌}
 use mathlib.Core.Bool.{true}
 use Rattle.numbers.proofs.Choice.{and_first, and_second}
@@ -7,7 +7,6 @@ use Rattle.store.specs.Columns.{columns, is_matrix}
 use Rattle.store.proofs.Columns.{sized, same_matrix}
 use Rattle.factors.specs.Held.{held_refusal}
 use Rattle.from_factors.specs.Solving.{way_of, solve_asks}
-use Rattle.refusals.proofs.Outcomes.{promise_refused}
 use Rattle.factors.proofs.Held.{Passed, passed, square_matrix, square_list}
 use Rattle.from_factors.proofs.Promises.{promise_solved}
 use Rattle.from_factors.proofs.solve_by.Goals.{In_ok-test_held}
@@ -30,11 +29,6 @@ sides c =
     let b = is_matrix g.b.now g.told.rows g.k in
     let x = is_matrix g.x.now g.told.rows g.k in
     (and_first b x (past c).lengths, and_second b x (past c).lengths)
-
-pub returns-in_err-test_held : goal.returns-in_err-test_held
-returns-in_err-test_held c =
-    let number_is = rw (c.outside-sizes.ensures, c.is_matrix.ensures, c.is_matrix-2.ensures, c.all_finite-numbers.ensures) at c.in_err-test_held.ensures in
-    let whole = promise_refused _ _ _ _ _ number_is c.from_residual.ensures.1 in record { result_value = whole.0; x_after = whole.1 }
 
 pub solve_mut_by-requires : goal.solve_mut_by-requires
 solve_mut_by-requires c =

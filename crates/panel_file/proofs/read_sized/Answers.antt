@@ -19,7 +19,8 @@ own_fit_is c = rw c.pads_of-pads.ensures.0 refl
 pub returns-then-is_headed-pads : goal.returns-then-is_headed-pads
 returns-then-is_headed-pads c =
     let g = c.args in
-    let other = sized_other g.file.now g.n (stores g.matrix.now g.readings.now) (rw (c.is_headed.ensures, c.pads_of-pads.ensures.0) at c.if-is_headed-pads.true) in
+    let other = sized_other g.file.now g.n (stores g.matrix.now g.readings.now)
+    (rw (c.is_headed.ensures, c.pads_of-pads.ensures.0) at c.if-is_headed-pads.true) in
     record { result_value = rw other refl; readings_after = rw other refl }
 
 pub read_front-requires : goal.read_front-requires

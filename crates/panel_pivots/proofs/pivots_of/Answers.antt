@@ -1,31 +1,25 @@
 -- The factors, then their pivots; or the refusal. Assumes nothing.
 use borrow.Author.Rules.{rules}
-use Rattle.crossing.proofs.Factors.{Ready, filed_ready, filed_tossed, filed_refused}
+use Rattle.crossing.proofs.Factors.{Filed, filed_ready, filed_tossed, filed_refused}
 use Rattle.panel_pivots.proofs.Measured.{measured, measured_refused}
-use Rattle.panel_pivots.proofs.pivots_of.Goals.{After-matrix-in-Factors-1}
+use Rattle.panel_pivots.proofs.pivots_of.Goals.{After-factor_file}
 use Rattle.panel_pivots.proofs.pivots_of.Goals as goal
 
--- the factors stand in their store
-ready : (c : After-matrix-in-Factors-1) → Ready c.args.file.now c.factor_file.new.matrix c.factor_file.new.readings c.factor_file.new.swaps c.in-Factors.told
-ready c =
-    filed_ready _ _ _ _ _ (c.factor_file.ensures.result_value, (c.factor_file.ensures.swaps_after, c.factor_file.ensures.matrix_len)) _ _ c.in-Factors.is
+-- what the stores hold
+filed : (c : After-factor_file) → let s = c.factor_file.new in Filed c.args.file.now c.factor_file.result s.matrix s.readings s.swaps
+filed c = (c.factor_file.ensures.result_value, (c.factor_file.ensures.swaps_after, c.factor_file.ensures.matrix_len))
+
+pub returns-in_err-told : goal.returns-in_err-told
+returns-in_err-told c =
+    measured_refused _ _ _ (filed_refused _ _ _ _ _ (filed (goal.at.returns-in_err-told c).After-factor_file) _ c.in_err-told.was)
+    c.from_residual.ensures.1
 
 pub span_front-requires : goal.span_front-requires
-span_front-requires c = ((ready c).most, search rules)
+span_front-requires c =
+    ((filed_ready _ _ _ _ _ (filed (goal.at.span_front-requires c).After-factor_file) _ c.in_ok-told.was).most, search rules)
 
-pub returns-in-Factors : goal.returns-in-Factors
-returns-in-Factors c =
-    let w = ready (goal.at.returns-in-Factors c).After-matrix-in-Factors-1 in
-    let tossed = filed_tossed _ _ _ _ _ (c.factor_file.ensures.result_value, (c.factor_file.ensures.swaps_after, c.factor_file.ensures.matrix_len)) _ _
-    c.in-Factors.is in
-    measured _ _ _ _ _ _ w.factors w.pads tossed c.greatest_of-most.ensures c.span_front.ensures
-
-pub returns-in-Refused : goal.returns-in-Refused
-returns-in-Refused c =
-    measured_refused _ _ (filed_refused _ _ _ _ _ (
-      c.factor_file.ensures.result_value,
-      (
-        c.factor_file.ensures.swaps_after,
-        c.factor_file.ensures.matrix_len,
-      ),
-    ) _ c.in-Refused.is)
+pub returns : goal.returns
+returns c =
+    let f = filed (goal.at.returns c).After-factor_file in
+    let w = filed_ready _ _ _ _ _ f _ c.in_ok-told.was in
+    measured _ _ _ _ _ _ w.factors w.pads (filed_tossed _ _ _ _ _ f _ c.in_ok-told.was) c.greatest_of-most.ensures c.span_front.ensures

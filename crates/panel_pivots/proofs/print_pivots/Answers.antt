@@ -3,10 +3,10 @@ use Rattle.panel_pivots.proofs.Measured.{measured_numbers}
 use Rattle.panel_pivots.proofs.print_pivots.Goals as goal
 
 pub print_bits-requires : goal.print_bits-requires
-print_bits-requires c = (measured_numbers _ _ _ c.pivots_of.ensures _ _ _ _ c.in-Told.is).0
+print_bits-requires c = (measured_numbers _ _ _ c.pivots_of.ensures _ c.in-Ok.is).0
 
-pub print_bits-requires-in-Told : goal.print_bits-requires-in-Told
-print_bits-requires-in-Told c = (measured_numbers _ _ _ c.pivots_of.ensures _ _ _ _ c.in-Told.is).1
+pub print_bits-requires-in-Ok : goal.print_bits-requires-in-Ok
+print_bits-requires-in-Ok c = (measured_numbers _ _ _ c.pivots_of.ensures _ c.in-Ok.is).1
 
-pub print_bits-requires-in-Told-2 : goal.print_bits-requires-in-Told-2
-print_bits-requires-in-Told-2 c = (measured_numbers _ _ _ c.pivots_of.ensures _ _ _ _ c.in-Told.is).2
+pub print_bits-requires-in-Ok-2 : goal.print_bits-requires-in-Ok-2
+print_bits-requires-in-Ok-2 c = (measured_numbers _ _ _ c.pivots_of.ensures _ c.in-Ok.is).2

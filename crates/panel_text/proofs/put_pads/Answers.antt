@@ -3,14 +3,14 @@ use mathlib.Core.Path.{◌≡◌}
 use native.Mathlib.Omega.{arith}
 use lib.ListN.{length, length-set}
 use Rattle.panel_text.specs.Text.{written, pads_word, pads_text}
-use Rattle.panel_text.proofs.Lines.{FirstLine, first_line_lem, pads_written}
+use Rattle.panel_text.proofs.Lines.{FirstLine, first_line_written, pads_written}
 use Rattle.panel_text.proofs.put_pads.Goals.{After-slice_known-3-1, After-slice_known-4-1}
 use Rattle.panel_text.proofs.put_pads.Goals as goal
 
 first_at : (c : After-slice_known-3-1) → let g = c.args in
     FirstLine pads_word g.n g.out.now c.put_decimal-end.new.out c.put_decimal-end.result
 first_at c =
-    first_line_lem pads_word _ _ _ _ _ _ (omega arith) c.put_word-at.ensures.out_after c.put_word-at.ensures.value c.put_decimal-end.ensures.out_after
+    first_line_written pads_word _ _ _ _ _ _ (omega arith) c.put_word-at.ensures.out_after c.put_word-at.ensures.value c.put_decimal-end.ensures.out_after
     c.put_decimal-end.ensures.value
 
 written_at : (c : After-slice_known-4-1) → let g = c.args in
@@ -18,7 +18,7 @@ written_at : (c : After-slice_known-4-1) → let g = c.args in
     (c.put_lines.result ≡ length t) × (c.put_lines.new.out ≡ written 0 t g.out.now) × (length c.put_lines.new.out ≡ length g.out.now)
 written_at c =
     let first_at : let g = c.args in FirstLine pads_word g.n g.out.now c.put_decimal-end.new.out c.put_decimal-end.result =
-    first_line_lem pads_word _ _ _ _ _ _ (omega arith) c.put_word-at.ensures.out_after c.put_word-at.ensures.value c.put_decimal-end.ensures.out_after
+    first_line_written pads_word _ _ _ _ _ _ (omega arith) c.put_word-at.ensures.out_after c.put_word-at.ensures.value c.put_decimal-end.ensures.out_after
     c.put_decimal-end.ensures.value in
     pads_written _ _ _ _ _ _ _ _ first_at (omega (arith, c.requires.n_bound.0, c.requires.n_bound.1)) (omega (arith, c.requires.n_bound.3))
     c.put_lines.ensures.value c.put_lines.ensures.out_after

@@ -1,11 +1,10 @@
 -- Each slice by its front. Assumes nothing.
-use Rattle.std.proofs.Common.{false, ◌++◌, drop, sym, ap, arith, rules}
+use Rattle.std.proofs.Common.{false, ◌++◌, drop, sym, ap, ◌∙◌, arith, rules}
 use Rattle.numbers.specs.Column.{Column}
 use Rattle.panel_file.proofs.Reading.{square}
 use Rattle.crossing.specs.Below.{packed_in}
-use Rattle.crossing.proofs.Below.{solved_left}
+use Rattle.crossing.proofs.Below.{solved_answer, solved_left}
 use Rattle.crossing.proofs.Factors.{taken_count}
-use Rattle.season.proofs.Telling.{solve_number}
 use Rattle.season.proofs.solve_readings.Goals as goal
 
 pub overflow_mul-entries : goal.overflow_mul-entries
@@ -26,6 +25,6 @@ returns c =
     let p = packed_in g.matrix.now g.swaps.now g.told in
     let fits = sym (taken_count g.told.rows g.loads.now (omega arith)) in
     record {
-      value = solve_number p _ _ fits _ _ c.number_of.ensures c.solve.ensures.result_value;
+      value = c.solve.ensures.result_value ∙ solved_answer false p _ _ fits;
       loads_after = ap (λ (t : Column). t ++ drop g.told.rows g.loads.now) (solved_left false p _ _ _ fits c.solve.ensures.x_after (search rules));
     }

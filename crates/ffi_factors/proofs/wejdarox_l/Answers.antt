@@ -1,7 +1,0 @@
--- The number of the call's own answer. Assumes nothing.
-use mathlib.Core.Path.{ap, ◌∙◌}
-use Rattle.refusals.specs.Outcome.{number_of}
-use Rattle.ffi_factors.proofs.wejdarox_l.Goals as goal
-
-pub returns : goal.returns
-returns c = record { value = c.number_of.ensures ∙ ap number_of c.l.ensures.result_value; x_after = c.l.ensures.out_after }
