@@ -40,13 +40,10 @@ pub fn tell_factored(
     ensures toss_ups_after { toss_ups.new ≡ tossed_in (factored answer) }
 {
     match answer {
-        Ok(Factored {
-            told,
-            toss_ups: tossed,
-        }) => {
-            *pairs = told.pairs;
-            *dead = told.dead;
-            *toss_ups = tossed;
+        Ok(made) => {
+            *pairs = made.told.pairs;
+            *dead = made.told.dead;
+            *toss_ups = made.toss_ups;
             0
         }
         Err(refusal) => {
@@ -115,13 +112,10 @@ pub fn wejdarox_add_column(
         dead: died,
     };
     match adding::add_column(factors, column, swaps, held) {
-        Ok(Factored {
-            told: grown,
-            toss_ups: tossed,
-        }) => {
-            *pairs = grown.pairs;
-            *dead = grown.dead;
-            *toss_ups = tossed;
+        Ok(grown) => {
+            *pairs = grown.told.pairs;
+            *dead = grown.told.dead;
+            *toss_ups = grown.toss_ups;
             0
         }
         Err(refused) => {
@@ -314,22 +308,15 @@ pub fn wejdarox_rank_all(loads: &[f64], n: usize, ranks: &mut [usize], count: &m
 
 // Tells the numbers of pads and of toss-ups, or none, through pointers. Answers the refusal's number.
 #[tactic(auto, unfolding(lu::specs::Factoring::tossed_in))]
-pub fn tell_order(
-    answer: Result<Order, Refusal>,
-    pads: &mut usize,
-    toss_ups: &mut usize,
-) -> usize
+pub fn tell_order(answer: Result<Order, Refusal>, pads: &mut usize, toss_ups: &mut usize) -> usize
     ensures value { result ≡ number_of (pads_ordered answer) }
     ensures pads_after { pads.new ≡ pads_in (pads_ordered answer) }
     ensures toss_ups_after { toss_ups.new ≡ tossed_in (pads_ordered answer) }
 {
     match answer {
-        Ok(Order {
-            pads: n,
-            toss_ups: tossed,
-        }) => {
-            *pads = n;
-            *toss_ups = tossed;
+        Ok(order) => {
+            *pads = order.pads;
+            *toss_ups = order.toss_ups;
             0
         }
         Err(refusal) => {

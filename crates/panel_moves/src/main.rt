@@ -5,16 +5,15 @@
 use std::env::Env;
 
 // A decimal digit's value.
-fn digit(byte: u8) -> Option<usize> {
-    let value = char::from(byte).to_digit(10)?;
-    Some(value as usize)
+fn digit(byte: u8) -> Option<u32> {
+    char::from(byte).to_digit(10)
 }
 
 // The number that a word of one or two digits stands for.
 fn pad_of(word: &[u8]) -> Option<usize> {
     match word {
-        [ones] => digit(*ones),
-        [tens, ones] => Some(10 * digit(*tens)? + digit(*ones)?),
+        [ones] => Some(digit(*ones)? as usize),
+        [tens, ones] => Some(10 * digit(*tens)? as usize + digit(*ones)? as usize),
         _ => None,
     }
 }

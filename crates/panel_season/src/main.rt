@@ -42,7 +42,12 @@ fn with_named(rt: HostRuntime, season: Season, name: &[u8]) -> Result<Season, Re
 }
 
 // The season with the file of a name of so many bytes, an empty file where that is too many.
-fn with_name(rt: HostRuntime, season: Season, name: &[u8], length: usize) -> Result<Season, Refusal> {
+fn with_name(
+    rt: HostRuntime,
+    season: Season,
+    name: &[u8],
+    length: usize,
+) -> Result<Season, Refusal> {
     if length <= name.len() {
         return with_named(rt, season, &name[..length]);
     }
