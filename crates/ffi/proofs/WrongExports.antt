@@ -43,7 +43,7 @@ unfolding is_matrix first_holding outside tested ranking_refusal ranking record_
     with_toss_ups factoring_answer
     pairs_in dead_columns_in tossed_in adding_refusal adding adding_answer solving inverting producing determining scaling inverse_test little_endian
     field_at headed
-    file_tests file_refusal factors_in tosses_given stiffness settled_in loads_of ranks_left ordering value_after result_after pads_in count_in
+    file_tests file_refusal factors_in tosses_given stiffness settled_in loads_of ranks_left ordering
 Refuses = Unit {0}
 
 -- ---- factoring and adding

@@ -20,8 +20,7 @@ use Rattle.ffi_files.specs.Files.{writing_answer}
 -- a name for all that has to unfold for a call to be refused
 Refuses : Type 0
 unfolding first_holding tested outside tossed_in little_endian field_at headed file_tests reading_refusal reading writing_refusal
-    moves_refusal moves_of
-    moving pads_in count_in
+    moves_refusal moves_of moving
 Refuses = Unit {0}
 
 -- `LXP`, version 1, one pad and no numbers, which is 3
