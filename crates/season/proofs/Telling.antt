@@ -1,6 +1,7 @@
 -- What a file brings to a season, as the code puts it together; and what is known of it: a refusal is one of 1 to 9 and the one that the answer for the file
 -- gives, an accepted file lists at most 64 pads and is in one of the five bands. By the cases of the outcomes. Assumes nothing.
-use Rattle.std.proofs.Common.{◌≡◌, ℕ, ◌+◌, ◌*◌, ◌<◌, ◌≤◌, true, false, T, List, [], ◌∷◌, length, take, replicate, sym, refl, ap, ◌∙◌, arith, Option, Result, Ok, Err}
+use Rattle.std.proofs.Common.{◌≡◌, ℕ, ◌+◌, ◌*◌, ◌<◌, ◌≤◌, true, false, T, List, [], ◌∷◌, length, take, replicate, sym, refl, ap, ◌∙◌, arith}
+use Rattle.std.proofs.Common.{Option, Result, Ok, Err}
 use lib.Ieee.{nan, binary64, fits}
 use lib.Ieee.Scale.{finite}
 use Rattle.numbers.specs.Numbers.{magnitude}
