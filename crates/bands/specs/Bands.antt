@@ -1,6 +1,6 @@
 -- Document 02, request 13: crossings "by the least magnitude on their factors' diagonal, banded by the biased exponent: 0, 1 to 511, 512 to 1022, 1023 to 1534,
 -- 1535 to 2046".
-use Rattle.std.specs.Prelude.{cond, ℕ, ◌/◌, ◌%◌, leb, Float}
+use Rattle.std.specs.Prelude.{cond, ℕ, ◌/◌, ◌%◌, leb, Float, Option, Some, None}
 use Rattle.std.specs.Float.{binary64}
 use Rattle.std.specs.Float.Ieee.{lt, of_bits, to_bits}
 use Rattle.numbers.specs.Each.{turns_from}
@@ -35,3 +35,8 @@ band_of e = cond (leb e 0) 0 (cond (leb e 511) 1 (cond (leb e 1022) 2 (cond (leb
 -- the band of the n by n factors that t holds; none where it holds no such factors
 unfoldable pub band_on : Column → ℕ → ℕ
 band_on t n = cond (is_matrix t n n) (band_of (biased (least_on_diagonal n (columns n n t)))) 5
+
+-- the number that each case of an answer stands for
+abbrev pub band_number : Option ℕ → ℕ
+band_number None = 5
+band_number (Some band) = band

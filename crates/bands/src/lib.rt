@@ -1,10 +1,10 @@
 // Document 02, request 13: the band of a crossing, by the least magnitude on the diagonal of its factors.
 #![tactic(auto)]
 
-ghost use Rattle.std.specs.Prelude.{◌≡◌, true, not, T};
+ghost use Rattle.std.specs.Prelude.{◌≡◌, ◌<◌, true, not, T, IfSome};
 ghost use Rattle.std.specs.Float.Ieee.{is_nan};
 ghost use Rattle.store.specs.Columns.{columns, is_matrix};
-ghost use Rattle.bands.specs.Bands.{least_on_diagonal, biased, band_of, band_on};
+ghost use Rattle.bands.specs.Bands.{least_on_diagonal, biased, band_of, band_on, band_number};
 
 // The least magnitude on the diagonal of n by n factors; an infinity where they have no number.
 #[tactic(auto, using(store::proofs::Columns::sized, store::proofs::Columns::column_within))]
@@ -33,28 +33,29 @@ fn exponent(x: f64) -> u64
     f64::to_bits(x) / 0x10_0000_0000_0000 % 2048
 }
 
-// The band of a biased exponent, from 0; 5 for none.
-fn band_of(exponent: u64) -> usize
-    ensures { result ≡ band_of exponent }
+// The band of a biased exponent, from 0.
+fn band_of(exponent: u64) -> Option<usize>
+    ensures value { band_number result ≡ band_of exponent }
+    ensures below_five { IfSome result (λ band. band < 5) }
 {
     match exponent {
-        0 => 0,
-        1..=511 => 1,
-        512..=1022 => 2,
-        1023..=1534 => 3,
-        1535..=2046 => 4,
-        _ => 5,
+        0 => Some(0),
+        1..=511 => Some(1),
+        512..=1022 => Some(2),
+        1023..=1534 => Some(3),
+        1535..=2046 => Some(4),
+        _ => None,
     }
 }
 
-// The band of the n by n factors t, from 0, by the least magnitude on their diagonal; 5, which is no band, where t holds no such factors or none of these
-// numbers is finite.
-pub fn band(t: &[f64], n: usize) -> usize
-    ensures { result ≡ band_on t.now n }
+// The band of the n by n factors t, from 0, by the least magnitude on their diagonal; none where t holds no such factors or none of these numbers is finite.
+pub fn band(t: &[f64], n: usize) -> Option<usize>
+    ensures value { band_number result ≡ band_on t.now n }
+    ensures below_five { IfSome result (λ band. band < 5) }
 {
     if store::is_matrix(t, n, n) {
         band_of(exponent(least_on_diagonal(t, n)))
     } else {
-        5
+        None
     }
 }

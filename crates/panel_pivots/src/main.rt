@@ -38,6 +38,7 @@ fn greatest(numbers: &[f64]) -> f64
 }
 
 // The least magnitude of the numbers, an infinity where there is none.
+// (A walk shared with `greatest` would share its test, which the edit least_for_greatest turns round for that one alone.)
 fn least(numbers: &[f64]) -> f64
     ensures { Least numbers.now (length numbers.now) result }
 {

@@ -1,6 +1,7 @@
 -- What a file brings to a season, as the code puts it together; and what is known of it: a refusal is one of 1 to 9 and the one that the answer for the file
 -- gives, an accepted file lists at most 64 pads and is in one of the five bands. By the cases of the outcomes. Assumes nothing.
-use Rattle.std.proofs.Common.{◌≡◌, ℕ, ◌+◌, ◌*◌, ◌<◌, ◌≤◌, true, false, T, List, [], ◌∷◌, length, take, replicate, sym, refl, ap, ◌∙◌, arith, Result, Ok, Err}
+use Rattle.std.proofs.Common.{◌≡◌, ℕ, ◌+◌, ◌*◌, ◌<◌, ◌≤◌, true, false, T, List, [], ◌∷◌, length, take, replicate, sym, refl, ap, ◌∙◌, arith}
+use Rattle.std.proofs.Common.{Option, Result, Ok, Err}
 use lib.Ieee.{nan, binary64, fits}
 use lib.Ieee.Scale.{finite}
 use Rattle.numbers.specs.Numbers.{magnitude}
@@ -29,7 +30,7 @@ use Rattle.from_factors.proofs.Accepted.{accepted_columns}
 use Rattle.panel_file.specs.File.{pads_of, matrix_of, readings_of}
 use Rattle.panel_file.specs.Reading.{file_refusal}
 use Rattle.panel_file.proofs.Longer.{any_longer}
-use Rattle.bands.specs.Bands.{least_on_diagonal, biased, band_on}
+use Rattle.bands.specs.Bands.{least_on_diagonal, biased, band_on, band_number}
 use Rattle.bands.proofs.Banded.{banded}
 use Rattle.bands.proofs.Least.{diagonal_at, least_is, finite_magnitude}
 use Rattle.crossing.specs.Below.{Packed, packed, packed_in, factors_of, solution_by, solution_in}
@@ -97,8 +98,8 @@ pub loads_in : (o : Outcome Column) (none : Unit {0}) → done none ≡ and_then
 loads_in (done x) none e = record { x = x; is = refl }
 loads_in (refused k) none e = never_both none k e
 
-pub told_share : (o : Outcome Column) (l : Loads o) (p : Packed) (front : Column) (pads band : ℕ) → front ≡ l.x
-    → pads ≡ length (listing (loaded front) front p.told.rows) → band ≡ band_on p.factors p.told.rows
+pub told_share : (o : Outcome Column) (l : Loads o) (p : Packed) (front : Column) (pads : ℕ) (band : Option ℕ) → front ≡ l.x
+    → pads ≡ length (listing (loaded front) front p.told.rows) → band_number band ≡ band_on p.factors p.told.rows
     → share_told (Ok (record { pads = pads; band = band })) ≡ and_then o (λ x. done (share_of p x))
 told_share o l p front pads band same a b =
     let count = a ∙ ap (λ (x : Column). length (listing (loaded x) x p.told.rows)) same in

@@ -5,7 +5,7 @@ use Rattle.numbers.specs.Column.{Column}
 use Rattle.refusals.specs.declared.Refusal.{Refusal}
 use Rattle.refusals.specs.Outcome.{Outcome, done, refused, number, and_then}
 use Rattle.ranking.specs.Ranking.{loaded, listing}
-use Rattle.bands.specs.Bands.{band_on}
+use Rattle.bands.specs.Bands.{band_on, band_number}
 use Rattle.panel_file.specs.File.{pads_of, readings_of}
 use Rattle.crossing.specs.Below.{Packed, solution_by}
 use Rattle.crossing.specs.Factors.{factors_in}
@@ -25,5 +25,5 @@ telling bytes = and_then (factors_in bytes) (λ f. and_then (solution_by false f
 
 -- what each case of the answer stands for
 abbrev pub share_told : Result Crossing Refusal → Outcome Share
-share_told (Ok c) = done (record { pads = c.pads; band = c.band })
+share_told (Ok c) = done (record { pads = c.pads; band = band_number c.band })
 share_told (Err refusal) = refused (number refusal)

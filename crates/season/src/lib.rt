@@ -18,7 +18,7 @@ use refusals::Refusal;
 #[derive(Clone, Copy)]
 struct Crossing {
     pads: usize,
-    band: usize,
+    band: Option<usize>,
 }
 
 // How many of the n pads carry something.
@@ -127,7 +127,7 @@ impl Season {
     }
 
     // The season with a file that brought this.
-    #[tactic(auto, unfolding(crate::specs::Season::counted))]
+    #[tactic(auto, using(crate::proofs::Rows::past_end), unfolding(crate::specs::Season::counted))]
     fn counted(self, told: Result<Crossing, Refusal>) -> Self
         ensures { result ≡ counted self (share_told told) }
     {
@@ -140,7 +140,10 @@ impl Season {
                 accepted: std::num::wrapping_add_usize(self.accepted, 1),
                 refused,
                 pads: std::num::wrapping_add_usize(self.pads, pads),
-                bands: one_more(bands, band),
+                bands: match band {
+                    Some(band) => one_more(bands, band),
+                    None => bands,
+                },
             },
             Err(refusal) => Self {
                 files,

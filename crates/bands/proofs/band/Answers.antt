@@ -10,12 +10,12 @@ least_on_diagonal-requires c = sym c.is_matrix.ensures ∙ c.if-is_matrix.true
 pub exponent-requires : goal.exponent-requires
 exponent-requires c = rw c.least_on_diagonal.ensures (least_number _ _)
 
-pub returns-then-is_matrix : goal.returns-then-is_matrix
+pub returns-then-is_matrix-clause-value : goal.returns-then-is_matrix-clause-value
 unfolding band_on
-returns-then-is_matrix c =
+returns-then-is_matrix-clause-value c =
     rw (sym c.is_matrix.ensures ∙ c.if-is_matrix.true)
-    (c.band_of.ensures ∙ ap band_of (c.exponent.ensures ∙ ap biased c.least_on_diagonal.ensures))
+    (c.band_of.ensures.value ∙ ap band_of (c.exponent.ensures ∙ ap biased c.least_on_diagonal.ensures))
 
-pub returns-else-is_matrix : goal.returns-else-is_matrix
+pub returns-else-is_matrix-clause-value : goal.returns-else-is_matrix-clause-value
 unfolding band_on
-returns-else-is_matrix c = rw (sym c.is_matrix.ensures ∙ c.if-is_matrix.false)
+returns-else-is_matrix-clause-value c = rw (sym c.is_matrix.ensures ∙ c.if-is_matrix.false)

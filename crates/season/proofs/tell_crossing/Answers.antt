@@ -41,4 +41,4 @@ pub returns : goal.returns
 returns c =
     let g = c.args in
     let past = (goal.at.returns c).In_ok-solve_readings in
-    told_share _ (loads past) (packed_in g.matrix.now g.swaps.now g.told) _ _ _ (front past).1 c.listed.ensures c.band.ensures
+    told_share _ (loads past) (packed_in g.matrix.now g.swaps.now g.told) _ _ c.band.result (front past).1 c.listed.ensures c.band.ensures.value
