@@ -35,7 +35,7 @@ listed-requires c =
     (c.requires.0, c.requires.1, ap length f.1 ∙ f.0, ap all_finite f.1 ∙ numbers)
 
 pub slice_bounds-band-end : goal.slice_bounds-band-end
-slice_bounds-band-end c = taken_count _ c.args.matrix.now (omega (arith, c.requires.2, square c.args.told.rows 64 c.requires.1))
+slice_bounds-band-end c = taken_count _ c.args.matrix.now (omega (arith, square c.args.told.rows 64 c.requires.1))
 
 pub returns : goal.returns
 returns c =
