@@ -13,12 +13,6 @@ overflow_mul-entries c = omega (arith, square c.args.told.rows 64 c.requires)
 pub slice_bounds-solve-end : goal.slice_bounds-solve-end
 slice_bounds-solve-end c = taken_count _ c.args.matrix.now (omega (arith, square c.args.told.rows 64 c.requires))
 
-pub slice_bounds-solve-end-2 : goal.slice_bounds-solve-end-2
-slice_bounds-solve-end-2 c = taken_count c.args.told.rows c.args.readings.now (omega arith)
-
-pub slice_bounds-solve-end-4 : goal.slice_bounds-solve-end-4
-slice_bounds-solve-end-4 c = taken_count c.args.told.rows c.args.loads.now (omega arith)
-
 pub returns : goal.returns
 returns c =
     let g = c.args in

@@ -3,8 +3,7 @@ use mathlib.Core.Path.{◌≡◌, ap, ◌∙◌}
 use mathlib.Core.List.{List}
 use Prim.Native.Nat.{ℕ, ◌≤◌}
 use native.Mathlib.Omega.{arith}
-use lib.ListN.{take, length-replicate}
-use Rattle.numbers.specs.Numbers.{zero64}
+use lib.ListN.{take}
 use Rattle.numbers.specs.Column.{Column, zeros}
 use Rattle.panel_file.proofs.Reading.{square}
 use Rattle.crossing.proofs.Factors.{taken_count}
@@ -19,12 +18,6 @@ overflow_mul-entries c = omega (arith, square c.args.told.rows 64 c.requires)
 
 pub slice_bounds-why_solve-end : goal.slice_bounds-why_solve-end
 slice_bounds-why_solve-end c = taken_count _ c.args.matrix.now (omega (arith, square c.args.told.rows 64 c.requires))
-
-pub slice_bounds-why_solve-end-2 : goal.slice_bounds-why_solve-end-2
-slice_bounds-why_solve-end-2 c = taken_count c.args.told.rows c.args.readings.now (omega arith)
-
-pub slice_bounds-why_solve-end-3 : goal.slice_bounds-why_solve-end-3
-slice_bounds-why_solve-end-3 c = taken_count c.args.told.rows (zeros 64) (omega (arith, c.requires, length-replicate 64 zero64))
 
 -- the slice that the call was lent holds zeros
 lent : (told : Record) (a b : Column) (swaps : List ℕ) → told.rows ≤ 64

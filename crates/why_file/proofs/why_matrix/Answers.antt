@@ -2,11 +2,9 @@
 use mathlib.Core.Path.{◌≡◌, ap, ◌∙◌}
 use Prim.Native.Nat.{ℕ, ◌*◌, ◌≤◌}
 use native.Mathlib.Omega.{arith}
-use lib.ListN.{take, replicate, length-replicate}
-use Rattle.numbers.specs.Numbers.{zero64}
+use lib.ListN.{take, replicate}
 use Rattle.numbers.specs.Column.{Column, zeros}
 use Rattle.panel_file.proofs.Reading.{square}
-use Rattle.crossing.proofs.Factors.{taken_count}
 use Rattle.why.specs.Why.{told_factor, explain_factoring}
 use Rattle.why_file.specs.Explaining.{in_factoring, told_in, told_file}
 use Rattle.why_file.proofs.Filed.{zeros_front}
@@ -14,15 +12,6 @@ use Rattle.why_file.proofs.why_matrix.Goals as goal
 
 pub overflow_mul-entries : goal.overflow_mul-entries
 overflow_mul-entries c = omega (arith, square c.args.n 64 c.requires)
-
-pub slice_bounds-why_factor-end : goal.slice_bounds-why_factor-end
-slice_bounds-why_factor-end c = taken_count _ c.args.matrix.now (omega (arith, square c.args.n 64 c.requires))
-
-pub slice_bounds-factors-end : goal.slice_bounds-factors-end
-slice_bounds-factors-end c = omega (arith, square c.args.n 64 c.requires)
-
-pub slice_bounds-why_factor-end-2 : goal.slice_bounds-why_factor-end-2
-slice_bounds-why_factor-end-2 c = taken_count _ (zeros 4096) (omega (arith, length-replicate 4096 zero64, square c.args.n 64 c.requires))
 
 -- the slice that the call was lent holds zeros
 lent : (n : ℕ) (a : Column) → n ≤ 64
