@@ -18,7 +18,6 @@ use Rattle.refusals.specs.Outcome.{Outcome, done, refused, first_holding, tested
 use Rattle.refusals.specs.Refusals.{seventh}
 use Rattle.std.proofs.Common.{Result}
 use Rattle.refusals.specs.declared.Refusal.{Refusal}
-use Rattle.refusals.proofs.Outcomes.{tested_none, tested_some}
 use Rattle.factors.specs.declared.Record.{Record}
 use Rattle.lu.specs.declared.Factored.{Factored}
 use Rattle.factors.specs.declared.Asks.{Asks}

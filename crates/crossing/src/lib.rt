@@ -34,11 +34,10 @@ fn factor_pads(n: usize, a: &mut [f64], swaps: &mut [usize]) -> Result<Factored,
 // The same for the matrix of a file, in stores of 4096, 64 and 128.
 fn factor_read(
     file: &[u8],
-    matrix: &mut [f64],
-    readings: &mut [f64],
-    swaps: &mut [usize],
+    matrix: &mut [f64; 4096],
+    readings: &mut [f64; 64],
+    swaps: &mut [usize; 128],
 ) -> Result<Factored, Refusal>
-    requires { (length matrix.old ≡ 4096) × (length readings.old ≡ 64) × (length swaps.old ≡ 128) }
     ensures result_value { factored result ≡ (holding file.now (stores matrix.old readings.old swaps.old)).answer }
     ensures swaps_after { stores matrix.new readings.new swaps.new
         ≡ (holding file.now (stores matrix.old readings.old swaps.old)).left }
@@ -64,8 +63,8 @@ pub fn factor_file(
 }
 
 // The scaled determinant by the factors in front of their store, or the refusal handed on.
-fn determinant_of(matrix: &[f64], swaps: &[usize], told: Record) -> Result<Scaled, Refusal>
-    requires { (told.rows ≤ 64) × (length matrix.now ≡ 4096) }
+fn determinant_of(matrix: &[f64; 4096], swaps: &[usize], told: Record) -> Result<Scaled, Refusal>
+    requires { told.rows ≤ 64 }
     ensures result_value { outcome result ≡ scaled_by (packed_in matrix.now swaps.now told) }
     ensures answer_ranged { AnswerRanged result }
 {

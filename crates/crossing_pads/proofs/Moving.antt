@@ -6,14 +6,13 @@ use mathlib.Core.List.{List, [], ◌∷◌}
 use Prim.Native.Nat.{ℕ, zero, suc, ◌-◌, ◌≤◌, ◌<◌}
 use native.Mathlib.Nat.{le_of_suc-le-suc, not-suc-le-zero}
 use native.Mathlib.Omega.{arith}
-use borrow.Author.Tests.{eqb-true, eqb-false, ltb-false, eq-eqb, ne_eqb}
+use borrow.Author.Tests.{eqb-false, ltb-false}
 use lib.Dec.{eqb, ltb}
 use lib.ListN.{set, take, replicate}
 use lib.Seq.{take-set-lt}
 use Rattle.numbers.specs.Numbers.{zero64, one64}
 use Rattle.numbers.specs.Column.{Column}
 use Rattle.finite.specs.Finite.{all_finite}
-use Rattle.numbers.proofs.Choice.{test_cases}
 use Rattle.std.proofs.Common.{Result, Err}
 use Rattle.refusals.specs.declared.Refusal.{Refusal}
 use Rattle.refusals.specs.Outcome.{Outcome, done, refused, number, first_holding, tested, and_then}

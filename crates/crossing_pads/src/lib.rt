@@ -46,13 +46,13 @@ fn solve_system(
 // The same with the factors, the right-hand side and the solution in front of their stores.
 fn solve_front(
     transposed: bool,
-    matrix: &[f64],
+    matrix: &[f64; 4096],
     swaps: &[usize],
     told: Record,
-    b: &[f64],
-    x: &mut [f64],
+    b: &[f64; 64],
+    x: &mut [f64; 64],
 ) -> Result<(), Refusal>
-    requires { (told.rows ≤ 64) × (length matrix.now ≡ 4096) × (length b.now ≡ 64) × (length x.old ≡ 64) }
+    requires { told.rows ≤ 64 }
     ensures result_value { outcome result
         ≡ and_then (solution_in transposed matrix.now swaps.now told b.now) (λ _. done tt) }
     ensures x_after { x.new
@@ -71,8 +71,8 @@ fn solve_front(
 }
 
 // A refusal by overflow leaves +0.0 in front of the results, any other all as it was.
-fn refuse(refusal: Refusal, n: usize, out: &mut [f64]) -> Result<Order, Refusal>
-    requires { (number refusal ≡ 7 → n ≤ 64) × (length out.old ≡ 64) }
+fn refuse(refusal: Refusal, n: usize, out: &mut [f64; 64]) -> Result<Order, Refusal>
+    requires { number refusal ≡ 7 → n ≤ 64 }
     ensures value { result ≡ Err refusal }
     ensures out_after { out.new ≡ fronted n (refused (number refusal)) out.old }
 {
@@ -85,16 +85,15 @@ fn refuse(refusal: Refusal, n: usize, out: &mut [f64]) -> Result<Order, Refusal>
 
 // The loads for the readings, and the pads in the order of their loads.
 fn rank_loads(
-    matrix: &[f64],
+    matrix: &[f64; 4096],
     swaps: &[usize],
     told: Record,
     toss_ups: usize,
-    readings: &[f64],
-    ranks: &mut [usize],
-    loads: &mut [f64],
+    readings: &[f64; 64],
+    ranks: &mut [usize; 64],
+    loads: &mut [f64; 64],
 ) -> Result<Order, Refusal>
-    requires le_rows { (1 ≤ told.rows) × (told.rows ≤ 64) × (length matrix.now ≡ 4096) × (length readings.now ≡ 64) }
-    requires ranks_len { (length ranks.old ≡ 64) × (length loads.old ≡ 64) }
+    requires { (1 ≤ told.rows) × (told.rows ≤ 64) }
     ensures result_value { pads_ordered result
         ≡ and_then (solution_in false matrix.now swaps.now told readings.now) (λ _. done (told.rows, toss_ups)) }
     ensures ranks_after { ranks.new
@@ -133,14 +132,14 @@ pub fn pad_order(
 
 // The transposed solve of a pad's unit column.
 fn move_pad(
-    matrix: &[f64],
+    matrix: &[f64; 4096],
     swaps: &[usize],
     told: Record,
     toss_ups: usize,
     pad: usize,
-    out: &mut [f64],
+    out: &mut [f64; 64],
 ) -> Result<Order, Refusal>
-    requires { (1 ≤ pad) × (pad ≤ told.rows) × (told.rows ≤ 64) × (length matrix.now ≡ 4096) × (length out.old ≡ 64) }
+    requires { (1 ≤ pad) × (pad ≤ told.rows) × (told.rows ≤ 64) }
     ensures result_value { pads_ordered result ≡ and_then
         (solution_by true (packed_in matrix.now swaps.now told) (unit_column told.rows (pad - 1)))
         (λ _. done (told.rows, toss_ups)) }

@@ -93,8 +93,8 @@ fn span(toss_ups: usize, most: f64, t: &[f64], n: usize, pivots: &mut [f64]) -> 
 }
 
 // The same for the factors in front of a store.
-fn span_front(toss_ups: usize, most: f64, matrix: &[f64], n: usize) -> Pivots
-    requires { (n ≤ 64) × (length matrix.now ≡ 4096) }
+fn span_front(toss_ups: usize, most: f64, matrix: &[f64; 4096], n: usize) -> Pivots
+    requires { n ≤ 64 }
     ensures { Spanned (take (n * n) matrix.now) n toss_ups most result }
 {
     let entries = n * n;

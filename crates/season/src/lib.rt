@@ -32,13 +32,13 @@ fn listed(loads: &[f64], n: usize) -> usize
 
 // Solves for the readings, into loads, each in front of its store.
 fn solve_readings(
-    matrix: &[f64],
+    matrix: &[f64; 4096],
     swaps: &[usize],
     told: Record,
-    readings: &[f64],
-    loads: &mut [f64],
+    readings: &[f64; 64],
+    loads: &mut [f64; 64],
 ) -> Result<(), Refusal>
-    requires { (told.rows ≤ 64) × (length matrix.now ≡ 4096) × (length readings.now ≡ 64) × (length loads.old ≡ 64) }
+    requires { told.rows ≤ 64 }
     ensures value { outcome result ≡ and_then (solution_in false matrix.now swaps.now told readings.now) (λ _. done tt) }
     ensures loads_after { loads.new
         ≡ fronted told.rows (solution_in false matrix.now swaps.now told readings.now) loads.old }
@@ -57,12 +57,12 @@ fn solve_readings(
 
 // What a crossing brings whose factors and readings stand in front of their stores.
 fn tell_crossing(
-    matrix: &[f64],
+    matrix: &[f64; 4096],
     swaps: &[usize],
     told: Record,
-    readings: &[f64],
+    readings: &[f64; 64],
 ) -> Result<Crossing, Refusal>
-    requires { (1 ≤ told.rows) × (told.rows ≤ 64) × (length matrix.now ≡ 4096) × (length readings.now ≡ 64) }
+    requires { (1 ≤ told.rows) × (told.rows ≤ 64) }
     ensures { share_told result ≡ and_then (solution_in false matrix.now swaps.now told readings.now)
         (λ x. done (share_of (packed_in matrix.now swaps.now told) x)) }
 {

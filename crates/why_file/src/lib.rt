@@ -55,8 +55,8 @@ fn of_solving(reason: WhySolve) -> WhyFile
 }
 
 // Why factoring the n by n matrix in front of a store is refused.
-fn why_matrix(n: usize, matrix: &[f64]) -> Option<WhyFile>
-    requires { (n ≤ 64) × (length matrix.now ≡ 4096) }
+fn why_matrix(n: usize, matrix: &[f64; 4096]) -> Option<WhyFile>
+    requires { n ≤ 64 }
     ensures { told_file result ≡ told_in in_factoring (explain_factoring (take (n * n) matrix.now) n n (zeros (n * n)) (replicate 128 0)) }
 {
     let mut factors = [0.0f64; 4096];
@@ -85,8 +85,13 @@ fn why_factors(file: &[u8]) -> Option<WhyFile>
 }
 
 // Why the factors in front of their store do not solve for the readings in front of theirs.
-fn why_loads(matrix: &[f64], swaps: &[usize], told: Record, readings: &[f64]) -> Option<WhyFile>
-    requires { (told.rows ≤ 64) × (length matrix.now ≡ 4096) × (length readings.now ≡ 64) }
+fn why_loads(
+    matrix: &[f64; 4096],
+    swaps: &[usize],
+    told: Record,
+    readings: &[f64; 64],
+) -> Option<WhyFile>
+    requires { told.rows ≤ 64 }
     ensures { told_file result
         ≡ explain_loads (packed_in matrix.now swaps.now told) (take told.rows readings.now) }
 {

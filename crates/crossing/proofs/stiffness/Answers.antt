@@ -1,5 +1,4 @@
 -- The factors, then the determinant. Assumes nothing.
-use borrow.Author.Rules.{rules}
 use Rattle.crossing.proofs.Factors.{Filed, filed_ready, filed_tossed, filed_refused, stiffness_held, stiffness_refused, tossed_held, tossed_refused}
 use Rattle.crossing.proofs.stiffness.Goals.{After-factor_file}
 use Rattle.crossing.proofs.stiffness.Goals as goal
@@ -10,7 +9,7 @@ filed c = (c.factor_file.ensures.result_value, (c.factor_file.ensures.swaps_afte
 
 pub determinant_of-determinant-requires : goal.determinant_of-determinant-requires
 determinant_of-determinant-requires c =
-    ((filed_ready _ _ _ _ _ (filed (goal.at.determinant_of-determinant-requires c).After-factor_file) _ c.in-Ok.is).most, search rules)
+    (filed_ready _ _ _ _ _ (filed (goal.at.determinant_of-determinant-requires c).After-factor_file) _ c.in-Ok.is).most
 
 pub returns-in-Ok : goal.returns-in-Ok
 returns-in-Ok c =

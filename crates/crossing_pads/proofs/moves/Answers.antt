@@ -1,5 +1,5 @@
 -- The pad's number, then the factors and the transposed solve. Assumes nothing.
-use mathlib.Core.Bool.{true, false}
+use mathlib.Core.Bool.{false}
 use mathlib.Core.Path.{◌≡◌, refl}
 use native.Mathlib.Omega.{arith}
 use borrow.Author.Rules.{rules}
@@ -40,12 +40,12 @@ move_pad-requires c =
     let at = (goal.at.move_pad-requires c).After-factor_file in
     let w = filed_ready _ _ _ _ _ (filed at) _ c.in-Ok.is in
     let p = pad_inside _ _ (there at) in
-    (p.0, omega (arith, p.1, w.pads), w.most, search rules, search rules)
+    (p.0, omega (arith, p.1, w.pads), w.most)
 
 pub refuse-requires : goal.refuse-requires
 refuse-requires c =
     let e = filed_refused _ _ _ _ _ (filed (goal.at.refuse-requires c).After-factor_file) _ c.in-Err.is in
-    ((λ seven. omega (arith, c.pads_of-n.ensures.0, factors_seven _ _ e seven)), search rules)
+    (λ seven. omega (arith, c.pads_of-n.ensures.0, factors_seven _ _ e seven))
 
 pub returns-in-Ok : goal.returns-in-Ok
 returns-in-Ok c =
@@ -53,7 +53,7 @@ returns-in-Ok c =
     let w = filed_ready _ _ _ _ _ (filed at) _ c.in-Ok.is in
     let o = moving_held _ _ (there at) _ _ _ _ w.factors w.pads _ (filed_tossed _ _ _ _ _ (filed at) _ c.in-Ok.is) _ _ c.move_pad.ensures.result_value
     c.move_pad.ensures.out_after in
-    record { result_value = o.0; out_after = o.1; out_len = omega (arith, c.move_pad.auto.out) }
+    record { result_value = o.0; out_after = o.1; out_len = search rules }
 
 pub returns-in-Err : goal.returns-in-Err
 returns-in-Err c =

@@ -13,12 +13,12 @@ filed c = (c.factor_file.ensures.result_value, (c.factor_file.ensures.swaps_afte
 pub rank_loads-requires : goal.rank_loads-requires
 rank_loads-requires c =
     let w = filed_ready _ _ _ _ _ (filed (goal.at.rank_loads-requires c).After-factor_file) _ c.in-Ok.is in
-    record { le_rows = (w.least, w.most, search rules, search rules); ranks_len = (search rules, search rules) }
+    (w.least, w.most)
 
 pub refuse-requires : goal.refuse-requires
 refuse-requires c =
     let e = filed_refused _ _ _ _ _ (filed (goal.at.refuse-requires c).After-factor_file) _ c.in-Err.is in
-    ((λ seven. omega (arith, c.pads_of.ensures.0, factors_seven _ _ e seven)), search rules)
+    (λ seven. omega (arith, c.pads_of.ensures.0, factors_seven _ _ e seven))
 
 pub returns-in-Ok : goal.returns-in-Ok
 returns-in-Ok c =
@@ -26,7 +26,7 @@ returns-in-Ok c =
     let w = filed_ready _ _ _ _ _ f _ c.in-Ok.is in
     let o = ordering_held _ _ _ _ _ _ _ w.factors w.pads w.is_readings _ (filed_tossed _ _ _ _ _ f _ c.in-Ok.is) _ _ _
     c.rank_loads.ensures.result_value c.rank_loads.ensures.ranks_after c.rank_loads.ensures.loads_after in
-    record { result_value = o.0; ranks_after = o.1.0; loads_after = o.1.1; loads_len = omega (arith, c.rank_loads.auto.loads) }
+    record { result_value = o.0; ranks_after = o.1.0; loads_after = o.1.1; loads_len = search rules }
 
 pub returns-in-Err : goal.returns-in-Err
 returns-in-Err c =

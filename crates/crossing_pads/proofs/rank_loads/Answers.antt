@@ -1,12 +1,10 @@
 -- Solving, then ranking, each in front of its store. Assumes nothing.
 use mathlib.Core.Bool.{false}
-use mathlib.Core.Path.{sym, ap, ◌∙◌}
 use native.Mathlib.Omega.{arith}
 use borrow.Author.Rules.{rules}
-use lib.ListN.{length, take}
+use lib.ListN.{take}
 use Rattle.crossing.specs.Below.{packed_in, solution_in}
 use Rattle.crossing.proofs.Below.{solution_finite}
-use Rattle.crossing.proofs.Factors.{taken_count}
 use Rattle.crossing_pads.proofs.Ordering.{told_done, told_refused, not_solved, Solved, solved, ranked_left, ranks_kept}
 use Rattle.crossing_pads.proofs.rank_loads.Goals.{In_ok-solve_front}
 use Rattle.crossing_pads.proofs.rank_loads.Goals as goal
@@ -24,19 +22,7 @@ solved_at : (c : In_ok-solve_front) → let g = c.args in
     Solved g.told.rows (solution_in false g.matrix.now g.swaps.now g.told g.readings.now) c.solve_front.new.x
 solved_at c =
     solved c.args.told.rows _ c.args.loads.now _ c.in_ok-solve_front.ensures.result_value c.solve_front.ensures.x_after
-    (omega (arith, c.requires.le_rows, c.requires.ranks_len)) (search rules)
-
-pub slice_bounds-rank_all-end : goal.slice_bounds-rank_all-end
-slice_bounds-rank_all-end c = omega (arith, c.requires.le_rows, c.requires.ranks_len, c.solve_front.auto.x)
-
-pub slice_bounds-rank_all-end-2 : goal.slice_bounds-rank_all-end-2
-slice_bounds-rank_all-end-2 c = let s = solved_at (goal.at.slice_bounds-rank_all-end-2 c).In_ok-solve_front in sym (ap length s.front ∙ s.size)
-
-pub slice_bounds-rank_all-end-3 : goal.slice_bounds-rank_all-end-3
-slice_bounds-rank_all-end-3 c = omega (arith, c.requires.le_rows, c.requires.ranks_len)
-
-pub slice_bounds-rank_all-end-4 : goal.slice_bounds-rank_all-end-4
-slice_bounds-rank_all-end-4 c = taken_count _ c.args.ranks.now (omega (arith, c.requires.le_rows, c.requires.ranks_len))
+    (omega (arith, c.requires)) (search rules)
 
 pub returns : goal.returns
 returns c =
@@ -44,7 +30,7 @@ returns c =
     let finite = solution_finite false (packed_in g.matrix.now g.swaps.now g.told) (take g.told.rows g.readings.now) in
     record {
       result_value = told_done _ _ _ c.in_ok-solve_front.ensures.result_value;
-      ranks_after = ranked_left _ _ _ (solved_at (goal.at.returns c).In_ok-solve_front) finite c.requires.le_rows.0 c.requires.le_rows.1 g.ranks.now
-          _ c.requires.ranks_len.0 c.rank_all.ensures.ranks_after;
+      ranks_after = ranked_left _ _ _ (solved_at (goal.at.returns c).In_ok-solve_front) finite c.requires.0 c.requires.1 g.ranks.now
+          _ (search rules) c.rank_all.ensures.ranks_after;
       loads_after = c.solve_front.ensures.x_after;
     }

@@ -1,5 +1,4 @@
 -- The factors, then their pivots; or the refusal. Assumes nothing.
-use borrow.Author.Rules.{rules}
 use Rattle.crossing.proofs.Factors.{Filed, filed_ready, filed_tossed, filed_refused}
 use Rattle.panel_pivots.proofs.Measured.{measured, measured_refused}
 use Rattle.panel_pivots.proofs.pivots_of.Goals.{After-factor_file}
@@ -16,7 +15,7 @@ returns-in_err-told c =
 
 pub span_front-requires : goal.span_front-requires
 span_front-requires c =
-    ((filed_ready _ _ _ _ _ (filed (goal.at.span_front-requires c).After-factor_file) _ c.in_ok-told.was).most, search rules)
+    (filed_ready _ _ _ _ _ (filed (goal.at.span_front-requires c).After-factor_file) _ c.in_ok-told.was).most
 
 pub returns : goal.returns
 returns c =

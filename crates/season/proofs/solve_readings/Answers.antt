@@ -8,16 +8,10 @@ use Rattle.crossing.proofs.Factors.{taken_count}
 use Rattle.season.proofs.solve_readings.Goals as goal
 
 pub overflow_mul-entries : goal.overflow_mul-entries
-overflow_mul-entries c = omega (arith, square c.args.told.rows 64 c.requires.0)
+overflow_mul-entries c = omega (arith, square c.args.told.rows 64 c.requires)
 
 pub slice_bounds-solve-end : goal.slice_bounds-solve-end
-slice_bounds-solve-end c = taken_count _ c.args.matrix.now (omega (arith, c.requires.1, square c.args.told.rows 64 c.requires.0))
-
-pub slice_bounds-solve-end-2 : goal.slice_bounds-solve-end-2
-slice_bounds-solve-end-2 c = taken_count c.args.told.rows c.args.readings.now (omega arith)
-
-pub slice_bounds-solve-end-4 : goal.slice_bounds-solve-end-4
-slice_bounds-solve-end-4 c = taken_count c.args.told.rows c.args.loads.now (omega arith)
+slice_bounds-solve-end c = taken_count _ c.args.matrix.now (omega (arith, square c.args.told.rows 64 c.requires))
 
 pub returns : goal.returns
 returns c =

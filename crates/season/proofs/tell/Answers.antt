@@ -1,5 +1,5 @@
 -- The factors, then the share. Assumes nothing.
-use Rattle.std.proofs.Common.{◌∙◌, rules}
+use Rattle.std.proofs.Common.{◌∙◌}
 use Rattle.crossing.proofs.Factors.{Ready, filed_ready, filed_refused}
 use Rattle.season.proofs.Telling.{telling_held, telling_refused}
 use Rattle.season.proofs.tell.Goals.{In_ok-told}
@@ -23,7 +23,7 @@ returns-in_err-told c =
     c.from_residual.ensures.1
 
 pub tell_crossing-requires : goal.tell_crossing-requires
-tell_crossing-requires c = let w = ready (goal.at.tell_crossing-requires c).In_ok-told in (w.least, w.most, search rules, search rules)
+tell_crossing-requires c = let w = ready (goal.at.tell_crossing-requires c).In_ok-told in (w.least, w.most)
 
 pub returns : goal.returns
 returns c =

@@ -1,10 +1,9 @@
 -- The solve's refusal, or the share. Assumes nothing.
-use Rattle.std.proofs.Common.{◌≡◌, false, length, take, sym, ap, ◌∙◌, arith, rules}
+use Rattle.std.proofs.Common.{◌≡◌, false, length, take, ap, ◌∙◌, arith, rules}
 use Rattle.finite.specs.Finite.{all_finite}
 use Rattle.panel_file.proofs.Reading.{square}
 use Rattle.crossing.specs.Below.{packed_in, solution_in}
 use Rattle.crossing.proofs.Below.{solution_finite}
-use Rattle.crossing.proofs.Factors.{taken_count}
 use Rattle.crossing.proofs.Loads.{front_done}
 use Rattle.season.proofs.Telling.{told_refused, Loads, loads_in, told_share}
 use Rattle.season.proofs.tell_crossing.Goals.{In_ok-solve_readings}
@@ -23,9 +22,6 @@ returns-in_err-solve_readings c = told_refused _ _ _ _ c.in_err-solve_readings.e
 pub overflow_mul-entries : goal.overflow_mul-entries
 overflow_mul-entries c = omega (arith, square c.args.told.rows 64 c.requires.1)
 
-pub slice_bounds-listed-end : goal.slice_bounds-listed-end
-slice_bounds-listed-end c = let f = front (goal.at.slice_bounds-listed-end c).In_ok-solve_readings in sym (ap length f.1 ∙ f.0)
-
 pub listed-requires : goal.listed-requires
 listed-requires c =
     let g = c.args in
@@ -33,9 +29,6 @@ listed-requires c =
     let p = packed_in g.matrix.now g.swaps.now g.told in
     let numbers = solution_finite false p (take g.told.rows g.readings.now) _ (loads (goal.at.listed-requires c).In_ok-solve_readings).is in
     (c.requires.0, c.requires.1, ap length f.1 ∙ f.0, ap all_finite f.1 ∙ numbers)
-
-pub slice_bounds-band-end : goal.slice_bounds-band-end
-slice_bounds-band-end c = taken_count _ c.args.matrix.now (omega (arith, c.requires.2, square c.args.told.rows 64 c.requires.1))
 
 pub returns : goal.returns
 returns c =

@@ -1,14 +1,10 @@
 -- Reading, then why the matrix is not factored (`by_matrix`, `by_reader`). Assumes nothing.
-use mathlib.Core.Path.{◌∙◌}
-use lib.ListN.{length-replicate}
-use Rattle.numbers.specs.Numbers.{zero64}
 use Rattle.why_file.proofs.Filed.{was_read, by_matrix, by_reader}
 use Rattle.why_file.proofs.why_factors.Goals as goal
 
 pub why_matrix-requires : goal.why_matrix-requires
 why_matrix-requires c =
-    let w = was_read c.args.file.now _ _ c.read.ensures.matrix_after c.read.ensures.readings_after _ c.in-Ok.ensures.result_value in
-    (w.good.most, c.read.auto.matrix ∙ length-replicate 4096 zero64)
+    (was_read c.args.file.now _ _ c.read.ensures.matrix_after c.read.ensures.readings_after _ c.in-Ok.ensures.result_value).good.most
 
 pub returns-in-Ok : goal.returns-in-Ok
 returns-in-Ok c =

@@ -1,5 +1,4 @@
 -- The factors, then why they do not solve; or why there are none. Assumes nothing.
-use borrow.Author.Rules.{rules}
 use Rattle.crossing.proofs.Factors.{Ready, filed_ready, filed_refused}
 use Rattle.why_file.proofs.Filed.{by_loads, by_factors}
 use Rattle.why_file.proofs.Near.{placed}
@@ -12,7 +11,7 @@ ready c =
     filed_ready _ _ _ _ _ (c.factor_file.ensures.result_value, (c.factor_file.ensures.swaps_after, c.factor_file.ensures.matrix_len)) _ c.in-Ok.is
 
 pub why_loads-requires : goal.why_loads-requires
-why_loads-requires c = ((ready (goal.at.why_loads-requires c).In-Ok).most, search rules, search rules)
+why_loads-requires c = (ready (goal.at.why_loads-requires c).In-Ok).most
 
 pub returns-in-Ok : goal.returns-in-Ok
 returns-in-Ok c =

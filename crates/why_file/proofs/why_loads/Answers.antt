@@ -3,8 +3,7 @@ use mathlib.Core.Path.{◌≡◌, ap, ◌∙◌}
 use mathlib.Core.List.{List}
 use Prim.Native.Nat.{ℕ, ◌≤◌}
 use native.Mathlib.Omega.{arith}
-use lib.ListN.{take, length-replicate}
-use Rattle.numbers.specs.Numbers.{zero64}
+use lib.ListN.{take}
 use Rattle.numbers.specs.Column.{Column, zeros}
 use Rattle.panel_file.proofs.Reading.{square}
 use Rattle.crossing.proofs.Factors.{taken_count}
@@ -15,16 +14,10 @@ use Rattle.why_file.proofs.Filed.{zeros_front}
 use Rattle.why_file.proofs.why_loads.Goals as goal
 
 pub overflow_mul-entries : goal.overflow_mul-entries
-overflow_mul-entries c = omega (arith, square c.args.told.rows 64 c.requires.0)
+overflow_mul-entries c = omega (arith, square c.args.told.rows 64 c.requires)
 
 pub slice_bounds-why_solve-end : goal.slice_bounds-why_solve-end
-slice_bounds-why_solve-end c = taken_count _ c.args.matrix.now (omega (arith, c.requires.1, square c.args.told.rows 64 c.requires.0))
-
-pub slice_bounds-why_solve-end-2 : goal.slice_bounds-why_solve-end-2
-slice_bounds-why_solve-end-2 c = taken_count c.args.told.rows c.args.readings.now (omega arith)
-
-pub slice_bounds-why_solve-end-3 : goal.slice_bounds-why_solve-end-3
-slice_bounds-why_solve-end-3 c = taken_count c.args.told.rows (zeros 64) (omega (arith, c.requires.0, length-replicate 64 zero64))
+slice_bounds-why_solve-end c = taken_count _ c.args.matrix.now (omega (arith, square c.args.told.rows 64 c.requires))
 
 -- the slice that the call was lent holds zeros
 lent : (told : Record) (a b : Column) (swaps : List ℕ) → told.rows ≤ 64
@@ -34,8 +27,8 @@ lent told a b swaps most = ap (explain_solving a swaps told b 1) (zeros_front to
 pub returns-in_err-reason : goal.returns-in_err-reason
 unfolding told_file told_solve explain_loads
 returns-in_err-reason c =
-    rw c.from_residual.ensures (ap (told_in in_solving) (c.in_err-reason.ensures.result_value ∙ lent _ _ _ _ c.requires.0))
+    rw c.from_residual.ensures (ap (told_in in_solving) (c.in_err-reason.ensures.result_value ∙ lent _ _ _ _ c.requires))
 
 pub returns : goal.returns
 unfolding explain_loads
-returns c = c.of_solving.ensures ∙ ap (told_in in_solving) (c.in_ok-reason.ensures.result_value ∙ lent _ _ _ _ c.requires.0)
+returns c = c.of_solving.ensures ∙ ap (told_in in_solving) (c.in_ok-reason.ensures.result_value ∙ lent _ _ _ _ c.requires)

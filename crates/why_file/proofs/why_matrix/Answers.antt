@@ -2,27 +2,16 @@
 use mathlib.Core.Path.{◌≡◌, ap, ◌∙◌}
 use Prim.Native.Nat.{ℕ, ◌*◌, ◌≤◌}
 use native.Mathlib.Omega.{arith}
-use lib.ListN.{take, replicate, length-replicate}
-use Rattle.numbers.specs.Numbers.{zero64}
+use lib.ListN.{take, replicate}
 use Rattle.numbers.specs.Column.{Column, zeros}
 use Rattle.panel_file.proofs.Reading.{square}
-use Rattle.crossing.proofs.Factors.{taken_count}
 use Rattle.why.specs.Why.{told_factor, explain_factoring}
 use Rattle.why_file.specs.Explaining.{in_factoring, told_in, told_file}
 use Rattle.why_file.proofs.Filed.{zeros_front}
 use Rattle.why_file.proofs.why_matrix.Goals as goal
 
 pub overflow_mul-entries : goal.overflow_mul-entries
-overflow_mul-entries c = omega (arith, square c.args.n 64 c.requires.0)
-
-pub slice_bounds-why_factor-end : goal.slice_bounds-why_factor-end
-slice_bounds-why_factor-end c = taken_count _ c.args.matrix.now (omega (arith, c.requires.1, square c.args.n 64 c.requires.0))
-
-pub slice_bounds-factors-end : goal.slice_bounds-factors-end
-slice_bounds-factors-end c = omega (arith, square c.args.n 64 c.requires.0)
-
-pub slice_bounds-why_factor-end-2 : goal.slice_bounds-why_factor-end-2
-slice_bounds-why_factor-end-2 c = taken_count _ (zeros 4096) (omega (arith, length-replicate 4096 zero64, square c.args.n 64 c.requires.0))
+overflow_mul-entries c = omega (arith, square c.args.n 64 c.requires)
 
 -- the slice that the call was lent holds zeros
 lent : (n : ℕ) (a : Column) → n ≤ 64
@@ -32,7 +21,7 @@ lent n a most = ap (λ (x : Column). explain_factoring a n n x (replicate 128 0)
 pub returns-in_err-reason : goal.returns-in_err-reason
 unfolding told_file told_factor
 returns-in_err-reason c =
-    rw c.from_residual.ensures (ap (told_in in_factoring) (c.in_err-reason.ensures.result_value ∙ lent _ _ c.requires.0))
+    rw c.from_residual.ensures (ap (told_in in_factoring) (c.in_err-reason.ensures.result_value ∙ lent _ _ c.requires))
 
 pub returns : goal.returns
-returns c = c.of_factoring.ensures ∙ ap (told_in in_factoring) (c.in_ok-reason.ensures.result_value ∙ lent _ _ c.requires.0)
+returns c = c.of_factoring.ensures ∙ ap (told_in in_factoring) (c.in_ok-reason.ensures.result_value ∙ lent _ _ c.requires)
