@@ -11,7 +11,7 @@ ghost use Rattle.four_pads.specs.Inner.{held_as, loaded_by};
 use four_by_four::{Reduced, Rows, System};
 
 // What the profile answers: the refusal's number, 0 for none, the packed factors by column, how many swaps are recorded, their row numbers, two a pair and then
-// zeros, and the loads. A refusal's are zeros.
+// zeros, and the loads. A refusal's are zeros. It is no Result: "any refusal returns zeros" (request 11), and the contract of `four_pads` says so.
 #[derive(Clone, Copy)]
 pub struct FourPads {
     pub number: usize,

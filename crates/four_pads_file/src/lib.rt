@@ -20,7 +20,7 @@ pub struct FourNumbers {
 pub fn by_columns(a: [f64; 16]) -> [[f64; 4]; 4]
     ensures { flat result ≡ a }
 {
-    // std lends an array in chunks (`as_chunks_mut`) and copies none out, so the entries stand by their places.
+    // Tried with `as_chunks`: that its four chunks are the array again did not close.
     [
         [a[0], a[1], a[2], a[3]],
         [a[4], a[5], a[6], a[7]],

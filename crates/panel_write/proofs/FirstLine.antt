@@ -36,7 +36,8 @@ module _ (tens ones : ℕ) where
   pub two_no_ones : (ones ≤ 9 → ⊥) → two_digits tens ones ≡ 0
   unfolding two_digits
   two_no_ones o =
-      test_cases (ltb 9 tens) (λ t. rw t refl) (λ t. rw (t, lt-ltb 9 ones (test_cases (ltb 9 ones) (ltb-true 9 ones) (λ u. absurd (o (ltb-false 9 ones u))))) refl)
+      test_cases (ltb 9 tens) (λ t. rw t refl)
+      (λ t. rw (t, lt-ltb 9 ones (test_cases (ltb 9 ones) (ltb-true 9 ones) (λ u. absurd (o (ltb-false 9 ones u))))) refl)
 
   pub two_no_tens : (tens ≤ 9 → ⊥) → two_digits tens ones ≡ 0
   unfolding two_digits

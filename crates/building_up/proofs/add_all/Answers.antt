@@ -44,7 +44,9 @@ returns-in_default c =
     c.add_column.ensures.swaps_after _ c.in_default.is)
 
 pub overflow_add-tossed : goal.overflow_add-tossed
-overflow_add-tossed c = omega (arith, c.loop-k.invariant.few, (grown (goal.at.overflow_add-tossed c).In-Ok).at_most_one, (ok _ _ _ _ _ c.requires.swaps_value).cols.at_most)
+overflow_add-tossed c =
+    let next = grown (goal.at.overflow_add-tossed c).In-Ok in
+    omega (arith, c.loop-k.invariant.few, next.at_most_one, (ok _ _ _ _ _ c.requires.swaps_value).cols.at_most)
 
 pub loop-k-preserved : goal.loop-k-preserved
 loop-k-preserved c =
