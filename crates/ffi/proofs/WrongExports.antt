@@ -14,7 +14,7 @@ use Rattle.numbers.specs.Each.{list_of}
 use Rattle.numbers.specs.Numbers.{zero64}
 use Rattle.numbers.specs.Column.{Column, zeros}
 use Rattle.store.specs.Columns.{is_matrix}
-use Rattle.refusals.specs.Outcome.{Outcome, number_of, first_holding, tested, and_then, Call}
+use Rattle.refusals.specs.Outcome.{Outcome, number_of, first_holding, tested, Call}
 use Rattle.refusals.specs.Refusals.{outside}
 use Rattle.refusals.proofs.Strength.{ShutsOut, shut_out, TwoShutOut, two}
 use Rattle.ranking.specs.Ranking.{Choice, loaded, every_pad, ranking_refusal, ranking}

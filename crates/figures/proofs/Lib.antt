@@ -1,4 +1,5 @@
 pub mod Table
+pub mod Passes
 pub mod WrongAnswers
 pub mod WrongRankings
 pub mod WrongColumns
