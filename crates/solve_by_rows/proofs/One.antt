@@ -39,10 +39,19 @@ module _ (n : ℕ) (t : Column) (matrix : is_matrix t n n ≡ true) where
       ∙ sym (one_solved (pass_of upward) n t b matrix long)
 
   -- so two blocks, one after the other, give both passes
-  pub both_blocks : (b b' b'' : Column) → length b ≡ n → length b' ≡ length b → Doubles b → Doubles b'
+  pub two_blocks : (b b' b'' : Column) → length b ≡ n → length b' ≡ length b → Doubles b → Doubles b'
       → b' ≡ turns_from (row_done false n (columns n n t)) 0 n b
       → b'' ≡ turns_from (row_done true n (columns n n t)) 0 n b'
       → b'' ≡ both_passes t n b
-  both_blocks b b' b'' long kept all all' down up =
+  two_blocks b b' b'' long kept all all' down up =
       whole_block true b' b'' (kept ∙ long) all' up
       ∙ ap (λ (c : Column). solved_in_place (pass_of true) t n c 1) (whole_block false b b' long all down)
+
+-- the same of sizes that go by other names
+pub both_blocks : (n k : ℕ) (same : n ≡ k) (t : Column) (matrix : is_matrix t n n ≡ true) (b b' b'' : Column) (w w' : ℕ) → w ≡ k → w' ≡ k → length b ≡ n
+    → length b' ≡ length b → Doubles b → Doubles b'
+    → b' ≡ turns_from (row_done false k (columns k k t)) 0 w b
+    → b'' ≡ turns_from (row_done true k (columns k k t)) 0 w' b'
+    → b'' ≡ both_passes t n b
+both_blocks n k same t matrix b b' b'' w w' e e' long kept all all' down up =
+    two_blocks n t matrix b b' b'' long kept all all' (rw (e, sym same) at down) (rw (e', sym same) at up)

@@ -31,13 +31,14 @@ impl Pass {
         }
     }
 
-    // The row of turn k: downward from the first, or upward from the last.
+    // The row of turn k: downward from the first, or upward from the last. Turns that are not there have row 0 upward, and their own number downward.
     pub fn row_at(self, n: usize, k: usize) -> usize
-        requires { k < n }
         ensures { result ≡ row_at self n k }
     {
         match self {
-            Pass::Upper | Pass::TransposedLower | Pass::TransposedUnitLower => n - 1 - k,
+            Pass::Upper | Pass::TransposedLower | Pass::TransposedUnitLower => {
+                n.saturating_sub(1).saturating_sub(k)
+            }
             _ => k,
         }
     }
