@@ -16,7 +16,7 @@ use Rattle.numbers.proofs.Choice.{test_cases, and_first}
 use Rattle.finite.proofs.Finite.{finite_append}
 use Rattle.store.specs.Columns.{columns, flat, HasRows}
 use Rattle.store.specs.Steps.{Matrix}
-use Rattle.store.proofs.Columns.{sized, is_matrix_lem, column_within, columns_rows, columns_split}
+use Rattle.store.proofs.Columns.{sized, is_matrix_lem, columns_rows, columns_split}
 use Rattle.dead_columns.proofs.Dead.{dead_none}
 use Rattle.std.proofs.Common.{Result, Ok, Err}
 use Rattle.std.specs.Result.{is_err}
@@ -123,18 +123,6 @@ module _ (m n : ℕ) (a out : Column) (store : List ℕ) (none : factoring_refus
     outcome_long x e =
         let given = accepted_given m k (take (k * m) a) (zeros (k * m)) (replicate 128 0) x e in
         ap (λ (o : Factoring). length o.left.factors) given.is ∙ size_f m k (take (k * m) a) (zeros (k * m)) (replicate 128 0) front_none
-
-  -- column k ends within the matrix and within a slice as long as that for the factors, where its slot is
-  module _ (k : ℕ) (h : k < n) where
-    pub column_ends : k * m + m ≤ length a
-    column_ends = column_within m n k a h len_a
-
-    module _ (s : Column) (long : length s ≡ length out) where
-      pub slot_ends : k * m + m ≤ length s
-      slot_ends = column_within m n k s h (long ∙ (sized m n out p.slice).size)
-
-      pub slot_long : length (take m (drop (k * m) s)) ≡ m
-      slot_long = length-take-le m (drop (k * m) s) (omega (arith, slot_ends, length-drop (k * m) s))
 
   -- no columns
   pub start_built : outcome_at m 0 a ≡ accepted_as m 0 (unfactored [])
