@@ -19,13 +19,12 @@ use Rattle.store.proofs.Columns.{sized, is_matrix_lem, column_within, same_matri
 use Rattle.store.proofs.Steps.{length_swap_in_all}
 use Rattle.dead_columns.specs.Dead.{dead_at, dead_in, dead_of}
 use Rattle.dead_columns.proofs.Dead.{dead_most, dead_snoc, dead_swapped}
-use Rattle.std.proofs.Common.{Result, Ok, Err}
-use Rattle.std.specs.Result.{IsErrAnd}
+use Rattle.std.proofs.Common.{Ok, Err}
 use Rattle.refusals.specs.declared.Refusal.{Refusal}
 use Rattle.refusals.specs.declared.Refusal.TheVariants.{Overflow}
 use Rattle.refusals.specs.Outcome.{done, refused, number, number_of, first_holding, leaving}
 use Rattle.refusals.specs.Refusals.{outside}
-use Rattle.refusals.proofs.Outcomes.{tested_none, tested_some, none_given, never_0, handed_on}
+use Rattle.refusals.proofs.Outcomes.{tested_none, tested_some, none_given, never_0}
 use Rattle.swap_list.specs.SwapList.{pairs_of, with_pair, good_list}
 use Rattle.swap_list.proofs.SwapList.{good}
 use Rattle.factors.specs.declared.Record.{Record}
@@ -37,7 +36,6 @@ use Rattle.elimination.specs.Adding.{reduced, add_column}
 use Rattle.elimination.specs.Own.{own_row, own_column}
 use Rattle.elimination.specs.TossUps.{toss_at, own_toss_up}
 use Rattle.elimination.proofs.Own.{joined, own_from, length_own, length_reduced, adding_joins}
-use Rattle.lu.specs.declared.Factored.{Factored}
 use Rattle.lu.specs.Factoring.{with_toss_ups}
 use Rattle.adding.specs.Adding.{adding_asks, older_in, adding_refusal, older_factors, adding_settled, adding, adding_answer}
 use Rattle.adding.specs.Inner.{Ready, with_reduced, Joined, AddedTo}
@@ -126,14 +124,13 @@ module _ (r : Record) (s c : Column) (store : List ℕ) where
           → tested_as room (good_list store r.pairs m (min m n)) (all_finite (take a s) && all_finite c) (dead_of (take a s) m n) ≡ adding_refusal s c store r
       no t = rw (fits ∙ t) (without_room t (good_list store r.pairs m (min m n)) (all_finite (take a s) && all_finite c) (dead_of (take a s) m n))
 
-  pub refused_by : (refusal : Refusal) (answer : Result Factored Refusal) → number refusal ≡ adding_refusal s c store r → IsErrAnd answer (λ e. e ≡ refusal)
-      → AddedTo s c store r answer s store
+  pub refused_by : (refusal : Refusal) → number refusal ≡ adding_refusal s c store r
+      → AddedTo s c store r (Err (record { refusal = refusal; old = r })) s store
   unfolding adding adding_answer with_toss_ups record_after
-  refused_by refusal answer e h =
-      let on = handed_on refusal answer h in
+  refused_by refusal e =
       let w = tested_some (adding_refusal s c store r) (leaving (slices s store)) (adding_settled s store r (add_column m (older_factors s store r) c))
       (λ z. never_0 refusal (e ∙ z)) in
-      record { answer = rw (on, w) (ap refused e); told = rw (on, w) refl; factors = rw w refl; pairs = rw w refl }
+      record { answer = rw w (ap refused e); told = rw w refl; factors = rw w refl; pairs = rw w refl }
 
   -- ---- the factors, the reduced column, and its own step
   module _ (go : Ready s c store r) where
@@ -179,7 +176,7 @@ module _ (r : Record) (s c : Column) (store : List ℕ) where
 
     -- the new column is not finite: the slot holds zeros
     promise_seven : (y s' : Column) → y ≡ own_column n x → all_finite y ≡ false → length s' ≡ length s → columns m (n + 1) s' ≡ columns m n s ++ zeros m ∷ []
-        → AddedTo s c store r (Err Overflow) s' store
+        → AddedTo s c store r (Err (record { refusal = Overflow; old = r })) s' store
     unfolding adding_settled adding_answer with_toss_ups record_after
     promise_seven y s' is bad kept zeroed =
         let not_finite : all_finite (column (swap_in_all n (own_row n x) f.columns ++ own_column n x ∷ []) n) ≡ false =
@@ -242,7 +239,8 @@ module _ (r : Record) (s c : Column) (store : List ℕ) where
       its_slot = slot_part m n u (own_column n x) (columns m n s) wide stepped
 
       pub overflows : (z : Column) → all_finite (mid_of (n * m) (n * m + m - n * m) u) ≡ false → length z ≡ length (mid_of (n * m) (n * m + m - n * m) u)
-          → z ≡ zeros (length (mid_of (n * m) (n * m + m - n * m) u)) → AddedTo s c store r (Err Overflow) (put_mid (n * m) (n * m + m - n * m) u z) store
+          → z ≡ zeros (length (mid_of (n * m) (n * m + m - n * m) u))
+          → AddedTo s c store r (Err (record { refusal = Overflow; old = r })) (put_mid (n * m) (n * m + m - n * m) u z) store
       overflows z bad kz zeroed =
           let m-long = column_length m (n + 1) n u (omega arith) (long ∙ size) in
           promise_seven (own_column n x) (put_mid (n * m) (n * m + m - n * m) u z) refl (ap all_finite (sym its_slot) ∙ bad)

@@ -5,8 +5,8 @@ use Rattle.numbers.specs.Column.{Column, zeros}
 use Rattle.finite.specs.Finite.{all_finite}
 use Rattle.store.specs.Columns.{flat, is_matrix}
 use Rattle.store.specs.Steps.{column}
-use Rattle.refusals.specs.Outcome.{Outcome, done, tested, leaving}
-use Rattle.refusals.specs.declared.Refusal.{Refusal}
+use Rattle.refusals.specs.Outcome.{Outcome, done, refused, number, tested, leaving}
+use Rattle.refusals.specs.declared.Refused.{Refused}
 use Rattle.factors.specs.declared.Record.{Record}
 use Rattle.factors.specs.declared.Asks.{Asks}
 use Rattle.factors.specs.Factors.{Factors, written, record_for, factors_in, slices, Factoring}
@@ -52,12 +52,17 @@ unfoldable pub adding : Column → Column → List ℕ → Record → Factoring
 adding s c store r =
     tested (adding_refusal s c store r) (leaving (slices s store)) (adding_settled s store r (add_column r.rows (older_factors s store r) c))
 
--- ---- the answer: the record with the column's own toss-up (document 02, request 3), or the refusal; and in either case the record that is left
+-- ---- the answer: the record with the column's own toss-up (document 02, request 3), or the refusal; and in either case the record that it holds
 
--- the record that the caller then holds: the one that is answered, or else the one before
-abbrev pub record_left : Record → Result Factored Refusal → Record
-record_left old (Ok f) = f.told
-record_left old (Err refusal) = old
+-- what each case of the answer stands for
+abbrev pub added : Result Factored (Refused Record) → Outcome (Record × ℕ)
+added (Ok f) = done (f.told, f.toss_ups)
+added (Err r) = refused (number r.refusal)
+
+-- the record that it holds: the new one, or else the old one
+abbrev pub record_in : Result Factored (Refused Record) → Record
+record_in (Ok f) = f.told
+record_in (Err r) = r.old
 
 unfoldable pub adding_answer : Column → Column → List ℕ → Record → Outcome (Record × ℕ)
 adding_answer s c store r = with_toss_ups (own_toss_up r.rows (older_factors s store r) c) (adding s c store r).answer

@@ -8,10 +8,9 @@ use Rattle.swap_list.specs.SwapList.{good_list}
 use Rattle.factors.specs.declared.Record.{Record}
 use Rattle.factors.specs.Factors.{pairs_with, store_with, record_of, factors_in, record_after}
 use Rattle.elimination.specs.Adding.{reduced}
-use Rattle.refusals.specs.declared.Refusal.{Refusal}
+use Rattle.refusals.specs.declared.Refused.{Refused}
 use Rattle.lu.specs.declared.Factored.{Factored}
-use Rattle.lu.specs.Factoring.{factored}
-use Rattle.adding.specs.Adding.{adding_refusal, adding, record_left, adding_answer}
+use Rattle.adding.specs.Adding.{adding_refusal, adding, added, record_in, adding_answer}
 
 -- the call is not refused by its tests; so there is room for the column, which has m entries, its slot lies within the store, the list is good, and the
 -- record's dead columns are those of the factors
@@ -38,8 +37,8 @@ pub record Joined (s : Column) (store : List ℕ) (r : Record) (p dead : ℕ) (n
   pub pairs : store' ≡ store_with store r.pairs r.columns p
 
 -- the whole promise of adding
-pub record AddedTo (s c : Column) (store : List ℕ) (r : Record) (a : Result Factored Refusal) (s' : Column) (store' : List ℕ) : Type 0 where
-  pub answer : factored a ≡ adding_answer s c store r
-  pub told : record_left r a ≡ record_after r (adding s c store r).answer
+pub record AddedTo (s c : Column) (store : List ℕ) (r : Record) (a : Result Factored (Refused Record)) (s' : Column) (store' : List ℕ) : Type 0 where
+  pub answer : added a ≡ adding_answer s c store r
+  pub told : record_in a ≡ record_after r (adding s c store r).answer
   pub factors : s' ≡ (adding s c store r).left.factors
   pub pairs : store' ≡ (adding s c store r).left.store

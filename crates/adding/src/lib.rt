@@ -8,14 +8,13 @@ ghost use Rattle.swap_list.specs.SwapList.{good_list};
 ghost use Rattle.refusals.specs.Outcome.{outcome, number_of};
 ghost use Rattle.factors.specs.Factors.{record_after};
 ghost use Rattle.elimination.specs.Own.{own_row, own_column};
-ghost use Rattle.adding.specs.Adding.{adding_refusal, adding, record_left, adding_answer};
-ghost use Rattle.lu.specs.Factoring.{factored};
+ghost use Rattle.adding.specs.Adding.{adding_refusal, adding, added, record_in, adding_answer};
 ghost use Rattle.adding.specs.Inner.{Ready, with_reduced, Joined, AddedTo};
 
 use factors::Record;
 use lu::Factored;
 use min_max::FoundPivot;
-use refusals::Refusal;
+use refusals::{Refusal, Refused};
 
 // Whether s holds n columns of m entries and room for one more.
 fn has_room(s: &[f64], m: usize, n: usize) -> bool
@@ -127,7 +126,7 @@ fn add_tested(
     c: &[f64],
     swaps: &mut [usize],
     told: Record,
-) -> Result<Factored, Refusal>
+) -> Result<Factored, Refused<Record>>
     requires { Ready s.old c.now swaps.old told }
     ensures { AddedTo s.old c.now swaps.old told result s.new swaps.new }
 {
@@ -139,7 +138,10 @@ fn add_tested(
     let found = own_step(&mut s[a..e], n);
     if !finite::all_finite(&s[a..e]) {
         blas::fill_zero(&mut s[a..e]);
-        return Err(Refusal::Overflow);
+        return Err(Refused {
+            refusal: Refusal::Overflow,
+            old: told,
+        });
     }
     let toss_ups = factors::count(found.tossed);
     let own = dead_columns::dead_at(&s[a..e], n);
@@ -152,19 +154,21 @@ fn add_tested(
 }
 
 // Adds the raw column c to the factors in s, which has room for it behind its columns. Answers the new record, and 0 or 1 for a toss-up of the column's own
-// pivot; a caller who is refused still holds the record before.
+// pivot; refused, the old record.
 #[tactic(auto, using(crate::proofs::Adds::ready))]
 pub fn add_column(
     s: &mut [f64],
     c: &[f64],
     swaps: &mut [usize],
     told: Record,
-) -> Result<Factored, Refusal>
-    ensures result_value { factored result ≡ adding_answer s.old c.now swaps.old told }
-    ensures record_value { record_left told result ≡ record_after told (adding s.old c.now swaps.old told).answer }
+) -> Result<Factored, Refused<Record>>
+    ensures result_value { added result ≡ adding_answer s.old c.now swaps.old told }
+    ensures record_value { record_in result ≡ record_after told (adding s.old c.now swaps.old told).answer }
     ensures s_after { s.new ≡ (adding s.old c.now swaps.old told).left.factors }
     ensures swaps_after { swaps.new ≡ (adding s.old c.now swaps.old told).left.store }
 {
-    test_adding(s, c, swaps, told)?;
-    add_tested(s, c, swaps, told)
+    match test_adding(s, c, swaps, told) {
+        Ok(()) => add_tested(s, c, swaps, told),
+        Err(refusal) => Err(Refused { refusal, old: told }),
+    }
 }

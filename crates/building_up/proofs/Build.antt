@@ -21,6 +21,7 @@ use Rattle.dead_columns.proofs.Dead.{dead_none}
 use Rattle.std.proofs.Common.{Result, Ok, Err}
 use Rattle.std.specs.Result.{is_err}
 use Rattle.refusals.specs.declared.Refusal.{Refusal}
+use Rattle.refusals.specs.declared.Refused.{Refused}
 use Rattle.refusals.specs.declared.Refusal.TheVariants.{Overflow}
 use Rattle.refusals.specs.Outcome.{done, refused, number, number_of}
 use Rattle.refusals.proofs.Cases.{never_both}
@@ -33,7 +34,7 @@ use Rattle.lu.specs.declared.Factored.{Factored}
 use Rattle.lu.specs.Factoring.{factoring_refusal, accepted_as, settled, factoring, factored, with_toss_ups, factoring_answer}
 use Rattle.lu.proofs.Told.{Passed, passed, passes, worked, told_accepted, told_refused, Promise}
 use Rattle.lu.proofs.Shape.{factors_of, size_f, accepted_is, settled_number}
-use Rattle.adding.specs.Adding.{adding, adding_answer}
+use Rattle.adding.specs.Adding.{adding, added, adding_answer}
 use Rattle.adding.proofs.Afresh.{accepted_given, adding_afresh}
 use Rattle.adding.proofs.Front.{finite_front}
 use Rattle.adding.proofs.Tossed.{toss_added}
@@ -169,10 +170,10 @@ module _ (m n : ℕ) (a out : Column) (store : List ℕ) (none : factoring_refus
         (length-replicate ((k + 1) * m) _) refl)
 
     -- ---- from what the call gives: s is the slice for the factors, lent up to the end of its column k
-    module _ (s : Column) (store' : List ℕ) (t : Column) (store'' : List ℕ) (answer : Result Factored Refusal) (room : k * m + m ≤ length s)
+    module _ (s : Column) (store' : List ℕ) (t : Column) (store'' : List ℕ) (answer : Result Factored (Refused Record)) (room : k * m + m ≤ length s)
         (front_is : take (k * m) s ≡ (outcome_at m k a).left.factors) (store_is : store' ≡ (outcome_at m k a).left.store)
         (z-is : z ≡ take m (drop (k * m) s))
-        (called : factored answer ≡ adding_answer (take (k * m + m) s) (take (k * m + m - k * m) (drop (k * m) a)) store' x)
+        (called : added answer ≡ adding_answer (take (k * m + m) s) (take (k * m + m - k * m) (drop (k * m) a)) store' x)
         (t-is : t ≡ (adding (take (k * m + m) s) (take (k * m + m - k * m) (drop (k * m) a)) store' x).left.factors)
         (store''-is : store'' ≡ (adding (take (k * m + m) s) (take (k * m + m - k * m) (drop (k * m) a)) store' x).left.store) where
       abbrev o : Factoring
@@ -188,7 +189,7 @@ module _ (m n : ℕ) (a out : Column) (store : List ℕ) (none : factoring_refus
       same : adding (take (k * m + m) s) (take (k * m + m - k * m) (drop (k * m) a)) store' x ≡ adding whole next o.left.store x
       same = λ i. adding (part_is i) (take (add-sub_cancel_left (k * m) m i) (drop (k * m) a)) (store_is i) x
 
-      answer_is : factored answer ≡ adding_answer whole next o.left.store x
+      answer_is : added answer ≡ adding_answer whole next o.left.store x
       answer_is = called ∙ (λ i. adding_answer (part_is i) (take (add-sub_cancel_left (k * m) m i) (drop (k * m) a)) (store_is i) x)
 
       -- the call answered a record: the outcome for one column more, and its toss-ups
@@ -196,7 +197,7 @@ module _ (m n : ℕ) (a out : Column) (store : List ℕ) (none : factoring_refus
       unfolding adding_answer own_toss_up
       went_on f e =
           let y = f.told in
-          let took = told_accepted _ _ y f.toss_ups (sym (ap factored e) ∙ answer_is) in
+          let took = told_accepted _ _ y f.toss_ups (sym (ap added e) ∙ answer_is) in
           let reached : (outcome_at m (k + 1) a).answer ≡ done y = sym next_built.0 ∙ took.0 in
           let all = same ∙ next_built.1 (ap number_of reached) in
           let long : length t ≡ (k + 1) * m = ap length (t-is ∙ ap (λ (q : Factoring). q.left.factors) all) ∙ outcome_long (k + 1) (omega arith) y reached in
@@ -212,14 +213,14 @@ module _ (m n : ℕ) (a out : Column) (store : List ℕ) (none : factoring_refus
           }
 
       -- it refused: the whole is refused with 7
-      pub gave_up : (r : Refusal) → answer ≡ Err r → all_finite (flat (factors_of m n a).columns) ≡ false
+      pub gave_up : (r : Refused Record) → answer ≡ Err r → all_finite (flat (factors_of m n a).columns) ≡ false
       unfolding adding_answer
       gave_up r e =
-          let told = told_refused _ _ (number r) (sym (ap factored e) ∙ answer_is) in
-          let given : (outcome_at m (k + 1) a).answer ≡ refused (number r) = sym next_built.0 ∙ told in
+          let told = told_refused _ _ (number r.refusal) (sym (ap added e) ∙ answer_is) in
+          let given : (outcome_at m (k + 1) a).answer ≡ refused (number r.refusal) = sym next_built.0 ∙ told in
           front_refused (k + 1) (omega arith) (λ zero.
           let acc = accepted_is m (k + 1) (take ((k + 1) * m) a) (zeros ((k + 1) * m)) (replicate 128 0) (front_none (k + 1) (omega arith)) zero in
-          never_both _ (number r) (sym (ap (λ (q : Factoring). q.answer) acc.0) ∙ given))
+          never_both _ (number r.refusal) (sym (ap (λ (q : Factoring). q.answer) acc.0) ∙ given))
 
 -- ---- an answer that is a refusal, or none, is that of no other outcome
 not_refused : (r : Result Factored Refusal) (x : Record × ℕ) → is_err r ≡ true → factored r ≡ done x → ⊥

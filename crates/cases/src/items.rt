@@ -18,11 +18,16 @@ fn fill(bytes: &mut [u8]) -> Result<(), BadCase> {
     }
 }
 
-// Reads a number that stands by itself.
-pub fn read_whole() -> Result<usize, BadCase> {
-    let mut eight = [0; 8];
-    fill(&mut eight)?;
-    Ok(usize::from_le_bytes(eight))
+// Reads the three sizes of a case, in one reading.
+pub fn read_sizes() -> Result<[usize; 3], BadCase> {
+    let mut bytes = [0; 24];
+    fill(&mut bytes)?;
+    let (eights, _) = bytes.as_chunks::<8>();
+    let mut sizes = [0; 3];
+    for (size, &eight) in sizes.iter_mut().zip(eights) {
+        *size = usize::from_le_bytes(eight);
+    }
+    Ok(sizes)
 }
 
 // Reads a slice's count of items.

@@ -4,7 +4,7 @@
 mod items;
 mod ops;
 
-use items::{exactly, float_of, read_array, read_bytes, read_items, read_whole};
+use items::{exactly, float_of, read_array, read_bytes, read_items, read_sizes};
 pub use ops::{Making, OfFactors, OfFile, Op, Permuting, Reading, Triangle};
 use ops::{Slice, slices_of};
 use std::mem::take;
@@ -18,7 +18,8 @@ const BYTES: usize = 8 * LIMIT;
 #[derive(Clone, Copy)]
 pub struct BadCase;
 
-// The rooms for the longest slices of a case.
+// The rooms for the longest slices of a case, and for the bytes of items: made once for all cases, since it takes longer to fill them with zeros than to run
+// a short case.
 #[derive(Drop)]
 pub struct Store {
     a: [f64; LIMIT],
@@ -26,6 +27,7 @@ pub struct Store {
     x: [f64; LIMIT],
     swaps: [usize; LIMIT],
     bytes: [u8; BYTES],
+    room: [u8; BYTES],
 }
 
 impl Store {
@@ -36,6 +38,7 @@ impl Store {
             x: [0.0; LIMIT],
             swaps: [0; LIMIT],
             bytes: [0; BYTES],
+            room: [0; BYTES],
         }
     }
 }
@@ -65,11 +68,12 @@ pub struct Slices<'s> {
 
 // Reads the sizes that stand behind an op.
 fn read_head(op: Op) -> Result<Case, BadCase> {
+    let [m, n, k] = read_sizes()?;
     Ok(Case {
         op,
-        m: read_whole()?,
-        n: read_whole()?,
-        k: read_whole()?,
+        m,
+        n,
+        k,
         pairs: 0,
         dead: 0,
         diagonal: 0.0,
@@ -86,23 +90,6 @@ fn lengths_fit(lengths: &[usize], most: usize) -> bool {
 }
 
 impl<'s> Slices<'s> {
-    fn new(store: &'s mut Store) -> Slices<'s> {
-        let Store {
-            a,
-            b,
-            x,
-            swaps,
-            bytes,
-        } = store;
-        Slices {
-            a,
-            b,
-            x,
-            swaps,
-            bytes,
-        }
-    }
-
     // Reads a file of so many bytes, and what fills up its last item.
     fn read_file(&mut self, length: usize) -> Result<(), BadCase> {
         let bytes = read_bytes(take(&mut self.bytes))?;
@@ -159,10 +146,23 @@ pub fn read_case(store: &mut Store) -> Result<Option<(Case, Slices<'_>)>, BadCas
     }
     let op = Op::try_from(op[0])?;
     let mut case = read_head(op)?;
-    let mut slices = Slices::new(store);
-    let mut room = [0; BYTES];
+    let Store {
+        a,
+        b,
+        x,
+        swaps,
+        bytes,
+        room,
+    } = store;
+    let mut slices = Slices {
+        a,
+        b,
+        x,
+        swaps,
+        bytes,
+    };
     for &slice in slices_of(op) {
-        slices.read(slice, &mut case, &mut room)?;
+        slices.read(slice, &mut case, room)?;
     }
     Ok(Some((case, slices)))
 }

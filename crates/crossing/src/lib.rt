@@ -62,7 +62,7 @@ pub fn factor_file(
     factor_read(file, matrix, readings, swaps)
 }
 
-// The scaled determinant by the factors in front of their store, or the refusal handed on.
+// The scaled determinant by the factors in front of their store, or the refusal handed on: document 01's form for who calls the determinant.
 fn determinant_of(matrix: &[f64; 4096], swaps: &[usize], told: Record) -> Result<Scaled, Refusal>
     requires { told.rows ≤ 64 }
     ensures result_value { outcome result ≡ scaled_by (packed_in matrix.now swaps.now told) }
@@ -70,7 +70,11 @@ fn determinant_of(matrix: &[f64; 4096], swaps: &[usize], told: Record) -> Result
 {
     let n = told.rows;
     let entries = n * n;
-    scaled_determinant::scaled_determinant(&matrix[..entries], swaps, told)
+    let answer = scaled_determinant::scaled_determinant(&matrix[..entries], swaps, told);
+    let Ok(determinant) = answer else {
+        return answer;
+    };
+    Ok(determinant)
 }
 
 // The quick check of a crossing's stiffness: the scaled determinant of a panel file's matrix, or the refusal.

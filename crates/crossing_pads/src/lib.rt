@@ -164,8 +164,11 @@ pub fn moves(file: &[u8], pad: usize, out: &mut [f64; 64]) -> Result<Order, Refu
     let n = panel_file::pads_of(file);
     let nowhere = (pad == 0) | (n < pad);
     if nowhere {
-        panel_file::test_file(file)?;
-        return Err(Refusal::Size);
+        // An arm for each, and no `?`, so that the edit pad_before_file can change the refusal alone.
+        return match panel_file::test_file(file) {
+            Ok(()) => Err(Refusal::Size),
+            Err(refusal) => Err(refusal),
+        };
     }
     let mut matrix = [0.0f64; 4096];
     let mut readings = [0.0f64; 64];

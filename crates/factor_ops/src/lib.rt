@@ -8,22 +8,26 @@ use from_factors_ops::record_of;
 use lines::{Part, Text, put_line};
 use lu::Factored;
 use matrix_ops::{put_refused, told};
-use refusals::Refusal;
+use refusals::{Refusal, Refused};
 use why::WhyFactor;
 
-// Puts the line of a call that makes factors: pairs, factors, swaps, toss-ups, dead columns. `before` stands where it is refused.
+// Puts the line of a call that makes factors: pairs, factors, swaps, toss-ups, dead columns.
 fn put_factors<'x>(
     text: &mut Text,
-    answer: Result<Factored, Refusal>,
-    before: Record,
+    answer: Result<Factored, Refused<Record>>,
     x: &'x [f64],
     swaps: &'x [usize],
 ) {
-    let held = Factored {
-        told: before,
-        toss_ups: 0,
+    let (number, now) = match answer {
+        Ok(made) => (0, made),
+        Err(refused) => {
+            let held = Factored {
+                told: refused.old,
+                toss_ups: 0,
+            };
+            (usize::from(refused.refusal), held)
+        }
     };
-    let (number, now) = told(answer, held);
     let parts = [
         Part::Whole(now.told.pairs),
         Part::Floats(x),
@@ -34,32 +38,40 @@ fn put_factors<'x>(
     put_line(text, number, &parts);
 }
 
-// The record of a matrix that is not factored.
-fn no_factors(m: usize, n: usize) -> Record {
-    Record {
+// The answer of a factoring, which is refused without pairs and dead columns.
+fn or_none(
+    answer: Result<Factored, Refusal>,
+    m: usize,
+    n: usize,
+) -> Result<Factored, Refused<Record>> {
+    let none = Record {
         rows: m,
         columns: n,
         pairs: 0,
         dead: 0,
+    };
+    match answer {
+        Ok(made) => Ok(made),
+        Err(refusal) => Err(Refused { refusal, old: none }),
     }
 }
 
 fn factor(text: &mut Text, case: Case, a: &[f64], x: &mut [f64], swaps: &mut [usize]) {
     let Case { m, n, .. } = case;
     let answer = lu::factor(a, m, n, x, swaps);
-    put_factors(text, answer, no_factors(m, n), x, swaps);
+    put_factors(text, or_none(answer, m, n), x, swaps);
 }
 
 fn build_up(text: &mut Text, case: Case, a: &[f64], x: &mut [f64], swaps: &mut [usize]) {
     let Case { m, n, .. } = case;
     let answer = building_up::build_up(a, m, n, x, swaps);
-    put_factors(text, answer, no_factors(m, n), x, swaps);
+    put_factors(text, or_none(answer, m, n), x, swaps);
 }
 
 fn add_column(text: &mut Text, case: Case, b: &[f64], x: &mut [f64], swaps: &mut [usize]) {
     let held = record_of(case);
     let answer = adding::add_column(x, b, swaps, held);
-    put_factors(text, answer, held, x, swaps);
+    put_factors(text, answer, x, swaps);
 }
 
 // Puts the line of a removed column: pairs, factors, swaps, dead columns.
@@ -81,7 +93,7 @@ fn put_removed<'x>(
 fn remove_column(text: &mut Text, case: Case, x: &mut [f64], swaps: &mut [usize]) {
     let held = record_of(case);
     let answer = removing::remove_column(x, swaps, held);
-    put_removed(text, told(answer, held), x, swaps);
+    put_removed(text, told(answer), x, swaps);
 }
 
 // Its line: step, column and row of an overflow.

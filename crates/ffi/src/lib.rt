@@ -120,7 +120,7 @@ pub fn wejdarox_add_column(
         }
         Err(refused) => {
             *toss_ups = 0;
-            usize::from(refused)
+            usize::from(refused.refusal)
         }
     }
 }
@@ -390,6 +390,9 @@ pub fn wejdarox_with_file(file: &[u8], season: &mut [usize; 17]) -> usize
             *season = after.counts();
             0
         }
-        Err(refusal) => usize::from(refusal),
+        Err(full) => {
+            *season = full.old.counts();
+            usize::from(full.refusal)
+        }
     }
 }

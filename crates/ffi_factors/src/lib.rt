@@ -48,7 +48,7 @@ pub fn wejdarox_remove_column(
             *dead = told.dead;
             0
         }
-        Err(refusal) => usize::from(refusal),
+        Err(refused) => usize::from(refused.refusal),
     }
 }
 

@@ -115,7 +115,10 @@ pub fn wejdarox_append_permutation(
             *pairs = count;
             0
         }
-        Err(refusal) => usize::from(refusal),
+        Err(refused) => {
+            *pairs = refused.old;
+            usize::from(refused.refusal)
+        }
     }
 }
 

@@ -2,11 +2,11 @@
 -- each call. Assumes nothing.
 use mathlib.Core.Path.{◌≡◌, sym, ap}
 use mathlib.Core.Bool.{Bool, true, false, not, cond}
-use mathlib.Core.List.{[], ◌∷◌, ◌++◌}
+use mathlib.Core.List.{List, [], ◌∷◌, ◌++◌}
 use Prim.Native.Nat.{ℕ, min}
 use native.Mathlib.Omega.{arith}
 use lib.Dec.{ltb}
-use lib.ListN.{length, set}
+use lib.ListN.{length, set, drop}
 use lib.IntN.{pos}
 use lib.Ieee.{Float, nan, inf, fin, binary64, add, sub, mul, div, neg, eq, lt, of_bits}
 use lib.Ieee.Scale.{finite}
@@ -26,8 +26,9 @@ use Rattle.four_steps.specs.FourSteps.{step_by, four_steps, four_stepped, four_s
 use Rattle.std.proofs.Common.{Result, Ok, Err}
 use Rattle.refusals.specs.declared.Refusal.{Refusal}
 use Rattle.refusals.specs.declared.Refusal.TheVariants.{Overflow}
-use Rattle.refusals.specs.Outcome.{Outcome, done, refused, number_of, first_holding, tested, Call, outcome}
+use Rattle.refusals.specs.Outcome.{Outcome, done, refused, number, number_of, first_holding, numbered, tested, Call, outcome}
 use Rattle.refusals.specs.Refusals.{outside, seventh}
+use Rattle.refusals.proofs.Outcomes.{never_0}
 use Rattle.refusals.proofs.Strength.{ShutsOut, shut_out, TwoShutOut, two, done_refused}
 use Rattle.from_factors.proofs.Figures.{leaves, n0, n1, n2}
 
@@ -278,6 +279,21 @@ firsts x = cond x.1.0 x.0 x.1.1
 
 pub first_call : TwoShutOut firsts (λ x. x.1.1)
 first_call = two firsts (λ x. x.1.1) (1, (true, 0)) (1, (true, 0)) (1, (false, 0)) (λ d. omega (arith, d)) (λ d. omega (arith, d))
+
+-- the tests of a call: all but the first, and always refused
+abbrev tests_of : List (Refusal × Bool) → ℕ
+tests_of tests = first_holding (numbered tests)
+
+pub first_of_not_later : TwoShutOut tests_of (λ tests. first_holding (numbered (drop 1 tests)))
+unfolding Runs
+first_of_not_later =
+    two tests_of (λ tests. first_holding (numbered (drop 1 tests))) ((Overflow, true) ∷ []) ((Overflow, true) ∷ []) ((Overflow, false) ∷ [])
+    (λ d. omega (arith, d)) (λ d. omega (arith, d))
+
+pub first_of_not_refused : (always : List (Refusal × Bool) → Refusal) → ShutsOut tests_of (λ tests. number (always tests))
+unfolding Runs
+first_of_not_refused always =
+    shut_out tests_of (λ tests. number (always tests)) ((Overflow, false) ∷ []) (λ d. never_0 (always ((Overflow, false) ∷ [])) (sym d))
 
 -- always refused
 abbrev answers_for : ℕ → Outcome (Unit {0})

@@ -2,12 +2,12 @@
 // what the call answered. a and b are read; x and swaps are written.
 #![tactic(auto)]
 
-ghost use Rattle.std.specs.Prelude.{◌≡◌, OnErr};
-ghost use Rattle.refusals.specs.Outcome.{outcome, number_of};
+ghost use Rattle.std.specs.Prelude.{◌≡◌, IfErr};
+ghost use Rattle.refusals.specs.Outcome.{outcome_or_old, number_of};
 
 use cases::{Case, Permuting, Slices, Triangle};
 use lines::{Part, Text, put_line};
-use refusals::{Refusal, number_of};
+use refusals::{Refusal, Refused, number_of};
 
 // Puts the line of a call whose result is x.
 pub fn put_result(text: &mut Text, answer: Result<(), Refusal>, x: &[f64]) {
@@ -19,14 +19,14 @@ pub fn put_refused(text: &mut Text, refusal: Refusal) {
     put_line(text, usize::from(refusal), &[Part::Dash]);
 }
 
-// The refusal number of a call, 0 for none, and what it tells: what it answered, or if it is refused what there was before.
-pub fn told<T: Copy>(answer: Result<T, Refusal>, before: T) -> (usize, T)
-    ensures number { result.0 ≡ number_of (outcome answer) }
-    ensures before { OnErr answer (result.1 ≡ before) }
+// The refusal number of a call, 0 for none, and what it tells: the new value, or refused the old one.
+pub fn told<T: Copy>(answer: Result<T, Refused<T>>) -> (usize, T)
+    ensures number { result.0 ≡ number_of (outcome_or_old answer) }
+    ensures before { IfErr answer (λ refused. result.1 ≡ refused.old) }
 {
     match answer {
         Ok(now) => (0, now),
-        Err(refusal) => (usize::from(refusal), before),
+        Err(refused) => (usize::from(refused.refusal), refused.old),
     }
 }
 
@@ -67,7 +67,7 @@ pub fn append(text: &mut Text, case: Case, swaps: &mut [usize]) {
         ..
     } = case;
     let answer = swap_list::append_permutation(swaps, pairs, m, first, second);
-    let (number, now) = told(answer, pairs);
+    let (number, now) = told(answer);
     put_line(text, number, &[Part::Whole(now), Part::Wholes(swaps)]);
 }
 

@@ -5,11 +5,12 @@ ghost use Rattle.std.specs.Prelude.{◌≡◌};
 ghost use Rattle.std.specs.Float.Ieee.Scale.{finite};
 ghost use Rattle.numbers.specs.Numbers.{magnitude, is_zero};
 
-// Whether x is neither an infinity nor a NaN.
+// Whether x is neither an infinity nor a NaN: such a number less itself is a number.
 pub fn is_finite(x: f64) -> bool
     ensures { result ≡ finite x }
 {
-    x.is_finite()
+    let d = x - x;
+    d == d
 }
 
 // Whether x is a zero of either sign.

@@ -4,7 +4,7 @@
 
 ghost use Rattle.io.specs.Counts.{IsPrefixLen};
 
-use refusals::Refusal;
+use refusals::Refused;
 use season::Season;
 use std::fs::File;
 use std::io::Read;
@@ -35,7 +35,7 @@ fn read_named(rt: HostRuntime, name: &[u8], file: &mut [u8]) -> usize
 }
 
 // The season with the file of a name.
-fn with_named(rt: HostRuntime, season: Season, name: &[u8]) -> Result<Season, Refusal> {
+fn with_named(rt: HostRuntime, season: Season, name: &[u8]) -> Result<Season, Refused<Season>> {
     let mut file = [0u8; 33287];
     let held = read_named(rt, name, &mut file);
     season.with_file(&file[..held])
@@ -47,7 +47,7 @@ fn with_name(
     season: Season,
     name: &[u8],
     length: usize,
-) -> Result<Season, Refusal> {
+) -> Result<Season, Refused<Season>> {
     if length <= name.len() {
         return with_named(rt, season, &name[..length]);
     }
@@ -63,8 +63,8 @@ fn ended(rt: HostRuntime, place: Place, name: &[u8]) -> Place {
             length: 0,
             going: true,
         },
-        Err(_) => Place {
-            season: was,
+        Err(refused) => Place {
+            season: refused.old,
             length: 0,
             going: false,
         },

@@ -1,6 +1,7 @@
 -- Document 01, "Refusal numbers": what a call comes to. One type for all calls.
 use Rattle.std.specs.Prelude.{Bool, cond, List, [], ◌∷◌, ℕ, eqb, Result, Ok, Err}
 use Rattle.refusals.specs.declared.Refusal.{Refusal}
+use Rattle.refusals.specs.declared.Refused.{Refused}
 use Rattle.refusals.specs.declared.Refusal.TheVariants.{Size, NotSquare, Length, SwapList, NotFinite, Singular, Overflow}
 use Rattle.refusals.specs.declared.Refusal.TheVariants.{NotAPanelFile, DeadColumns, SeasonFull}
 
@@ -26,6 +27,11 @@ number SeasonFull = 10
 abbrev pub outcome : {A : Type 0} → Result A Refusal → Outcome A
 outcome (Ok a) = done a
 outcome (Err refusal) = refused (number refusal)
+
+-- the same of a call that goes on from a value: refused, it answers that value too
+abbrev pub outcome_or_old : {A T : Type 0} → Result A (Refused T) → Outcome A
+outcome_or_old (Ok a) = done a
+outcome_or_old (Err r) = refused (number r.refusal)
 
 -- the refusal number, 0 for none
 abbrev pub number_of : {A : Type 0} → Outcome A → ℕ

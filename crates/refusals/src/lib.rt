@@ -39,6 +39,13 @@ impl From<Refusal> for usize {
     }
 }
 
+// A refusal of a call that goes on from a value: why, and that value as it was handed in.
+#[derive(Clone, Copy, Debug, PartialEq, Eq)]
+pub struct Refused<T> {
+    pub refusal: Refusal,
+    pub old: T,
+}
+
 // Whether a size lies outside `least` to 64.
 #[tactic(auto, unfolding(crate::specs::Refusals::outside))]
 pub fn outside(least: usize, size: usize) -> bool

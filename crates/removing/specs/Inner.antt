@@ -4,11 +4,11 @@ use Rattle.numbers.specs.Column.{Column}
 use Rattle.store.specs.Columns.{columns, is_matrix}
 use Rattle.dead_columns.specs.Dead.{dead_in}
 use Rattle.swap_list.specs.SwapList.{pairs_of, good_list}
-use Rattle.refusals.specs.declared.Refusal.{Refusal}
-use Rattle.refusals.specs.Outcome.{outcome}
+use Rattle.refusals.specs.declared.Refused.{Refused}
+use Rattle.refusals.specs.Outcome.{outcome_or_old}
 use Rattle.factors.specs.declared.Record.{Record}
 use Rattle.factors.specs.Factors.{record_after}
-use Rattle.removing.specs.Removing.{good_undoing, removing_refusal, removing}
+use Rattle.removing.specs.Removing.{good_undoing, removing_refusal, removing, record_in}
 
 -- the list is good and can have the last column taken off it; what is said of a list that is not good does not matter
 pub record RemovableIf (store : List ℕ) (r : Record) (is : Bool) : Type 0 where
@@ -29,8 +29,8 @@ pub record Ready (s : Column) (store : List ℕ) (r : Record) : Type 0 where
   pub dead : r.dead ≡ dead_in r.rows (columns r.rows r.columns s)
 
 -- the whole promise of removing
-pub record RemovedFrom (s : Column) (store : List ℕ) (r : Record) (a : Result Record Refusal) (s' : Column) (store' : List ℕ) : Type 0 where
-  pub answer : outcome a ≡ (removing s store r).answer
-  pub told : record_after r (outcome a) ≡ record_after r (removing s store r).answer
+pub record RemovedFrom (s : Column) (store : List ℕ) (r : Record) (a : Result Record (Refused Record)) (s' : Column) (store' : List ℕ) : Type 0 where
+  pub answer : outcome_or_old a ≡ (removing s store r).answer
+  pub told : record_in a ≡ record_after r (removing s store r).answer
   pub factors : s' ≡ (removing s store r).left.factors
   pub pairs : store' ≡ (removing s store r).left.store

@@ -1,8 +1,9 @@
 -- What taking the last column off answers and leaves, on every input: document 02, request 2. A store s of the record's columns, and the swap store.
-use Rattle.std.specs.Prelude.{Bool, true, false, not, cond, ◌&&◌, List, ◌++◌, ℕ, ◌-◌, min, ltb, leb, length}
+use Rattle.std.specs.Prelude.{Bool, true, false, not, cond, ◌&&◌, List, ◌++◌, ℕ, ◌-◌, min, ltb, leb, length, Result, Ok, Err}
 use Rattle.numbers.specs.Column.{Column, zeros}
 use Rattle.store.specs.Columns.{flat}
 use Rattle.refusals.specs.Outcome.{done, tested, leaving}
+use Rattle.refusals.specs.declared.Refused.{Refused}
 use Rattle.swap_list.specs.SwapList.{Swaps, pairs_of, with_pair}
 use Rattle.factors.specs.declared.Record.{Record}
 use Rattle.factors.specs.declared.Asks.{Asks}
@@ -37,3 +38,8 @@ removing_made store r f =
 unfoldable pub removing : Column → List ℕ → Record → Factoring
 removing s store r =
     tested (removing_refusal s store r) (leaving (slices s store)) (removing_made store r (factors_in s r.rows r.columns store r.pairs))
+
+-- the record that the answer holds: the new one, or else the old one
+abbrev pub record_in : Result Record (Refused Record) → Record
+record_in (Ok new) = new
+record_in (Err r) = r.old

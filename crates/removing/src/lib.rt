@@ -5,14 +5,14 @@ ghost use Rattle.std.specs.Prelude.{◌≡◌, ◌+◌, ◌-◌, ◌*◌, ◌<�
 ghost use Rattle.store.specs.Columns.{on_columns};
 ghost use Rattle.store.specs.Steps.{rows_swapped};
 ghost use Rattle.swap_list.specs.SwapList.{pairs_of};
-ghost use Rattle.refusals.specs.Outcome.{outcome, number_of};
+ghost use Rattle.refusals.specs.Outcome.{outcome, outcome_or_old, number_of};
 ghost use Rattle.factors.specs.Factors.{record_after};
 ghost use Rattle.elimination.specs.Removing.{undoes};
-ghost use Rattle.removing.specs.Removing.{good_undoing, removing_refusal, removing};
+ghost use Rattle.removing.specs.Removing.{good_undoing, removing_refusal, removing, record_in};
 ghost use Rattle.removing.specs.Inner.{RemovableIf, Ready, RemovedFrom};
 
 use factors::{Asks, Record};
-use refusals::Refusal;
+use refusals::{Refusal, Refused};
 
 // Whether the last pair begins with the number of the last column.
 fn undoes_swap(swaps: &[usize], pairs: usize, last: usize) -> bool
@@ -107,15 +107,20 @@ fn remove_tested(s: &mut [f64], swaps: &mut [usize], told: Record) -> Record
     }
 }
 
-// Takes the last column off the factors in s: the factors before it was added, its slot zero. Answers the new record; a caller who is refused still holds
-// the one before.
+// Takes the last column off the factors in s: the factors before it was added, its slot zero. Answers the new record; refused, the old one.
 #[tactic(auto, using(crate::proofs::Removes::ready), unfolding(crate::specs::Removing::removing, refusals::specs::Outcome::tested))]
-pub fn remove_column(s: &mut [f64], swaps: &mut [usize], told: Record) -> Result<Record, Refusal>
-    ensures result_value { outcome result ≡ (removing s.old swaps.old told).answer }
-    ensures record_value { record_after told (outcome result) ≡ record_after told (removing s.old swaps.old told).answer }
+pub fn remove_column(
+    s: &mut [f64],
+    swaps: &mut [usize],
+    told: Record,
+) -> Result<Record, Refused<Record>>
+    ensures result_value { outcome_or_old result ≡ (removing s.old swaps.old told).answer }
+    ensures record_value { record_in result ≡ record_after told (removing s.old swaps.old told).answer }
     ensures s_after { s.new ≡ (removing s.old swaps.old told).left.factors }
     ensures swaps_after { swaps.new ≡ (removing s.old swaps.old told).left.store }
 {
-    test_removing(s, swaps, told)?;
-    Ok(remove_tested(s, swaps, told))
+    match test_removing(s, swaps, told) {
+        Ok(()) => Ok(remove_tested(s, swaps, told)),
+        Err(refusal) => Err(Refused { refusal, old: told }),
+    }
 }

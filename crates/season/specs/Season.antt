@@ -4,7 +4,7 @@ use Rattle.std.specs.Prelude.{Result, Ok, Err}
 use Rattle.numbers.specs.Each.{list_of}
 use Rattle.refusals.specs.Outcome.{Outcome, done, refused, number, first_holding, tested, Call, leaving}
 use Rattle.season.specs.declared.Season.{Season}
-use Rattle.refusals.specs.declared.Refusal.{Refusal}
+use Rattle.refusals.specs.declared.Refused.{Refused}
 use Rattle.season.specs.Telling.{Share, telling}
 
 -- ---- the counts of a list of files
@@ -83,10 +83,10 @@ unfoldable pub handing : Season → File → Call (Unit {0}) Season
 handing s file =
     tested (first_holding ((10, nat_le 4000 s.files) ∷ [])) (leaving s) (record { answer = done tt; left = counted s (telling file) })
 
--- what the call's answer stands for, and the season that the caller then holds: the one that is answered, or else the one before
-abbrev pub handed : Season → Result Season Refusal → Call (Unit {0}) Season
-handed before (Ok season) = record { answer = done tt; left = season }
-handed before (Err refusal) = record { answer = refused (number refusal); left = before }
+-- what the call's answer stands for, and the season that it holds: the new one, or else the old one
+abbrev pub handed : Result Season (Refused Season) → Call (Unit {0}) Season
+handed (Ok season) = record { answer = done tt; left = season }
+handed (Err r) = record { answer = refused (number r.refusal); left = r.old }
 
 -- the season when the files of a list have been handed over, the first first
 unfoldable pub handed_over : Season → List File → Season

@@ -12,7 +12,7 @@ ghost use Rattle.season.specs.Season.{season_of, one_more_at, counted, handing, 
 
 use factors::Record;
 use lu::Factored;
-use refusals::Refusal;
+use refusals::{Refusal, Refused};
 
 // What an accepted file brings to a season: the pads that are listed, and the band of its crossing.
 #[derive(Clone, Copy)]
@@ -155,15 +155,18 @@ impl Season {
         }
     }
 
-    // The season with one file more; refused where there are 4,000, and then the caller still holds the season before.
+    // The season with one file more; refused where there are 4,000, and then as it was.
     #[tactic(auto, unfolding(crate::specs::Season::handing, refusals::specs::Outcome::tested, refusals::specs::Outcome::first_holding))]
-    pub fn with_file(self, file: &[u8]) -> Result<Self, Refusal>
-        ensures { handed self result ≡ handing self file.now }
+    pub fn with_file(self, file: &[u8]) -> Result<Self, Refused<Self>>
+        ensures { handed result ≡ handing self file.now }
     {
         if self.files < 4000 {
             Ok(self.counted(tell(file)))
         } else {
-            Err(Refusal::SeasonFull)
+            Err(Refused {
+                refusal: Refusal::SeasonFull,
+                old: self,
+            })
         }
     }
 

@@ -12,12 +12,9 @@ fn hand_over(lengths: &[usize], bytes: &[u8]) -> (Season, Result<(), Refusal>) {
     let mut rest = bytes;
     for &length in lengths {
         let (file, behind) = rest.split_at(length.min(rest.len()));
-        last = match season.with_file(file) {
-            Ok(after) => {
-                season = after;
-                Ok(())
-            }
-            Err(refusal) => Err(refusal),
+        (season, last) = match season.with_file(file) {
+            Ok(after) => (after, Ok(())),
+            Err(refused) => (refused.old, Err(refused.refusal)),
         };
         rest = behind;
     }

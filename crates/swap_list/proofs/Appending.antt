@@ -10,13 +10,13 @@ use borrow.Author.Tests.{leb-false, eqb-true, eqb-false, eq-eqb, ne_eqb, lt-ltb,
 use lib.Dec.{leb, eqb}
 use lib.ListN.{length, get_or}
 use Rattle.numbers.proofs.Choice.{test_cases, cond_map}
-use Rattle.std.proofs.Common.{Result, Ok}
-use Rattle.std.specs.Result.{IsErrAnd}
+use Rattle.std.proofs.Common.{Result, Ok, Err}
 use Rattle.refusals.specs.declared.Refusal.{Refusal}
+use Rattle.refusals.specs.declared.Refused.{Refused}
 use Rattle.refusals.specs.Outcome.{done, refused, number, number_of, tested, Call, leaving}
 use Rattle.swap_list.specs.SwapList.{pairs_of, with_pair, good_pair, good_list}
-use Rattle.swap_list.specs.Appending.{appending_refusal, Listed, listed, appending, appended, count_left}
-use Rattle.refusals.proofs.Outcomes.{first_none, never_0, handed_on, tested_none, tested_some, tested_map}
+use Rattle.swap_list.specs.Appending.{appending_refusal, Listed, listed, appending, appended, count_of}
+use Rattle.refusals.proofs.Outcomes.{first_none, never_0, tested_none, tested_some, tested_map}
 use Rattle.refusals.proofs.Tests.{neither, inside}
 use Rattle.swap_list.proofs.SwapList.{pairs_same, length_with, pairs_with, good, good_unread, good_with}
 
@@ -57,10 +57,10 @@ module _ (d i j pairs : ℕ) (store : List ℕ) where
   -- ---- the call, by its tests
 
   -- what it promises of the answer r and the store s
-  abbrev pub Promised : Result ℕ Refusal → List ℕ → Type 0
+  abbrev pub Promised : Result ℕ (Refused ℕ) → List ℕ → Type 0
   Promised r s =
       let o = appending store pairs d i j in
-      (appended r ≡ o.answer) × ((count_left pairs r ≡ o.left.pairs) × (s ≡ o.left.store))
+      (appended r ≡ o.answer) × ((count_of r ≡ o.left.pairs) × (s ≡ o.left.store))
 
   -- it is refused, or adds nothing, or adds the pair
   refusing : (appending_refusal store pairs d i j ≡ 0 → ⊥)
@@ -77,9 +77,8 @@ module _ (d i j pairs : ℕ) (store : List ℕ) where
   unfolding appending
   adding e n = tested_none (appending_refusal store pairs d i j) (leaving (listed pairs store)) _ e ∙ rw (ne_eqb i j n)
 
-  pub outcome_refused : (r : Refusal) (answer : Result ℕ Refusal) → number r ≡ appending_refusal store pairs d i j → IsErrAnd answer (λ e. e ≡ r)
-      → Promised answer store
-  outcome_refused r answer e h = rw (handed_on r answer h, refusing (λ z. never_0 r (e ∙ z))) (ap refused e, (refl, refl))
+  pub outcome_refused : (r : Refusal) → number r ≡ appending_refusal store pairs d i j → Promised (Err (record { refusal = r; old = pairs })) store
+  outcome_refused r e = rw (refusing (λ z. never_0 r (e ∙ z))) (ap refused e, (refl, refl))
 
   pub outcome_same : appending_refusal store pairs d i j ≡ 0 → i ≡ j → Promised (Ok pairs) store
   outcome_same e s = rw (same e s) (refl, (refl, refl))

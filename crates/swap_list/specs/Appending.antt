@@ -1,7 +1,7 @@
 -- What appending a pair does on every input: document 01, "Sizes" and "Refusal numbers".
 use Rattle.std.specs.Prelude.{not, cond, ◌&&◌, ◌||◌, List, [], ◌∷◌, ℕ, ◌+◌, leb, eqb, length, Result, Ok, Err}
-use Rattle.refusals.specs.Outcome.{Outcome, done, outcome, first_holding, tested, and_then, Call, leaving}
-use Rattle.refusals.specs.declared.Refusal.{Refusal}
+use Rattle.refusals.specs.Outcome.{Outcome, done, outcome_or_old, first_holding, tested, and_then, Call, leaving}
+use Rattle.refusals.specs.declared.Refused.{Refused}
 use Rattle.refusals.specs.Refusals.{outside}
 use Rattle.swap_list.specs.SwapList.{with_pair, good_list}
 
@@ -32,10 +32,10 @@ appending store pairs d i j =
     tested (appending_refusal store pairs d i j) (leaving (listed pairs store))
     (record { answer = done tt; left = cond (eqb i j) (listed pairs store) (listed (pairs + 1) (with_pair pairs i j store)) })
 
--- what the answer stands for, and the count that the caller holds then: the one that is answered, or else the one before
-abbrev pub appended : Result ℕ Refusal → Outcome (Unit {0})
-appended answer = and_then (outcome answer) (λ pairs. done tt)
+-- what the answer stands for, and the count that it holds: the new one, or else the old one
+abbrev pub appended : Result ℕ (Refused ℕ) → Outcome (Unit {0})
+appended answer = and_then (outcome_or_old answer) (λ pairs. done tt)
 
-abbrev pub count_left : ℕ → Result ℕ Refusal → ℕ
-count_left pairs (Ok now) = now
-count_left pairs (Err refusal) = pairs
+abbrev pub count_of : Result ℕ (Refused ℕ) → ℕ
+count_of (Ok pairs) = pairs
+count_of (Err r) = r.old

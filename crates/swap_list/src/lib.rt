@@ -5,9 +5,9 @@
 ghost use Rattle.std.specs.Prelude.{◌≡◌};
 ghost use Rattle.swap_list.specs.SwapList.{good_pair, good_list};
 ghost use Rattle.refusals.specs.Outcome.{outcome, number_of};
-ghost use Rattle.swap_list.specs.Appending.{appending_refusal, appending, appended, count_left};
+ghost use Rattle.swap_list.specs.Appending.{appending_refusal, appending, appended, count_of};
 
-use refusals::Refusal;
+use refusals::{Refusal, Refused};
 
 // Whether i and j are two different numbers below the bound.
 fn is_good_pair(i: usize, j: usize, bound: usize) -> bool
@@ -56,7 +56,7 @@ fn test_appending(
     ])
 }
 
-// Appends the pair (i, i2) to a list for dimension d; two equal numbers add nothing. Answers how many pairs there are then.
+// Appends the pair (i, i2) to a list for dimension d; two equal numbers add nothing. Answers how many pairs there are then, refused too.
 #[tactic(auto, using(crate::proofs::Appending::room))]
 pub fn append_permutation(
     swaps: &mut [usize],
@@ -64,12 +64,20 @@ pub fn append_permutation(
     d: usize,
     i: usize,
     i2: usize,
-) -> Result<usize, Refusal>
+) -> Result<usize, Refused<usize>>
     ensures result_value { appended result ≡ (appending swaps.old pairs d i i2).answer }
-    ensures count_left { count_left pairs result ≡ (appending swaps.old pairs d i i2).left.pairs }
+    ensures count_value { count_of result ≡ (appending swaps.old pairs d i i2).left.pairs }
     ensures swaps_after { swaps.new ≡ (appending swaps.old pairs d i i2).left.store }
 {
-    test_appending(swaps, pairs, d, i, i2)?;
+    match test_appending(swaps, pairs, d, i, i2) {
+        Ok(()) => {}
+        Err(refusal) => {
+            return Err(Refused {
+                refusal,
+                old: pairs,
+            });
+        }
+    }
     if i == i2 {
         return Ok(pairs);
     }

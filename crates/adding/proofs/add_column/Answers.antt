@@ -2,7 +2,7 @@
 use Rattle.adding.proofs.Adds.{refused_by}
 use Rattle.adding.proofs.add_column.Goals as goal
 
-pub returns-in_err-test_adding : goal.returns-in_err-test_adding
-returns-in_err-test_adding c =
-    let p = refused_by _ _ _ _ _ _ c.in_err-test_adding.ensures c.from_residual.ensures.1 in
+pub returns-in-Err : goal.returns-in-Err
+returns-in-Err c =
+    let p = refused_by _ _ _ _ _ (rw c.in-Err.is at c.test_adding.ensures) in
     record { result_value = p.answer; record_value = p.told; s_after = p.factors; swaps_after = p.pairs }

@@ -5,7 +5,6 @@ use native.Mathlib.Omega.{arith}
 use borrow.Author.Rules.{rules}
 use Rattle.std.proofs.Common.{Err}
 use Rattle.refusals.specs.declared.Refusal.TheVariants.{Size}
-use Rattle.refusals.proofs.Outcomes.{handed_on}
 use Rattle.panel_file.specs.File.{pads_of}
 use Rattle.crossing_pads.specs.Moving.{no_pad}
 use Rattle.crossing.proofs.Factors.{Filed, filed_ready, filed_tossed, filed_refused, factors_seven}
@@ -13,18 +12,17 @@ use Rattle.crossing_pads.proofs.Moving.{pad_inside, moving_held, moving_refused,
 use Rattle.crossing_pads.proofs.moves.Goals.{After-factor_file}
 use Rattle.crossing_pads.proofs.moves.Goals as goal
 
-pub returns-in_err-test_file : goal.returns-in_err-test_file
-returns-in_err-test_file c =
+pub returns-in-Err : goal.returns-in-Err
+returns-in-Err c =
     let g = c.args in
-    let o = moving_early g.file.now g.pad _ _ g.out.now (refused_by_file g.file.now g.pad _ c.in_err-test_file.ensures)
-    (handed_on _ _ c.from_residual.ensures.1) in
+    let o = moving_early g.file.now g.pad c.in-Err.refusal (Err c.in-Err.refusal) g.out.now (refused_by_file g.file.now g.pad _ c.in-Err.ensures) refl in
     record { result_value = o.0; out_after = o.1; out_len = search rules }
 
-pub returns-then-nowhere : goal.returns-then-nowhere
-returns-then-nowhere c =
+pub returns-in-Ok : goal.returns-in-Ok
+returns-in-Ok c =
     let g = c.args in
     let o = moving_early g.file.now g.pad Size (Err Size) g.out.now (refused_by_pad g.file.now g.pad (rw (← c.pads_of-n.ensures.0) c.if-nowhere.true)
-    c.in_ok-test_file.ensures) refl in
+    c.in-Ok.ensures) refl in
     record { result_value = o.0; out_after = o.1; out_len = search rules }
 
 -- past the pad's test
@@ -38,26 +36,27 @@ filed c = (c.factor_file.ensures.result_value, (c.factor_file.ensures.swaps_afte
 pub move_pad-requires : goal.move_pad-requires
 move_pad-requires c =
     let at = (goal.at.move_pad-requires c).After-factor_file in
-    let w = filed_ready _ _ _ _ _ (filed at) _ c.in-Ok.is in
+    let w = filed_ready _ _ _ _ _ (filed at) _ c.in-Ok-factor_file.is in
     let p = pad_inside _ _ (there at) in
     (p.0, omega (arith, p.1, w.pads), w.most)
 
 pub refuse-requires : goal.refuse-requires
 refuse-requires c =
-    let e = filed_refused _ _ _ _ _ (filed (goal.at.refuse-requires c).After-factor_file) _ c.in-Err.is in
+    let e = filed_refused _ _ _ _ _ (filed (goal.at.refuse-requires c).After-factor_file) _ c.in-Err-factor_file.is in
     (λ seven. omega (arith, c.pads_of-n.ensures.0, factors_seven _ _ e seven))
 
-pub returns-in-Ok : goal.returns-in-Ok
-returns-in-Ok c =
-    let at = (goal.at.returns-in-Ok c).After-factor_file in
-    let w = filed_ready _ _ _ _ _ (filed at) _ c.in-Ok.is in
-    let o = moving_held _ _ (there at) _ _ _ _ w.factors w.pads _ (filed_tossed _ _ _ _ _ (filed at) _ c.in-Ok.is) _ _ c.move_pad.ensures.result_value
+pub returns-in-Ok-factor_file : goal.returns-in-Ok-factor_file
+returns-in-Ok-factor_file c =
+    let at = (goal.at.returns-in-Ok-factor_file c).After-factor_file in
+    let w = filed_ready _ _ _ _ _ (filed at) _ c.in-Ok-factor_file.is in
+    let o = moving_held _ _ (there at) _ _ _ _ w.factors w.pads _ (filed_tossed _ _ _ _ _ (filed at) _ c.in-Ok-factor_file.is) _ _
+    c.move_pad.ensures.result_value
     c.move_pad.ensures.out_after in
     record { result_value = o.0; out_after = o.1; out_len = search rules }
 
-pub returns-in-Err : goal.returns-in-Err
-returns-in-Err c =
-    let at = (goal.at.returns-in-Err c).After-factor_file in
-    let o = moving_refused _ _ (there at) _ _ _ _ _ (filed_refused _ _ _ _ _ (filed at) _ c.in-Err.is) c.pads_of-n.ensures.0 c.refuse.ensures.value
+pub returns-in-Err-factor_file : goal.returns-in-Err-factor_file
+returns-in-Err-factor_file c =
+    let at = (goal.at.returns-in-Err-factor_file c).After-factor_file in
+    let o = moving_refused _ _ (there at) _ _ _ _ _ (filed_refused _ _ _ _ _ (filed at) _ c.in-Err-factor_file.is) c.pads_of-n.ensures.0 c.refuse.ensures.value
     c.refuse.ensures.out_after in
     record { result_value = o.0; out_after = o.1; out_len = search rules }
